@@ -1,0 +1,4 @@
+pub mod DecimalLemmas
+pub mod KnownLemmas
+pub mod RepoLemmas
+pub mod StampLemmas

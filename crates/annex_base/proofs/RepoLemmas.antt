@@ -1,0 +1,63 @@
+-- The text of an identifier is 36 bytes of ASCII, and parses to the identifier alone.
+use Rattle.std.proofs.Common.{◌≡◌, ℕ, ◌+◌, ◌*◌, ◌<◌, Bool, true, false, ◌&&◌, ◌==◌, if◌then◌else◌, true≢false, List, length, slice_index, Some, None, Option, unwrap_or, [], inl, refl, sym, ap, subst, ◌∙◌, arith}
+use Rattle.std.specs.Str.{IsAscii}
+use Rattle.std.specs.List.{list_all}
+use Rattle.std.proofs.lemmas.Bool.Decides.{nat_tests, Decides-eqb}
+use Rattle.std.proofs.lemmas.List.Sums.{AllPass-from_list_all}
+use Rattle.uuid.specs.Text.{parsed, parsed_simple, parsed_hyphenated, digits_of, by_index, byte_of_digits, is_hex_digit, value_of, lower}
+use Rattle.uuid.proofs.RoundTrips.{parses_hyphenated}
+use Rattle.uuid.proofs.TextLemmas.{by_index_length, by_index_at, hyphenated_ascii}
+use Rattle.annex_base.specs.RepoText.{IsId, repo_text}
+
+pub length-repo_text : (id : List ℕ) → length (repo_text id) ≡ 36
+length-repo_text id = by_index_length 36 _
+
+pub parsed-repo_text : (id : List ℕ) → IsId id → Some id ≡ parsed (repo_text id)
+parsed-repo_text id is = parses_hyphenated lower id (inl refl) is.0 is.1
+
+pub repo_text-ascii : (id : List ℕ) → IsAscii (repo_text id)
+repo_text-ascii id = hyphenated_ascii lower id (inl refl)
+
+-- what parses from the text of an identifier is that identifier
+pub one_id : (text word id : List ℕ) → IsId id → text ≡ repo_text id → word ≡ text → {found : List ℕ} → Some found ≡ parsed word → found ≡ id
+one_id text word id is spelled whole {found} read =
+    ap (λ (o : Option (List ℕ)). unwrap_or o []) (read ∙ ap parsed (whole ∙ spelled) ∙ sym (parsed-repo_text id is))
+
+some_where : (b : Bool) (o : Option (List ℕ)) (found : List ℕ) → Some found ≡ (if b then o else None) → (b ≡ true) × (Some found ≡ o)
+some_where true o found e = (refl, e)
+some_where false o found e = absurd cc
+
+both_true : (a b : Bool) → (a && b) ≡ true → (a ≡ true) × (b ≡ true)
+both_true true true e = (refl, refl)
+both_true true false e = absurd (true≢false (sym e))
+both_true false b e = absurd (true≢false (sym e))
+
+value_small : (c : ℕ) → is_hex_digit c ≡ true → value_of c < 16
+value_small c hex = grind (arith, nat_tests)
+
+-- the bytes of thirty-two digits are sixteen, each below 256
+simple_id : (hex found : List ℕ) → Some found ≡ parsed_simple hex → IsId found
+simple_id hex found read =
+    let h = some_where _ (Some (by_index 16 (byte_of_digits hex))) found read in
+    let tests = both_true (length hex == 32) (list_all is_hex_digit hex) h.0 in
+    let long : length hex ≡ 32 = (Decides-eqb (length hex) 32).0 tests.0 in
+    let digits = AllPass-from_list_all is_hex_digit hex tests.1 in
+    let is : by_index 16 (byte_of_digits hex) ≡ found = cc h.1 in
+    let size = by_index_length 16 (byte_of_digits hex) in
+    subst IsId is (
+      size,
+      λ k d within.
+          let high = value_small (slice_index hex (2 * k)) (digits (2 * k) 0 (omega arith)) in
+          let last = value_small (slice_index hex (2 * k + 1)) (digits (2 * k + 1) 0 (omega arith)) in
+          rw (by_index_at 16 (byte_of_digits hex) k d (omega (arith, size, within))) (omega (arith, high, last)),
+    )
+
+parsed_at_36 : (text : List ℕ) → length text ≡ 36 → parsed text ≡ parsed_hyphenated text
+parsed_at_36 text long = rw long refl
+
+-- what parses from its own text is an identifier
+pub parsed_id : (text word bytes : List ℕ) → text ≡ repo_text bytes → word ≡ text → {found : List ℕ} → bytes ≡ found → Some found ≡ parsed word → IsId bytes
+parsed_id text word bytes spelled whole {found} is read =
+    let long : length word ≡ 36 = ap length (whole ∙ spelled) ∙ length-repo_text bytes in
+    let digits = some_where _ (parsed_simple (digits_of word)) found (read ∙ parsed_at_36 word long) in
+    subst IsId (sym is) (simple_id (digits_of word) found digits.1)
