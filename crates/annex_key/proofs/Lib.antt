@@ -1,0 +1,13 @@
+pub mod Steps
+pub mod Utf8Lemmas
+pub mod WordLemmas
+pub mod NameLemmas
+pub mod ReadingLemmas
+pub mod KeyLemmas
+pub mod FaultLemmas
+pub mod BreakLemmas
+pub mod AnswerLemmas
+pub mod FileLemmas
+pub mod ChunkLemmas
+pub mod TreeLemmas
+pub mod TreeLaws

@@ -1,0 +1,25 @@
+use Rattle.std.proofs.Common.{◌≡◌, ◌∙◌, sym, ap}
+use Rattle.annex_key.specs.KeyFile.{file_text}
+use Rattle.annex_key.proofs.FileLemmas as files
+use Rattle.annex_key.proofs.key.Key.from_file.Goals as goal
+
+pub returns-in_err-text-clause-only : goal.returns-in_err-text-clause-only
+returns-in_err-text-clause-only c = λ text key spelled. files.failed_only (λ k. k ≡ text) c.from_residual.result c.in_err-text.field-0.0 c.args.file.now text c.from_residual.ensures.1 c.in_err-text.ensures.err spelled
+
+pub returns-in_err-text-clause-first : goal.returns-in_err-text-clause-first
+returns-in_err-text-clause-first c = λ e b. files.failed_first c.from_residual.result c.in_err-text.field-0.0 e c.args.file.now c.from_residual.ensures.1 c.in_err-text.ensures.err b
+
+spelled : (c : goal.After-drop-text) → c.args.file.now ≡ file_text c.deref.result.now
+spelled c = c.in_ok-text.ensures.ok ∙ ap file_text (sym c.deref.ensures.value)
+
+pub returns-clause-found : goal.returns-clause-found
+returns-clause-found c = files.file_found c.args.file.now c.deref.result.now c.parse.result (spelled c) c.parse.ensures.found
+
+pub returns-clause-only : goal.returns-clause-only
+returns-clause-only c = files.file_only c.args.file.now c.deref.result.now c.parse.result (spelled c) c.parse.ensures.only
+
+pub returns-clause-faults : goal.returns-clause-faults
+returns-clause-faults c = files.file_faults c.args.file.now c.deref.result.now c.parse.result (spelled c) c.parse.ensures.faults
+
+pub returns-clause-first : goal.returns-clause-first
+returns-clause-first c = files.file_first c.args.file.now c.deref.result.now c.parse.result (spelled c) c.parse.ensures.faults

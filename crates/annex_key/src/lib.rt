@@ -1,0 +1,17 @@
+//! Keys: their texts, their file names, and the tree that says which path has which key.
+#![tactic(auto)]
+
+mod crossing;
+mod escape;
+mod fault;
+mod key;
+mod laws;
+mod reading;
+#[cfg(test)]
+mod tests;
+mod tree;
+
+pub use fault::KeyFault;
+pub use key::Key;
+pub use laws::names_are_unique;
+pub use tree::Tree;

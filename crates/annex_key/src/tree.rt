@@ -1,0 +1,134 @@
+ghost use Rattle.std.specs.Prelude.{◌≡◌, ◌≢◌, ◌↔◌, List, ℕ, [], ◌∷◌, ◌++◌, map, Contains, AllPairs, Some, IfOk, OnOk, OnErr};
+ghost use Rattle.std.specs.List.Sorted.{IsStrictlySortedBy};
+ghost use Rattle.std.specs.BTreeMap.{insert_entry};
+ghost use Rattle.std.specs.Map.{keys_of};
+ghost use Rattle.std.specs.Option.{option_copied};
+ghost use Rattle.annex_key.specs.Tree.{text_cmp, with_key, key_of, paths_of, distinct_keys};
+ghost use Rattle.annex_key.specs.TreeView.{seen, path_cmp};
+
+use crate::key::Key;
+use annex_base::{NoMemory, Text};
+use indexmap::IndexSet;
+use std::alloc::Global;
+use std::collections::BTreeMap;
+use std::marker::Model;
+
+/// The paths of a working tree and the key of each, which contracts see as the list of both in byte order of the
+/// paths (own). A path is a byte string.
+#[derive(Debug, Drop)]
+pub struct Tree {
+    keys: BTreeMap<Vec<u8>, Key>,
+}
+
+impl Model for Tree {
+    ghost use Rattle.std.specs.Prelude.{List, ℕ};
+    ghost use Rattle.annex_key.specs.TreeView.{seen};
+
+    ghost Value = { List (List ℕ × List ℕ) };
+
+    ghost view = { λ t. seen t.keys.entries };
+}
+
+impl Tree {
+    /// A tree without paths.
+    pub fn new(alloc: Global) -> Result<Tree, NoMemory>
+        ensures { IfOk result (λ t. t ≡ []) }
+    {
+        Ok(Tree {
+            keys: BTreeMap::new(alloc),
+        })
+    }
+
+    /// Gives the path this key, in place of an earlier one.
+    pub fn set(&mut self, alloc: Global, path: &[u8], key: &Key) -> Result<(), NoMemory>
+        ensures ok { OnOk result (self.new ≡ with_key self.old path.now key.now) }
+        ensures here { OnOk result (key_of self.new path.now ≡ Some key.now) }
+        ensures others { OnOk result ((other : List ℕ) → other ≢ path.now → key_of self.new other ≡ key_of self.old other) }
+        ensures err { OnErr result (self.new ≡ self.old) }
+    {
+        let path = Vec::from_slice(alloc, path)?;
+        let copy = key.copy()?;
+        put(&mut self.keys, path, copy)?;
+        Ok(())
+    }
+
+    /// The key of the path.
+    pub fn key(&self, path: &[u8]) -> Option<&Key>
+        ensures { option_copied result ≡ key_of self.now path.now }
+    {
+        self.keys.get(path)
+    }
+
+    /// The paths of the key, in byte order.
+    pub fn paths(&self, alloc: Global, key: &Key) -> Result<Vec<Text>, NoMemory>
+        ensures value { IfOk result (λ v. v.items ≡ paths_of self.now key.now) }
+        ensures order { IfOk result (λ v. IsStrictlySortedBy text_cmp v.items) }
+        ensures each { IfOk result (λ v. (path : List ℕ) → Contains v.items path ↔ (key_of self.now path ≡ Some key.now)) }
+    {
+        paths_in(alloc, &self.keys, key)
+    }
+
+    /// Each key once, in order of its first path in byte order.
+    pub fn keys(&self, alloc: Global) -> Result<Vec<Key>, NoMemory>
+        ensures value { IfOk result (λ v. v.items ≡ distinct_keys self.now) }
+        ensures once { IfOk result (λ v. AllPairs (λ x y. x ≢ y) v.items) }
+        ensures each { IfOk result (λ v. (key : List ℕ) → Contains v.items key ↔ ((path : List ℕ) × (key_of self.now path ≡ Some key))) }
+    {
+        distinct_in(alloc, &self.keys)
+    }
+}
+
+fn put(keys: &mut BTreeMap<Vec<u8>, Key>, path: Vec<u8>, key: Key) -> Result<(), NoMemory>
+    ensures ok { OnOk result (keys.new.entries ≡ insert_entry path_cmp keys.old.entries path key) }
+    ensures err { OnErr result (keys.new.entries ≡ keys.old.entries) }
+{
+    keys.insert(path, key)?;
+    Ok(())
+}
+
+fn add_path(
+    paths: &mut Vec<Text>,
+    alloc: Global,
+    path: &[u8],
+    other: &Key,
+    key: &Key,
+) -> Result<(), NoMemory>
+    ensures { OnOk result (paths.new.items ≡ paths.old.items ++ paths_of ((path.now, other.now) ∷ []) key.now) }
+{
+    if other == key {
+        paths.push(Text::new(alloc, path)?)?;
+    }
+    Ok(())
+}
+
+fn paths_in(alloc: Global, keys: &BTreeMap<Vec<u8>, Key>, key: &Key) -> Result<Vec<Text>, NoMemory>
+    ensures value { IfOk result (λ v. v.items ≡ paths_of (seen keys.now.entries) key.now) }
+    ensures ordered { OnOk result (IsStrictlySortedBy text_cmp (keys_of (seen keys.now.entries))) }
+{
+    let mut paths = Vec::new(alloc);
+    for (path, other) in keys.iter() {
+        add_path(&mut paths, alloc, path, other, key)?;
+    }
+    Ok(paths)
+}
+
+fn copies(alloc: Global, keys: &[&Key]) -> Result<Vec<Key>, NoMemory>
+    ensures { IfOk result (λ v. v.items ≡ map (λ k. k.now) keys.now) }
+{
+    let mut out = Vec::new(alloc);
+    for key in keys {
+        out.push(key.copy()?)?;
+    }
+    Ok(out)
+}
+
+fn distinct_in(alloc: Global, keys: &BTreeMap<Vec<u8>, Key>) -> Result<Vec<Key>, NoMemory>
+    ensures value { IfOk result (λ v. v.items ≡ distinct_keys (seen keys.now.entries)) }
+    ensures ordered { OnOk result (IsStrictlySortedBy text_cmp (keys_of (seen keys.now.entries))) }
+{
+    let mut found = IndexSet::new(alloc);
+    for key in keys.values() {
+        found.insert(key)?;
+    }
+    copies(alloc, found.as_slice())
+}
