@@ -1,0 +1,12 @@
+pub mod EqualLemmas
+pub mod BodyLemmas
+pub mod FormLemmas
+pub mod GroupLemmas
+pub mod NumberLemmas
+pub mod PlainLemmas
+pub mod ReadLemmas
+pub mod RepoLemmas
+pub mod StampLemmas
+pub mod Steps
+pub mod WordLemmas
+pub mod WriteLemmas

@@ -1,0 +1,5 @@
+use Rattle.log_lines.proofs.FormLemmas.{one_entry}
+use Rattle.log_lines.proofs.read.lines_are_exact.Goals as goal
+
+pub returns : goal.returns
+returns c = one_entry
