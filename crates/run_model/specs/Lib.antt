@@ -1,0 +1,8 @@
+pub mod Lists
+pub mod Past
+pub mod Frames
+pub mod Drops
+pub mod Safety
+pub mod Thin
+pub mod Contents
+pub mod Causes
