@@ -1,0 +1,11 @@
+pub use Rattle.run_model.specs.Lists
+pub use Rattle.run_model.specs.Past
+pub use Rattle.run_model.specs.Frames
+pub use Rattle.run_model.specs.Drops
+pub use Rattle.run_model.specs.Safety
+pub use Rattle.run_model.specs.Thin
+pub use Rattle.run_model.specs.Contents
+pub use Rattle.run_model.specs.Causes
+pub mod Lawful
+pub mod Places
+pub mod Checked

@@ -1,0 +1,76 @@
+//! The laws. Each is the contract of a function that does nothing.
+
+ghost use Rattle.std.specs.Prelude.{◌≡◌, ℕ, ◌+◌, ◌≤◌, true, List, Some, slice_get};
+ghost use Rattle.drop_proof.specs.Judging.{is_enough};
+ghost use Rattle.drop_proof.specs.declared.evidence.Evidence.{Evidence};
+ghost use Rattle.run_model.specs.declared.entry.By.{By};
+ghost use Rattle.run_model.specs.declared.entry.Entry.{Entry};
+ghost use Rattle.run_model.specs.declared.entry.EntryKind.TheVariants.{Gone};
+ghost use Rattle.run_model.specs.declared.run.Run.{Run};
+ghost use Rattle.run_model.specs.Causes.{HasCauses};
+ghost use Rattle.run_model.specs.Drops.{is_locked, is_trusted};
+ghost use Rattle.run_model.specs.Lists.{Member};
+ghost use Rattle.run_model.specs.Past.{present};
+ghost use Rattle.run_model.specs.Safety.{IsSafe, Removal, least_need, past_at, within};
+ghost use Rattle.run_model.specs.Thin.{IsThinRun};
+ghost use Rattle.race_core.specs.Lawful.{IsLawful};
+ghost use Rattle.race_core.specs.Places.{claim_at, count_at, removal_at, removals_at};
+
+/// In a run that is made without messages, each entry finds what the safety of drops rests on: a drop puts its bar
+/// on content that is there, free of bars and holds; it removes the content while its bar stands, when its evidence is
+/// enough and no lock of it is ten minutes old; a copy that is vouched for is there without a bar; and a hold is released
+/// only after each job that it was vouched to has ended (own).
+pub fn thin_runs_are_lawful()
+    ensures { (run : Run) → IsThinRun run → IsLawful run }
+{}
+
+/// Each lawful run is safe, whichever way its repositories talk (git-annex-mincopies).
+pub fn lawful_runs_are_safe()
+    ensures { (run : Run) → IsLawful run → IsSafe run }
+{}
+
+/// Each run that is made without messages is safe (git-annex-mincopies): once a key was dropped anywhere, its copies
+/// and claims are no fewer than the least mincopies that its drops read; each removal is a drop's, whose evidence was
+/// enough; and it leaves what its drop's locked and trusted evidence stands for.
+pub fn thin_runs_are_safe()
+    ensures { (run : Run) → IsThinRun run → IsSafe run }
+{}
+
+/// For each key and before each place, the repositories with a copy or a claim are no fewer than the least
+/// mincopies that the drops of the key read (git-annex-mincopies). Where no drop has removed the key, nothing is asked.
+pub fn never_fewer_than_mincopies()
+    ensures within { (run : Run) (key : List ℕ) (place : ℕ) → IsThinRun run
+        → within (least_need (removals_at run key place)) (count_at run key place) ≡ true }
+    ensures least { (run : Run) (key : List ℕ) (place least : ℕ) → IsThinRun run
+        → least_need (removals_at run key place) ≡ Some least → least ≤ count_at run key place }
+{}
+
+/// Right after a removal of the key, each repository that its drop had locked still has the content, and each whose
+/// claim its drop trusted is among the claims (git-annex-mincopies; counting claims is the project's own).
+pub fn drops_leave_their_evidence()
+    ensures locked { (run : Run) (key : List ℕ) (place : ℕ) (e : Entry) (x : Removal) (item : Evidence)
+        → IsThinRun run → slice_get run.entries place ≡ Some e → removal_at run key place e ≡ Some x
+        → Member item x.items → is_locked item.kind ≡ true
+        → present (past_at run (place + 1)) item.repo key ≡ true }
+    ensures trusted { (run : Run) (key : List ℕ) (place : ℕ) (e : Entry) (x : Removal) (item : Evidence)
+        → IsThinRun run → slice_get run.entries place ≡ Some e → removal_at run key place e ≡ Some x
+        → Member item x.items → is_trusted item.kind ≡ true
+        → claim_at run key (place + 1) item.repo ≡ true }
+{}
+
+/// Each entry that takes a key away is the removal of exactly one drop, and the evidence of this drop was enough for
+/// what it needed, by the rule of `judge` in the crate `drop_proof` (git-annex-numcopies, git-annex-mincopies).
+pub fn each_removal_is_one_drops()
+    ensures { (run : Run) (key : List ℕ) (place : ℕ) (e : Entry) (by : By)
+        → IsThinRun run → slice_get run.entries place ≡ Some e → e.kind ≡ Gone by key
+        → (x : Removal) × (removal_at run key place e ≡ Some x)
+        × (is_enough x.side x.need x.items ≡ true)
+        × ((y : Removal) → removal_at run key place e ≡ Some y → y ≡ x) }
+{}
+
+/// In a run that is made without messages, each drop that was refused has its cause in the run: for a drop that found
+/// nothing to remove, that its content is absent; for one whose evidence was not enough, that each candidate gave
+/// evidence or told its cause, and that its outcome states both (own).
+pub fn thin_refusals_have_causes()
+    ensures { (run : Run) → IsThinRun run → HasCauses run }
+{}
