@@ -1,0 +1,21 @@
+-- A list taken apart at an index, seen by a function.
+use Rattle.std.proofs.Common.{◌≡◌, ℕ, ◌+◌, ◌<◌, List, [], ◌∷◌, ◌++◌, length, map, take, drop, get_or, refl, ap, sym, ◌∙◌, arith}
+use Rattle.std.proofs.lemmas.List.{take-append-drop, drop_more, take_more, map-append, length-map, length-take-le}
+
+pub parted_at : {X Y : Type 0} (f : X → Y) (xs : List X) (i : ℕ) (d : X) → i < length xs → map f xs ≡ map f (take i xs) ++ f (get_or xs i d) ∷ map f (drop (i + 1) xs)
+parted_at f xs i d within =
+    ap (map f) (sym (take-append-drop i xs) ∙ ap (λ ys. take i xs ++ ys) (drop_more xs i d within)) ∙ map-append f (take i xs) (get_or xs i d ∷ drop (i + 1) xs)
+
+pub front_more : {X Y : Type 0} (f : X → Y) (xs : List X) (i : ℕ) (d : X) → i < length xs → map f (take (i + 1) xs) ≡ map f (take i xs) ++ f (get_or xs i d) ∷ []
+front_more f xs i d within = ap (map f) (take_more xs i d within) ∙ map-append f (take i xs) (get_or xs i d ∷ [])
+
+pub front_length : {X Y : Type 0} (f : X → Y) (xs : List X) (i : ℕ) → i < length xs → length (map f (take i xs)) ≡ i
+front_length f xs i within = length-map (take i xs) f ∙ length-take-le i xs (omega arith)
+
+pub four_are : {X Y : Type 0} (f : X → Y) (xs : List X) (d : X) → length xs ≡ 4 → f (get_or xs 0 d) ∷ f (get_or xs 1 d) ∷ f (get_or xs 2 d) ∷ f (get_or xs 3 d) ∷ [] ≡ map f xs
+four_are f [] d e = absurd (omega arith)
+four_are f (a ∷ []) d e = absurd (omega arith)
+four_are f (a ∷ b ∷ []) d e = absurd (omega arith)
+four_are f (a ∷ b ∷ c ∷ []) d e = absurd (omega arith)
+four_are f (a ∷ b ∷ c ∷ g ∷ []) d e = refl
+four_are f (a ∷ b ∷ c ∷ g ∷ h ∷ rest) d e = absurd (omega arith)

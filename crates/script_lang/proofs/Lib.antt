@@ -1,0 +1,9 @@
+pub mod WordLemmas
+pub mod CutLemmas
+pub mod FieldLemmas
+pub mod LineLemmas
+pub mod ReadLemmas
+pub mod IndexLemmas
+pub mod OneLemmas
+pub mod StopLemmas
+pub mod ParseLemmas

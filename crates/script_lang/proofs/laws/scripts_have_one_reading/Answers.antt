@@ -1,0 +1,11 @@
+use Rattle.script_lang.proofs.StopLemmas.{one_script, one_bad, script_or_bad, script_or_crowded, bad_or_crowded}
+use Rattle.script_lang.proofs.laws.scripts_have_one_reading.Goals as goal
+
+pub returns : goal.returns
+returns c = record {
+  script = one_script;
+  bad_line = one_bad;
+  script_or_bad = script_or_bad;
+  script_or_crowded = script_or_crowded;
+  bad_or_crowded = bad_or_crowded;
+}

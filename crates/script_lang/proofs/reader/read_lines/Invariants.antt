@@ -1,0 +1,10 @@
+use Rattle.std.proofs.Common.{[], map, take}
+use Rattle.script_lang.specs.Script.{Reads}
+use Rattle.script_lang.specs.Steps.{Keeps}
+use Rattle.script_lang.proofs.reader.read_lines.Given as goal
+
+abbrev pub invariant-loop-i : goal.invariant-loop-i
+invariant-loop-i l = record {
+  keeps : Keeps l.reader.commands.items l.reader.repos.items l.reader.closed;
+  reads : Reads [] (map (λ w. w.now) (take l.i l.lines)) l.reader.commands.items;
+}

@@ -1,0 +1,68 @@
+ghost use Rattle.std.specs.Prelude.{◌≡◌, codes};
+ghost use Rattle.script_lang.specs.Script.{most_repositories};
+
+use annex_base::NoMemory;
+use std::alloc::AllocError;
+use thiserror::Error;
+
+/// Why a text is no script.
+#[derive(Clone, Copy, Debug, PartialEq, Eq, Error)]
+pub enum ScriptFault {
+    /// A line, numbered from 1, isn't one of a script; `byte` is a place in it, and so far 0, since no fault names its own.
+    #[error("bad line {line}, byte {byte}")]
+    BadLine { line: u64, byte: u64 },
+    /// A counted quantity passes its limit.
+    #[error("too much")]
+    TooMuch { quantity: Quantity },
+    #[error("out of memory")]
+    NoMemory,
+}
+
+/// What is counted, and limited (own).
+#[derive(Clone, Copy, Debug, PartialEq, Eq)]
+pub enum Quantity {
+    /// `repo` lines, at most 8
+    Repositories,
+}
+
+impl Quantity {
+    /// Its name, as a report says it.
+    pub fn name(self) -> &'static str
+        ensures { result.now ≡ codes "repositories" }
+    {
+        match self {
+            Quantity::Repositories => "repositories",
+        }
+    }
+
+    /// The most that there may be.
+    pub fn limit(self) -> u64
+        ensures { result ≡ most_repositories }
+    {
+        match self {
+            Quantity::Repositories => 8,
+        }
+    }
+}
+
+impl From<NoMemory> for ScriptFault {
+    ghost use Rattle.std.specs.Prelude.{◌≡◌};
+    ghost use Rattle.script_lang.specs.declared.fault.ScriptFault.TheVariants as faults;
+
+    ghost from_gives = { λ _ e. e ≡ faults.NoMemory };
+
+    fn from(_e: NoMemory) -> ScriptFault {
+        ScriptFault::NoMemory
+    }
+}
+
+impl From<AllocError> for ScriptFault {
+    ghost use Rattle.std.specs.Prelude.{◌≡◌};
+    ghost use Rattle.script_lang.specs.declared.fault.ScriptFault.TheVariants as faults;
+
+    ghost from_gives = { λ _ e. e ≡ faults.NoMemory };
+
+    fn from(_e: AllocError) -> ScriptFault {
+        ScriptFault::NoMemory
+    }
+}

@@ -1,0 +1,35 @@
+//! The language of scripts: what each line says.
+#![tactic(auto)]
+
+mod command;
+mod fault;
+mod fields;
+mod laws;
+mod lines;
+mod reader;
+mod repository;
+mod script;
+mod verb;
+mod words;
+
+pub use command::Command;
+pub use fault::{Quantity, ScriptFault};
+pub use laws::scripts_have_one_reading;
+pub use script::Script;
+
+fn is_send<T: Send>() {}
+
+fn is_sync<T: Sync>() {}
+
+/// These types go from thread to thread.
+fn cross_threads() {
+    is_send::<Command>();
+    is_sync::<Command>();
+    is_send::<Script>();
+    is_sync::<Script>();
+    is_send::<ScriptFault>();
+    is_sync::<ScriptFault>();
+}
+
+#[cfg(test)]
+mod tests;

@@ -1,0 +1,136 @@
+ghost use Rattle.std.specs.Prelude.{◌≡◌, ◌≤◌, ◌+◌, ◌<◌, ◌^◌, ◌∷◌, ◌++◌, [], ◌&&◌, ◌||◌, not, nat_le, length, map, OnOk, MatchResult, IsTrue, ◌↔◌};
+ghost use Rattle.std.specs.Str.{IsUtf8};
+ghost use Rattle.script_lang.specs.Lines.{declared, declared_by};
+ghost use Rattle.script_lang.specs.Script.{IsSkipped, is_repo, Reads};
+ghost use Rattle.script_lang.specs.Steps.{Keeps, Steps, LineFault, Faults};
+
+use crate::command::Command;
+use crate::fault::{Quantity, ScriptFault};
+use crate::lines::read_line;
+use crate::repository::Repository;
+use annex_base::NoMemory;
+use std::alloc::Global;
+
+/// The commands of the lines so far, with the repositories that they declare.
+#[derive(Drop)]
+struct Reader {
+    commands: Vec<Command>,
+    repos: Vec<Repository>,
+    /// Whether a line other than a declaration came.
+    closed: bool,
+}
+
+fn is_text(line: &[u8]) -> bool
+    ensures { IsTrue result ↔ IsUtf8 line.now }
+{
+    str::from_utf8(line).is_ok()
+}
+
+fn is_skipped(line: &[u8]) -> bool
+    ensures { IsTrue result ↔ IsSkipped line.now }
+{
+    match line.first() {
+        None => true,
+        Some(b) => *b == b'#',
+    }
+}
+
+/// Whether no repository may be declared after the command, if it is `closed` before it.
+fn closes(closed: bool, command: &Command) -> bool
+    ensures { result ≡ (closed || not (is_repo command.now)) }
+{
+    match command {
+        Command::Repo { .. } => closed,
+        _ => true,
+    }
+}
+
+/// Whether the command declares a repository too many.
+fn crowds(repos: &[Repository], command: &Command) -> bool
+    ensures { result ≡ (is_repo command.now && nat_le 8 (length repos.now)) }
+{
+    match command {
+        Command::Repo { .. } => repos.len() as u64 >= Quantity::Repositories.limit(),
+        _ => false,
+    }
+}
+
+/// Adds the repository that the command declares, if it does.
+fn declare(repos: &mut Vec<Repository>, command: &Command) -> Result<(), NoMemory>
+    ensures { OnOk result (repos.new.items ≡ repos.old.items ++ declared_by command.now) }
+{
+    match command {
+        Command::Repo { name, id } => {
+            repos.push(Repository::new(name.clone()?, *id))?;
+            Ok(())
+        }
+        _ => Ok(()),
+    }
+}
+
+impl Reader {
+    fn new(alloc: Global) -> Reader
+        ensures none { result.commands.items ≡ [] }
+        ensures keeps { Keeps result.commands.items result.repos.items result.closed }
+    {
+        Reader {
+            commands: Vec::new(alloc),
+            repos: Vec::new(alloc),
+            closed: false,
+        }
+    }
+
+    fn add(&mut self, command: Command) -> Result<(), NoMemory>
+        requires keeps { Keeps self.old.commands.items self.old.repos.items self.old.closed }
+        requires room { length (declared_by command) + length self.old.repos.items ≤ 8 }
+        ensures commands { OnOk result (self.new.commands.items ≡ self.old.commands.items ++ command ∷ []) }
+        ensures keeps { OnOk result (Keeps self.new.commands.items self.new.repos.items self.new.closed) }
+    {
+        declare(&mut self.repos, &command)?;
+        self.closed = closes(self.closed, &command);
+        self.commands.push(command)?;
+        Ok(())
+    }
+
+    /// Takes the line of this number.
+    fn take_line(&mut self, alloc: Global, line: &[u8], number: u64) -> Result<(), ScriptFault>
+        requires { Keeps self.old.commands.items self.old.repos.items self.old.closed }
+        ensures step { MatchResult result (λ _. Steps self.old.commands.items line.now self.new.commands.items) (λ e. LineFault self.old.commands.items line.now number e) }
+        ensures keeps { OnOk result (Keeps self.new.commands.items self.new.repos.items self.new.closed) }
+    {
+        if !is_text(line) {
+            return Err(ScriptFault::BadLine {
+                line: number,
+                byte: 0,
+            });
+        }
+        if is_skipped(line) {
+            return Ok(());
+        }
+        let Some(command) = read_line(alloc, &self.repos, self.closed, line)? else {
+            return Err(ScriptFault::BadLine {
+                line: number,
+                byte: 0,
+            });
+        };
+        if crowds(&self.repos, &command) {
+            return Err(ScriptFault::TooMuch {
+                quantity: Quantity::Repositories,
+            });
+        }
+        self.add(command)?;
+        Ok(())
+    }
+}
+
+/// The commands that the lines say, or the first fault.
+pub fn read_lines(alloc: Global, lines: &[&[u8]]) -> Result<Vec<Command>, ScriptFault>
+    requires { length lines.now < 2 ^ 63 }
+    ensures { MatchResult result (λ v. Reads [] (map (λ w. w.now) lines.now) v.items × (length (declared v.items) ≤ 8)) (λ e. Faults (map (λ w. w.now) lines.now) e) }
+{
+    let mut reader = Reader::new(alloc);
+    for (i, line) in lines.iter().enumerate() {
+        reader.take_line(alloc, line, i as u64 + 1)?;
+    }
+    Ok(reader.commands)
+}
