@@ -1,0 +1,5 @@
+use Rattle.thin_driver.proofs.AskLoop.{AskLoop}
+use Rattle.thin_driver.proofs.driver.Driver.ask_others.Given as goal
+
+abbrev pub invariant-loop-candidate : goal.invariant-loop-candidate
+invariant-loop-candidate l = AskLoop l.fn.self l.self l.need l.repo l.key l.candidate-items l.candidate-index l.asked.items.items l.asked.causes

@@ -1,0 +1,5 @@
+use Rattle.thin_driver.proofs.Deciding.{ReleaseLoop}
+use Rattle.thin_driver.proofs.driver.Driver.release.Given as goal
+
+abbrev pub invariant-loop-repo : goal.invariant-loop-repo
+invariant-loop-repo l = ReleaseLoop l.fn.self l.self l.key l.repo

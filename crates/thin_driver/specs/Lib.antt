@@ -1,0 +1,4 @@
+pub mod Driver
+pub mod State
+pub mod Asking
+pub mod Standing

@@ -1,0 +1,17 @@
+//! Laws of the runs that scripts make.
+
+ghost use Rattle.std.specs.Prelude.{◌<◌, ◌^◌, List, length};
+ghost use Rattle.run_model.specs.Thin.{IsThinRun};
+ghost use Rattle.script_lang.specs.declared.command.Command.{Command};
+ghost use Rattle.script_lang.specs.Script.{IsProgram};
+ghost use Rattle.thin_driver.specs.Driver.{run_of, AreShort};
+
+/// The run of a script is made step by step as the model of runs without messages allows: each drop begins, puts its
+/// bar, asks the other repositories in order of number until its evidence is enough, removes the content only then,
+/// ends with its evidence or with the reason of each refusal, and at last its holds are released (own).
+///
+/// The contents of the script's `have` lines are shorter than 2^62 bytes, and the run has fewer than 2^62 entries.
+pub fn script_runs_are_thin()
+    ensures { (script : List Command) → IsProgram script → AreShort script → length (run_of script).entries < 2 ^ 62
+        → IsThinRun (run_of script) }
+{}
