@@ -1,0 +1,4 @@
+mod Ended
+mod Pasts
+mod Places
+mod Reported

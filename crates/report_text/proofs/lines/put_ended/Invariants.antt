@@ -1,0 +1,6 @@
+use Rattle.std.proofs.Common.{◌≡◌, ◌≤◌, ◌⊎◌, ◌++◌, min, length}
+use Rattle.report_text.specs.Report.{ended}
+use Rattle.report_text.proofs.lines.put_ended.Given as goal
+
+abbrev pub invariant-loop-place : goal.invariant-loop-place
+invariant-loop-place l = (l.out.items ≡ l.fn.out.items ++ ended l.run l.fn.from l.place) × ((l.place ≡ l.fn.from) ⊎ (l.place ≤ min l.fn.upto (length l.entries)))

@@ -1,0 +1,29 @@
+ghost use Rattle.std.specs.Prelude.{◌≡◌, IfOk};
+ghost use Rattle.report_text.specs.Report.{report};
+
+use crate::lines::put_ended;
+use crate::shown::put_shown;
+use crate::walk::Walk;
+use annex_base::NoMemory;
+use run_model::Run;
+use script_lang::Command;
+use std::alloc::Global;
+
+/// The report of a run of this script (own): for each line of the script the lines of the jobs that ended while it
+/// was done, and what it shows; then the lines of the jobs that ended after the last. To show where a key is present
+/// among 2^32 repositories or more is answered as want of memory.
+pub fn report(alloc: Global, script: &[Command], run: &Run) -> Result<Vec<u8>, NoMemory>
+    ensures { IfOk result (λ text. text.items ≡ report script.now run.now) }
+{
+    let mut out = Vec::new(alloc);
+    let mut walk = Walk::new(alloc, run)?;
+    let mut from = 0;
+    for (command, mark) in script.iter().zip(run.marks.as_slice()) {
+        let place = *mark as usize;
+        put_ended(&mut out, run, from, place)?;
+        put_shown(&mut out, &mut walk, run, place, command)?;
+        from = place;
+    }
+    put_ended(&mut out, run, from, run.entries.as_slice().len())?;
+    Ok(out)
+}
