@@ -1,0 +1,4 @@
+pub mod KnownLemmas
+pub mod WordLemmas
+pub mod DueLemmas
+pub mod ShortLemmas

@@ -1,0 +1,62 @@
+-- What the lines of a text say is no longer than the text.
+use Rattle.std.proofs.Common.{◌≡◌, ℕ, suc, ◌+◌, ◌<◌, ◌≤◌, ◌^◌, Bool, true, false, cond, List, [], ◌∷◌, ◌++◌, length, refl, sym, ap, subst, ◌∙◌, arith, length-append}
+use Rattle.std.specs.Prelude.{codes, ◌==◌}
+use Rattle.std.specs.List.{slice_split, onto_first}
+use Rattle.run_model.specs.Lists.{Each}
+use Rattle.script_lang.specs.declared.command.Command.{Command}
+use Rattle.script_lang.specs.declared.command.Command.TheVariants.{Repo, Have, Numcopies, Mincopies, Run, ShowPresence}
+use Rattle.script_lang.specs.Words.{Spells, Nothing, Space, Plain, Quoted, space, quote}
+use Rattle.script_lang.specs.Lines.{words_of, declared}
+use Rattle.script_lang.specs.Script.{IsScript, Reads, End, Skip, Line, lines_of, Says}
+use Rattle.thin_driver.specs.Driver.{IsShort, AreShort}
+
+abbrev IsWithin : ℕ → List ℕ → Type 0
+IsWithin n word = length word ≤ n
+
+each_within : (m n : ℕ) → m ≤ n → (words : List (List ℕ)) → Each (IsWithin m) words → Each (IsWithin n) words
+each_within m n le [] h = tt
+each_within m n le (w ∷ ws) h = (omega (arith, h.0), each_within m n le ws h.1)
+
+words_within : (line : List ℕ) (words : List (List ℕ)) → Spells line words → Each (IsWithin (length line)) words
+words_within line words Nothing = tt
+words_within line words (Space rest words' s) = each_within (length rest) (length (space ∷ rest)) (omega arith) words' (words_within rest words' s)
+words_within line words (Plain word rest words' p b s) =
+    let all = length-append word rest in
+    (omega (arith, all), each_within (length rest) (length (word ++ rest)) (omega (arith, all)) words' (words_within rest words' s))
+words_within line words (Quoted word rest words' p b s) =
+    let all = length-append word (quote ∷ rest) in
+    (omega (arith, all), each_within (length rest) (length (quote ∷ word ++ quote ∷ rest)) (omega (arith, all)) words' (words_within rest words' s))
+
+put_within : (x n : ℕ) (lines : List (List ℕ)) → Each (IsWithin n) lines → Each (IsWithin (suc n)) (onto_first x lines)
+put_within x n [] h = (omega arith, tt)
+put_within x n (l ∷ ls) h = (omega (arith, h.0), each_within n (suc n) (omega arith) ls h.1)
+
+cut_within : (b : Bool) (x n : ℕ) (lines : List (List ℕ)) → Each (IsWithin n) lines → Each (IsWithin (suc n)) (cond b ([] ∷ lines) (onto_first x lines))
+cut_within true x n lines h = (omega arith, each_within n (suc n) (omega arith) lines h)
+cut_within false x n lines h = put_within x n lines h
+
+lines_within : (p : ℕ → Bool) (text : List ℕ) → Each (IsWithin (length text)) (slice_split p text)
+lines_within p [] = (omega arith, tt)
+lines_within p (x ∷ xs) = cut_within (p x) x (length xs) (slice_split p xs) (lines_within p xs)
+
+-- a content is no longer than its line
+command_within : (n : ℕ) (before : List Command) (line : List ℕ) (command : Command) → n < 2 ^ 62 → length line ≤ n → Says before line command → IsShort command
+command_within n before line (Have r key content) small le says =
+    let words = words_within line (words_of (declared before) (Have r key content)) says.words in
+    let content_le : length (codes "text:" ++ content) ≤ length line = words.1.1.1.0 in
+    omega (arith, content_le, length-append (codes "text:") content)
+command_within n before line (Repo name id) small le says = tt
+command_within n before line (Numcopies r m) small le says = tt
+command_within n before line (Mincopies r m) small le says = tt
+command_within n before line (Run r job) small le says = tt
+command_within n before line (ShowPresence key) small le says = tt
+
+commands_within : (n : ℕ) (before : List Command) (lines : List (List ℕ)) (commands : List Command) → n < 2 ^ 62 → Each (IsWithin n) lines → Reads before lines commands → AreShort commands
+commands_within n before lines commands small h (End before') = tt
+commands_within n before lines commands small h (Skip before' line lines' commands' u s r) = commands_within n before' lines' commands' small h.1 r
+commands_within n before lines commands small h (Line before' line command lines' commands' says r) =
+    (command_within n before' line command small h.0 says, commands_within n (before' ++ command ∷ []) lines' commands' small h.1 r)
+
+-- the contents of a script are shorter than any machine's memory
+pub script_is_short : (text : List ℕ) (commands : List Command) → length text ≤ 1048576 → IsScript text commands → AreShort commands
+script_is_short text commands le is = commands_within (length text) [] (lines_of text) commands (omega arith) (lines_within (λ b. b == 10) text) is.reads

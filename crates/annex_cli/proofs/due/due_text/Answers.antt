@@ -1,0 +1,21 @@
+use Rattle.std.proofs.Common.{◌≡◌, ℕ, ◌≤◌, length, ap, sym, subst, ◌∙◌, arith, List, ◌++◌, codes, IfOk, Result, Ok, Err}
+use Rattle.std.specs.Fmt.{decimal}
+use Rattle.annex_cli.specs.declared.status.Status.TheVariants.{Script}
+use Rattle.annex_cli.specs.Top.{IsDue}
+use Rattle.annex_cli.proofs.due.due_text.Goals as goal
+
+ok_then : {A E : Type 0} (r : Result A E) (P Q : A → Type 0) → ((a : A) → P a → Q a) → IfOk r P → IfOk r Q
+ok_then (Ok a) P Q f h = f a h
+ok_then (Err e) P Q f h = tt
+
+pub returns-in-Err-BadLine : goal.returns-in-Err-BadLine
+returns-in-Err-BadLine c =
+    let bad = c.in-Err-BadLine.ensures.bad c.in-Err-BadLine.line c.in-Err-BadLine.byte (ap Err c.in-Err-BadLine.field-0-is) in
+    ok_then c.complaint_due.result _ (λ d. IsDue c.args.bytes.now d.status d.text.items)
+    (λ d is. subst (λ s. IsDue c.args.bytes.now s d.text.items) (sym is.0) (record {
+      short = omega arith;
+      line = c.in-Err-BadLine.line;
+      bad = bad.1;
+      text_is = is.1 ∙ ap (λ byte. codes "script line " ++ decimal c.in-Err-BadLine.line ++ codes " byte " ++ decimal byte ++ codes "\n") bad.0;
+    }))
+    c.complaint_due.ensures

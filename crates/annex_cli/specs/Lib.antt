@@ -1,0 +1,3 @@
+pub mod Exit
+pub mod Whole
+pub mod Top

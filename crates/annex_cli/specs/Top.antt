@@ -1,0 +1,103 @@
+-- What the program answers: its status, and the text that it writes (own).
+use Rattle.std.specs.Prelude.{◌≡◌, ◌⊎◌, ℕ, ◌<◌, ◌≤◌, List, [], ◌∷◌, ◌++◌, length, take, Some, None, codes}
+use Rattle.std.specs.declared.option.Option.{Option}
+use Rattle.std.specs.Io.KnownBytes.{append_known}
+use Rattle.std.specs.Fmt.{decimal}
+use Rattle.run_model.specs.declared.run.Run.{Run}
+use Rattle.run_model.specs.Safety.{IsSafe}
+use Rattle.run_model.specs.Thin.{IsThinRun}
+use Rattle.run_model.specs.Causes.{HasCauses}
+use Rattle.script_lang.specs.declared.command.Command.{Command}
+use Rattle.script_lang.specs.Script.{IsScript, IsBadLine, IsCrowded, most_repositories}
+use Rattle.thin_driver.specs.Driver.{run_of}
+use Rattle.report_text.specs.Report.{report}
+use Rattle.annex_cli.specs.declared.status.Status.{Status}
+use Rattle.annex_cli.specs.declared.status.Status.TheVariants.{Done, Usage, Script, ReadFault, WriteFault, NoMemory, Limit}
+use Rattle.annex_cli.specs.Whole.{IsRead, TakesFront, script_limit}
+
+-- the words are `run` alone
+abbrev pub IsRun : List (List ℕ) → Type 0
+IsRun words = words ≡ codes "run" ∷ []
+
+abbrev pub usage_text : List ℕ
+usage_text = codes "usage: annex run | threads | storm NUMBER JOBS\n"
+
+-- what is promised of a run: it is one that repositories may make without messages, the last copies are safe in it,
+-- and each refused job has its cause
+pub record IsGood (run : Run) : Type 0 where
+  pub thin : IsThinRun run
+  pub safe : IsSafe run
+  pub causes : HasCauses run
+
+-- the bytes are a script, whose run is good, and the text is its report
+pub record IsReport (bytes text : List ℕ) : Type 0 where
+  pub short : length bytes ≤ script_limit
+  pub script : List Command
+  pub is_script : IsScript bytes script
+  pub good : IsGood (run_of script)
+  pub text_is : text ≡ report script (run_of script)
+
+-- the text names the first line that isn't one of a script
+pub record IsComplaint (bytes text : List ℕ) : Type 0 where
+  pub short : length bytes ≤ script_limit
+  pub line : ℕ
+  pub bad : IsBadLine bytes line
+  pub text_is : text ≡ codes "script line " ++ decimal line ++ codes " byte " ++ decimal 0 ++ codes "\n"
+
+-- there are more bytes than a script may have
+pub record IsLong (bytes text : List ℕ) : Type 0 where
+  pub long : script_limit < length bytes
+  pub text_is : text ≡ codes "limit " ++ codes "script" ++ codes " " ++ decimal script_limit ++ codes "\n"
+
+-- a script declares more repositories than it may
+pub record IsFull (bytes text : List ℕ) : Type 0 where
+  pub short : length bytes ≤ script_limit
+  pub crowded : IsCrowded bytes
+  pub text_is : text ≡ codes "limit " ++ codes "repositories" ++ codes " " ++ decimal most_repositories ++ codes "\n"
+
+-- what is due for a source of these bytes
+abbrev pub IsDue : List ℕ → Status → List ℕ → Type 0
+IsDue bytes Done text = IsReport bytes text
+IsDue bytes Script text = IsComplaint bytes text
+IsDue bytes Limit text = IsLong bytes text ⊎ IsFull bytes text
+IsDue bytes _ text = ⊥
+
+-- the text that is due for what was read
+pub record IsDueRead (old new : Option (List ℕ)) (status : Status) (text : List ℕ) : Type 0 where
+  pub bytes : List ℕ
+  pub read : IsRead old new bytes
+  pub due : IsDue bytes status text
+
+-- the sink has taken the whole text that is due
+pub record Writes (left left' taken taken' : Option (List ℕ)) (status : Status) : Type 0 where
+  pub text : List ℕ
+  pub due : IsDueRead left left' status text
+  pub whole : taken' ≡ append_known taken text
+
+-- the sink has taken a front of the text that is due
+pub record WritesFront (left left' taken taken' : Option (List ℕ)) : Type 0 where
+  pub status : Status
+  pub text : List ℕ
+  pub due : IsDueRead left left' status text
+  pub front : TakesFront taken taken' text
+
+-- what the sink has taken when a script was to be run
+abbrev pub AnswersRun : Option (List ℕ) → Option (List ℕ) → Option (List ℕ) → Option (List ℕ) → Status → Type 0
+AnswersRun left left' taken taken' Done = Writes left left' taken taken' Done
+AnswersRun left left' taken taken' Script = Writes left left' taken taken' Script
+AnswersRun left left' taken taken' Limit = Writes left left' taken taken' Limit
+AnswersRun left left' taken taken' WriteFault = WritesFront left left' taken taken'
+AnswersRun left left' taken taken' ReadFault = taken' ≡ taken
+AnswersRun left left' taken taken' NoMemory = taken' ≡ taken
+AnswersRun left left' taken taken' Usage = ⊥
+
+-- what the sink has taken of the usage line
+abbrev pub AnswersOther : Option (List ℕ) → Option (List ℕ) → Status → Type 0
+AnswersOther taken taken' Usage = taken' ≡ append_known taken usage_text
+AnswersOther taken taken' WriteFault = TakesFront taken taken' usage_text
+AnswersOther taken taken' _ = ⊥
+
+-- what the sink has taken with each status
+pub record Answers (words : List (List ℕ)) (left left' taken taken' : Option (List ℕ)) (status : Status) : Type 0 where
+  pub run : IsRun words → AnswersRun left left' taken taken' status
+  pub other : (IsRun words → ⊥) → AnswersOther taken taken' status

@@ -1,0 +1,78 @@
+//! The program's top call: what the words ask for, and what is written.
+#![tactic(auto)]
+
+ghost use Rattle.std.specs.Prelude.{◌≡◌, ◌⊎◌, ℕ, List, map, Some};
+ghost use Rattle.std.specs.String.{string_bytes};
+ghost use Rattle.annex_base.specs.Causes.{Rose};
+ghost use Rattle.annex_cli.specs.declared.status.Status.{Status};
+ghost use Rattle.annex_cli.specs.Top.{IsRun, IsDue, Answers, AnswersRun};
+
+mod due;
+mod status;
+mod whole;
+mod words;
+
+use annex_base::{Failed, Gate, Sink, Source};
+use due::due_text;
+pub use status::Status;
+use std::alloc::Global;
+use std::sync::Wait;
+use std::thread::Threads;
+use whole::{ReadStop, read_whole, write_whole};
+use words::is_run;
+
+const USAGE: &[u8] = b"usage: annex run | threads | storm NUMBER JOBS\n";
+
+/// Does what the words ask for. With the word `run` it reads a script from the source, runs it, and writes the
+/// report to the sink; any other words are answered by the usage line (own).
+pub fn annex<R: Threads + Wait + Sync, S: Source, K: Sink, G: Gate>(
+    _rt: &R,
+    alloc: Global,
+    words: &[String],
+    source: &mut S,
+    sink: &mut K,
+    _gate: &G,
+) -> Status
+    ensures answers { Answers (map string_bytes words.now) (S.left source.old) (S.left source.new) (K.taken sink.old) (K.taken sink.new) result }
+
+    // a fault is answered only where the count rose
+    ensures read { result ≡ Status.ReadFault → Rose (S.faults source.old) (S.faults source.new) }
+    ensures write { result ≡ Status.WriteFault → Rose (K.faults sink.old) (K.faults sink.new) }
+
+    // without a fault and with enough memory, what is due is answered
+    ensures usage { (IsRun (map string_bytes words.now) → ⊥) → (Rose (K.faults sink.old) (K.faults sink.new) → ⊥) → result ≡ Status.Usage }
+    ensures due { (bytes text : List ℕ) (status : Status) → IsRun (map string_bytes words.now) → S.left source.old ≡ Some bytes → IsDue bytes status text
+        → (Rose (S.faults source.old) (S.faults source.new) → ⊥) → (Rose (K.faults sink.old) (K.faults sink.new) → ⊥)
+        → (result ≡ status) ⊎ (result ≡ Status.NoMemory) }
+{
+    if !is_run(words) {
+        return match write_whole(sink, USAGE) {
+            Ok(()) => Status::Usage,
+            Err(Failed) => Status::WriteFault,
+        };
+    }
+    run(alloc, source, sink)
+}
+
+/// Reads a script, runs it and writes the report.
+fn run<S: Source, K: Sink>(alloc: Global, source: &mut S, sink: &mut K) -> Status
+    ensures answers { AnswersRun (S.left source.old) (S.left source.new) (K.taken sink.old) (K.taken sink.new) result }
+    ensures read { result ≡ Status.ReadFault → Rose (S.faults source.old) (S.faults source.new) }
+    ensures write { result ≡ Status.WriteFault → Rose (K.faults sink.old) (K.faults sink.new) }
+{
+    let bytes = match read_whole(alloc, source) {
+        Ok(bytes) => bytes,
+        Err(ReadStop::Failed) => return Status::ReadFault,
+        Err(ReadStop::NoMemory) => return Status::NoMemory,
+    };
+    let Ok(due) = due_text(alloc, &bytes) else {
+        return Status::NoMemory;
+    };
+    match write_whole(sink, &due.text) {
+        Ok(()) => due.status,
+        Err(Failed) => Status::WriteFault,
+    }
+}
+
+#[cfg(test)]
+mod tests;
