@@ -1,0 +1,89 @@
+#!/usr/bin/env python3
+"""Measures how the time of the built program grows with the work, in one run.
+
+Each line gives a size, the median time of the program on a script of that size, and two ratios to the line before:
+how much more work the script has, and how much longer it took. Nothing here is a limit, and no figure is a promise.
+"""
+
+import pathlib
+import statistics
+import subprocess
+import time
+
+TOP = pathlib.Path(__file__).resolve().parent.parent
+PROGRAM = TOP / "crates" / "annex" / "out" / "annex"
+RUNS = 5
+
+
+def name(repo):
+    return "r%d" % repo
+
+
+def declare(repos):
+    return ["repo %s 00000000-0000-4000-8000-%012d" % (name(r), r) for r in range(repos)]
+
+
+def key(number):
+    return "WORM-s3--key%d" % number
+
+
+def with_keys(repos, keys):
+    """Every repository has every key, and the first shows one of them."""
+    lines = declare(repos)
+    for k in range(keys):
+        lines += ["have %s %s text:abc" % (name(r), key(k)) for r in range(repos)]
+    return lines
+
+
+def drops(repos, keys, count):
+    """The keys, and so many drops: each key goes from one repository after another until a copy is the last."""
+    lines = with_keys(repos, keys)
+    for d in range(count):
+        lines.append("drop %s %s" % (name((d // keys) % repos), key(d % keys)))
+    return lines
+
+
+def shows(keys, count):
+    lines = with_keys(2, keys)
+    return lines + ["show presence %s" % key(s % keys) for s in range(count)]
+
+
+def median_time(lines):
+    script = ("\n".join(lines) + "\n").encode()
+    assert len(script) <= 1_048_576, "a script has at most 1,048,576 bytes, this one %d" % len(script)
+    times = []
+    for _ in range(RUNS):
+        begin = time.perf_counter()
+        done = subprocess.run([str(PROGRAM), "run"], input=script, stdout=subprocess.PIPE, check=True)
+        times.append(time.perf_counter() - begin)
+        assert done.stdout is not None
+    return statistics.median(times)
+
+
+def table(title, rows):
+    print(title)
+    print("  %12s %12s %12s %12s" % ("size", "ms", "work", "time"))
+    before = None
+    for size, work, lines in rows:
+        took = median_time(lines)
+        if before is None:
+            print("  %12s %12.2f" % (size, 1000 * took))
+        else:
+            print("  %12s %12.2f %11.2fx %11.2fx" % (size, 1000 * took, work / before[0], took / before[1]))
+        before = (work, took)
+    print()
+
+
+def main():
+    if not PROGRAM.exists():
+        # any call of the launcher builds the program
+        subprocess.run([str(TOP / "annex")], stdout=subprocess.DEVNULL, check=False)
+    table("keys, at 2 repositories", [(k, k, with_keys(2, k)) for k in (10, 100, 1000, 10000)])
+    table("drops, of 1,000 keys at 4 repositories", [(d, d, drops(4, 1000, d)) for d in (10, 100, 1000, 10000)])
+    table("keys, with 1,000 drops at 2 repositories", [(k, k, drops(2, k, 1000)) for k in (10, 100, 1000, 10000)])
+    table("repositories, with 1,000 keys and 1,000 drops", [(r, r, drops(r, 1000, 1000)) for r in range(2, 9)])
+    table("shows, of 1,000 keys", [(s, s, shows(1000, s)) for s in (10, 100, 1000, 10000)])
+
+
+if __name__ == "__main__":
+    main()
