@@ -1,13 +1,12 @@
 -- One answer is due for the bytes of a source.
-use Rattle.std.proofs.Common.{◌≡◌, ◌⊎◌, inl, inr, ℕ, ◌+◌, ◌<◌, ◌≤◌, List, [], ◌++◌, length, Option, Some, None, refl, sym, ap, subst, ◌∙◌, arith, length-append}
+use Rattle.std.proofs.Common.{◌≡◌, ◌⊎◌, inl, inr, ℕ, ◌<◌, ◌≤◌, List, ◌++◌, length, Option, Some, None, refl, sym, ap, subst, ◌∙◌, arith, length-append}
 use Rattle.std.proofs.lemmas.Bool.{cases_lt}
 use Rattle.std.proofs.lemmas.List.{append-nil}
-use Rattle.std.specs.Io.KnownBytes.{prepend_known}
 use Rattle.script_lang.specs.declared.command.Command.{Command}
 use Rattle.script_lang.specs.Script.{IsScript, IsBadLine, IsCrowded}
 use Rattle.annex_cli.specs.declared.status.Status.{Status}
 use Rattle.annex_cli.specs.declared.status.Status.TheVariants.{Done, Usage, Script, ReadFault, WriteFault, NoMemory, Limit}
-use Rattle.annex_cli.specs.Whole.{IsRead, IsAtEnd, script_limit}
+use Rattle.annex_cli.specs.Whole.{IsRead, script_limit}
 use Rattle.annex_cli.specs.Top.{IsDue, IsDueRead, AnswersRun}
 
 -- the readings of a text exclude each other

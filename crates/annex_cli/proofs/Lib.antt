@@ -1,4 +1,3 @@
-pub mod KnownLemmas
 pub mod WordLemmas
 pub mod DueLemmas
 pub mod ShortLemmas

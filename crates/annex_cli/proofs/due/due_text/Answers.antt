@@ -1,6 +1,5 @@
-use Rattle.std.proofs.Common.{◌≡◌, ℕ, ◌≤◌, length, ap, sym, subst, ◌∙◌, arith, List, ◌++◌, codes, IfOk, Result, Ok, Err}
+use Rattle.std.proofs.Common.{ap, sym, subst, ◌∙◌, arith, ◌++◌, codes, IfOk, Result, Ok, Err}
 use Rattle.std.specs.Fmt.{decimal}
-use Rattle.annex_cli.specs.declared.status.Status.TheVariants.{Script}
 use Rattle.annex_cli.specs.Top.{IsDue}
 use Rattle.annex_cli.proofs.due.due_text.Goals as goal
 

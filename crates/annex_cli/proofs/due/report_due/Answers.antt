@@ -1,4 +1,4 @@
-use Rattle.std.proofs.Common.{◌≡◌, sym, ap, ◌∙◌, subst, List, ℕ, ◌<◌, ◌^◌, length, arith}
+use Rattle.std.proofs.Common.{◌≡◌, ap, ◌∙◌, subst, List, ◌<◌, ◌^◌, length, arith}
 use Rattle.run_model.specs.declared.run.Run.{Run}
 use Rattle.run_model.specs.Thin.{IsThinRun}
 use Rattle.script_lang.specs.declared.command.Command.{Command}

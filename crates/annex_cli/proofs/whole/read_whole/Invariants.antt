@@ -1,6 +1,5 @@
 use Rattle.std.proofs.Common.{◌≡◌, ◌≤◌, ◌-◌, length}
 use Rattle.std.specs.Io.KnownBytes.{prepend_known}
-use Rattle.annex_cli.specs.Whole.{script_limit}
 use Rattle.annex_cli.proofs.whole.read_whole.Given as goal
 
 -- the text is what the source has lost, and its count has not fallen

@@ -1,6 +1,6 @@
-use Rattle.std.proofs.Common.{◌∙◌, ap, arith, take, drop, List, ℕ}
+use Rattle.std.proofs.Common.{◌∙◌, ap, arith, take, List, ℕ}
 use Rattle.std.specs.Io.KnownBytes.{append_known}
-use Rattle.annex_cli.proofs.KnownLemmas.{append_front}
+use Rattle.annex_base.proofs.KnownLemmas.{append_known-front}
 use Rattle.annex_cli.proofs.whole.write_whole.Goals as goal
 
 pub loop-at-preserved : goal.loop-at-preserved
@@ -9,6 +9,6 @@ loop-at-preserved g c = record {
   taken = c.in_ok-at.ensures.bytes
       ∙ ap (λ o. append_known o (take c.in_ok-at.field-0 c.split_at.result.1.now)) c.loop-at.invariant.taken
       ∙ ap (λ (rest : List ℕ). append_known (append_known (g.K.Sink.taken c.args.sink.now) (take c.loop-at.at c.args.text.now)) (take c.in_ok-at.field-0 rest)) c.split_at.ensures.back
-      ∙ append_front (g.K.Sink.taken c.args.sink.now) c.args.text.now c.loop-at.at c.in_ok-at.field-0;
+      ∙ append_known-front (g.K.Sink.taken c.args.sink.now) c.args.text.now c.loop-at.at c.in_ok-at.field-0;
   later = omega (arith, c.loop-at.invariant.later, c.write.ensures.cause.later);
 }
