@@ -8,12 +8,19 @@ use std::{env, io};
 
 fn main(rt: HostRuntime) -> ExitCode {
     let mut words = Vec::new(rt.alloc());
-    if let Ok(args) = env::args(&rt) {
-        for word in args.skip(1) {
-            if words.push(word).is_err() {
-                return ExitCode::from(Status::NoMemory.code());
+    match env::args(&rt) {
+        Ok(args) => {
+            for word in args.skip(1) {
+                if words.push(word).is_err() {
+                    return ExitCode::from(Status::NoMemory.code());
+                }
             }
         }
+        Err(error) if matches!(error.kind(), io::ErrorKind::OutOfMemory) => {
+            return ExitCode::from(Status::NoMemory.code());
+        }
+        // A word isn't UTF-8, and no form of the program has such a word.
+        Err(_) => {}
     }
     let mut source = StdSource::new(rt.reader());
     let mut sink = StdSink::new(io::writer(&rt));
