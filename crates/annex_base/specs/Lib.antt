@@ -1,7 +1,10 @@
+pub mod ByteOrder
 pub mod Causes
 pub mod Decimal
 pub mod InMemory
+pub mod Lists
 pub mod RepoText
+pub mod Settings
 pub mod StampReading
 pub mod StampText
 pub mod Standard

@@ -16,7 +16,8 @@ use Rattle.std.proofs.lemmas.List.Kept.{AllPairs-cons, AllPairs-filter}
 use Rattle.std.proofs.lemmas.Map.Keys.{sorted_head, sorted_tail}
 use Rattle.std.proofs.lemmas.Map.Text.{is_eq-slice_cmp}
 use Rattle.std.proofs.lemmas.Slice.Eq.{bytes_eq-Decides}
-use Rattle.annex_key.specs.Tree.{Entries, text_cmp, with_key, key_of, paths_of, each_once, distinct_keys}
+use Rattle.annex_base.specs.ByteOrder.{text_cmp}
+use Rattle.annex_key.specs.Tree.{Entries, with_key, key_of, paths_of, each_once, distinct_keys}
 use Rattle.annex_key.specs.TreeView.{seen, path_cmp}
 use Rattle.annex_key.proofs.TreeLemmas.{Row}
 

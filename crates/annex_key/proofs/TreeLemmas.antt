@@ -13,7 +13,8 @@ use Rattle.std.specs.BTreeMap.{insert_entry}
 use Rattle.std.proofs.lemmas.Bool.{cases_Bool}
 use Rattle.std.specs.Str.{bytes_eq}
 use Rattle.indexmap.specs.IndexSet.{insert_key}
-use Rattle.annex_key.specs.Tree.{text_cmp, with_key, key_of, each_once, distinct_keys}
+use Rattle.annex_base.specs.ByteOrder.{text_cmp}
+use Rattle.annex_key.specs.Tree.{with_key, key_of, each_once, distinct_keys}
 use Rattle.annex_key.specs.TreeView.{seen, path_cmp}
 
 abbrev pub Row : Type 0

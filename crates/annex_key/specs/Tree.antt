@@ -1,18 +1,12 @@
 -- A tree as the list of its paths and their keys, in byte order of the paths.
 use Rattle.std.specs.Prelude.{ℕ, not, List, [], ◌∷◌, filter, Option}
-use Rattle.std.specs.declared.cmp.Ordering.{Ordering}
-use Rattle.std.specs.Ordering.{nat_cmp}
-use Rattle.std.specs.Cmp.Lexicographic.{slice_cmp}
 use Rattle.std.specs.Map.{lookup, keys_of, values_of}
 use Rattle.std.specs.BTreeMap.{insert_entry, is_at}
 use Rattle.std.specs.Str.{bytes_eq}
+use Rattle.annex_base.specs.ByteOrder.{text_cmp}
 
 abbrev pub Entries : Type 0
 Entries = List (List ℕ × List ℕ)
-
--- byte order
-abbrev pub text_cmp : List ℕ → List ℕ → Ordering
-text_cmp = slice_cmp nat_cmp
 
 -- the tree after a path is set: an earlier key of the path is replaced
 abbrev pub with_key : Entries → List ℕ → List ℕ → Entries

@@ -3,7 +3,7 @@ use Rattle.std.specs.Prelude.{ℕ, List, map}
 use Rattle.std.specs.declared.vec.Vec.{Vec}
 use Rattle.std.specs.declared.alloc.Global.{Global}
 use Rattle.std.specs.declared.cmp.Ordering.{Ordering}
-use Rattle.annex_key.specs.Tree.{text_cmp}
+use Rattle.annex_base.specs.ByteOrder.{text_cmp}
 
 -- the order of the map's paths
 abbrev pub path_cmp : Vec ℕ Global → Vec ℕ Global → Ordering

@@ -3,7 +3,8 @@ ghost use Rattle.std.specs.List.Sorted.{IsStrictlySortedBy};
 ghost use Rattle.std.specs.BTreeMap.{insert_entry};
 ghost use Rattle.std.specs.Map.{keys_of};
 ghost use Rattle.std.specs.Option.{option_copied};
-ghost use Rattle.annex_key.specs.Tree.{text_cmp, with_key, key_of, paths_of, distinct_keys};
+ghost use Rattle.annex_base.specs.ByteOrder.{text_cmp};
+ghost use Rattle.annex_key.specs.Tree.{with_key, key_of, paths_of, distinct_keys};
 ghost use Rattle.annex_key.specs.TreeView.{seen, path_cmp};
 
 use crate::key::Key;

@@ -12,7 +12,7 @@ use Rattle.run_model.specs.declared.entry.Entry.{Entry}
 use Rattle.run_model.specs.declared.entry.EntryKind.TheVariants.{Gone}
 use Rattle.run_model.specs.declared.run.Run.{Run}
 use Rattle.run_model.specs.Drops.{is_locked, is_trusted}
-use Rattle.run_model.specs.Lists.{Member}
+use Rattle.annex_base.specs.Lists.{Member}
 use Rattle.run_model.specs.Past.{present}
 use Rattle.run_model.specs.Safety.{Removal, all_stand, backed, claim, is_gone, judged, least_need, offset_of, owned, past_at, stands, within}
 use Rattle.run_model.specs.Thin.{IsThinRun}

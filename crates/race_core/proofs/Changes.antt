@@ -22,7 +22,7 @@ use Rattle.run_model.specs.Past.{present, present_after, bar, bar_after, is_of, 
 use Rattle.run_model.specs.Frames.{Sent, sent_by, sender, is_frame}
 use Rattle.run_model.specs.Drops.{Vouch, Lock, Look, look_of, vouch_kind, vouch, vouches, newer, Asker, asker, is_asker, asked_at, tells, reply, done, done_kind}
 use Rattle.run_model.specs.Safety.{Removal, removal, removal_by, local_removal, remote_removal, ordered, sent_order, add_removal}
-use Rattle.run_model.specs.Lists.{Member}
+use Rattle.annex_base.specs.Lists.{Member}
 use Rattle.race_core.proofs.Lists.{eqb_refl, or_left, or_right, if_is, and_true, eqb_true, or_true, both, any_map, any_was_map, any_filter, any_was_filter, any_weaker, Member-append, Member-left, Member-right, true_or_false}
 
 -- the entry takes the key away from r

@@ -20,7 +20,7 @@ use Rattle.run_model.specs.Past.{present, bar, holds, decided, Decision, is_of, 
 use Rattle.run_model.specs.Drops.{Vouch, Lock, Look, key_of, vouch, vouches, reply, standing, Gives, asked, evidence, is_trusted, candidates, done, done_kind}
 use Rattle.drop_proof.specs.Judging.{is_enough, counts}
 use Rattle.run_model.specs.Safety.{Removal, removal, removals, add_removal, local_removal, remote_removal}
-use Rattle.run_model.specs.Lists.{Each, Member}
+use Rattle.annex_base.specs.Lists.{Each, Member}
 use Rattle.race_core.specs.Lawful.{Free, InTime, FoundRemote, IsFresh, Lawful}
 use Rattle.race_core.proofs.Lists.{or_false, Each-both, eqb_refl, true_or_false, Each-any, Each-weaker, or_left, or_right, Member-append}
 use Rattle.race_core.proofs.Gather.{never_target, gather_each, gather_count, candidates_count, enough_m, offer_locked, offer_recent}

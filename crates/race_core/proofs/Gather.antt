@@ -14,7 +14,7 @@ use Rattle.drop_proof.specs.declared.rule.Side.{Side}
 use Rattle.drop_proof.specs.declared.rule.Side.TheVariants.{Local, Remote}
 use Rattle.run_model.specs.Drops.{Vouch, Lock, Look, Standing, Claimed, Ignored, Asked, Offer, Gives, Fails, offer, vouch_offer, pick, gather, but, candidates}
 use Rattle.drop_proof.specs.Judging.{is_enough, counts}
-use Rattle.run_model.specs.Lists.{Each, Member}
+use Rattle.annex_base.specs.Lists.{Each, Member}
 use Rattle.race_core.proofs.Lists.{Each-append, Each-left, Each-right, and_true, count_by-yes, count_by-tail, count_by-filter, count_by-cons, true_or_false, eqb_true, eqb_refl, filter-Each}
 
 abbrev pub MatchSide : Side → Type 0 → Type 0 → Type 0

@@ -20,7 +20,7 @@ use Rattle.run_model.specs.Past.{present, decided, Decision, is_of}
 use Rattle.run_model.specs.Drops.{Vouch, Lock, reply, evidence, standing, Gives, candidates, asked, is_trusted}
 use Rattle.drop_proof.specs.Judging.{counts}
 use Rattle.run_model.specs.Safety.{Removal, removal, removals, add_removal, smaller, least_need, trusts, claim, count, within, stands, all_stand, backed, is_gone, judged, owned, IsSafe, past_at, offset_of}
-use Rattle.run_model.specs.Lists.{Each, Member}
+use Rattle.annex_base.specs.Lists.{Each, Member}
 use Rattle.race_core.specs.Lawful.{Lawful, LawfulPast, IsLawful, FoundRemote, IsFresh}
 use Rattle.race_core.proofs.Lists.{Each-both, Each-weaker, Each-at, any-Member, or_left, or_right, or_false, neither, both, eqb_refl, list_all-from_Each, true_or_false}
 use Rattle.race_core.proofs.Gather.{gather_each, never_target, offer_locked}

@@ -17,7 +17,7 @@ use Rattle.run_model.specs.declared.job.DropRefusal.TheVariants.{NotPresent, Lac
 use Rattle.run_model.specs.declared.job.Outcome.TheVariants.{Refused, TransferRefused}
 use Rattle.run_model.specs.declared.job.Proof.{Proof}
 use Rattle.run_model.specs.declared.run.Run.{Run}
-use Rattle.run_model.specs.Lists.{Each, Member}
+use Rattle.annex_base.specs.Lists.{Each, Member}
 use Rattle.run_model.specs.Past.{Decision, Running, decided, is_of, jobs, runs}
 use Rattle.run_model.specs.Drops.{Asked, Claimed, Fails, Gives, Ignored, Lock, Look, Offer, Standing, Vouch, asked, candidates, cause_by, failures, newer, newer_cause, offer, or_fault, pick, reply, standing, tells, tells_cause, told_cause, why}
 use Rattle.run_model.specs.Safety.{offset_of}

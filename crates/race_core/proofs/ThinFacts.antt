@@ -19,7 +19,7 @@ use Rattle.run_model.specs.declared.entry.EntryKind.{EntryKind}
 use Rattle.run_model.specs.declared.entry.EntryKind.TheVariants.{Begin, Share, Release, Check, Bar, Gone, Crash, End}
 use Rattle.run_model.specs.Past.{jobs, decided, Decision, Running, is_of, now, is_lost_ordered, runs, option_is, begun, is_begin}
 use Rattle.run_model.specs.Drops.{Vouch, Lock, key_of, vouch, vouches, vouch_kind, asker, asker_kind, asked_at, is_asker, newest_job, evidence, done, done_kind}
-use Rattle.run_model.specs.Lists.{Each, Member}
+use Rattle.annex_base.specs.Lists.{Each, Member}
 use Rattle.race_core.specs.Lawful.{Free, FoundBar, InTime, FoundLocal, IsFresh, IsLawful, Lawful, LawfulPast, since_of}
 use Rattle.run_model.specs.Thin.{NoJob, Barred_job, MayBar, MayRemove, MayEnd, ThinKind, ThinStep, ThinPast}
 use Rattle.race_core.proofs.Lists.{and_true, or_right, eqb_true, eqb_refl, true_or_false, Member-append}

@@ -11,7 +11,7 @@ use Rattle.run_model.specs.declared.entry.By.TheVariants.{Script, Job as by_job,
 use Rattle.run_model.specs.declared.entry.Entry.{Entry}
 use Rattle.run_model.specs.declared.entry.EntryKind.TheVariants.{Share, Release, Bar, Order, Gone}
 use Rattle.run_model.specs.declared.run.Run.{Run}
-use Rattle.run_model.specs.Lists.{Each, Member}
+use Rattle.annex_base.specs.Lists.{Each, Member}
 use Rattle.run_model.specs.Past.{Decision, bar, clock, decided, holds, is_blocked, is_of, now, present}
 use Rattle.run_model.specs.Frames.{Sent, sender}
 use Rattle.run_model.specs.Drops.{Look, Lock, Vouch, done, evidence, key_of, reply, vouch, vouches}

@@ -1,4 +1,4 @@
-pub use Rattle.run_model.specs.Lists
+pub use Rattle.annex_base.specs.Lists
 pub use Rattle.run_model.specs.Past
 pub use Rattle.run_model.specs.Frames
 pub use Rattle.run_model.specs.Drops

@@ -9,7 +9,7 @@ ghost use Rattle.run_model.specs.declared.entry.EntryKind.TheVariants.{Gone};
 ghost use Rattle.run_model.specs.declared.run.Run.{Run};
 ghost use Rattle.run_model.specs.Causes.{HasCauses};
 ghost use Rattle.run_model.specs.Drops.{is_locked, is_trusted};
-ghost use Rattle.run_model.specs.Lists.{Member};
+ghost use Rattle.annex_base.specs.Lists.{Member};
 ghost use Rattle.run_model.specs.Past.{present};
 ghost use Rattle.run_model.specs.Safety.{IsSafe, Removal, least_need, past_at, within};
 ghost use Rattle.run_model.specs.Thin.{IsThinRun};

@@ -11,7 +11,7 @@ use Rattle.run_model.specs.declared.job.DropRefusal.TheVariants.{NotPresent, Lac
 use Rattle.run_model.specs.declared.job.Outcome.TheVariants.{Refused, TransferRefused}
 use Rattle.run_model.specs.declared.job.Proof.{Proof}
 use Rattle.run_model.specs.declared.job.TransferRefusal.{TransferRefusal}
-use Rattle.run_model.specs.Lists.{Each, Member}
+use Rattle.annex_base.specs.Lists.{Each, Member}
 use Rattle.run_model.specs.Past.{Running, Decision, jobs, decided, present, is_of}
 use Rattle.run_model.specs.Drops.{evidence, candidates, asked, standing, why, told_cause, proof_of, Fails, Ignored}
 use Rattle.run_model.specs.Safety.{offset_of}

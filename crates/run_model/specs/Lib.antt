@@ -1,4 +1,3 @@
-pub mod Lists
 pub mod Past
 pub mod Frames
 pub mod Drops

@@ -19,7 +19,7 @@ use Rattle.run_model.specs.declared.job.CandidateCause.{CandidateCause}
 use Rattle.run_model.specs.declared.job.Outcome.{Outcome}
 use Rattle.run_model.specs.declared.job.Outcome.TheVariants.{Dropped, Refused}
 use Rattle.run_model.specs.declared.job.DropRefusal.TheVariants.{NotPresent, Lacking}
-use Rattle.run_model.specs.Lists.{Each}
+use Rattle.annex_base.specs.Lists.{Each}
 use Rattle.run_model.specs.Past.{Running, Decision, Hold, jobs, decided, present, bar, holds, is_of, is_blocked, begun, made}
 use Rattle.run_model.specs.Drops.{evidence, candidates, proof_of, causes}
 use Rattle.run_model.specs.Safety.{offset_of}

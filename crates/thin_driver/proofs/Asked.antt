@@ -9,7 +9,7 @@ use Rattle.drop_proof.specs.declared.evidence.Kind.TheVariants.{Locked}
 use Rattle.drop_proof.specs.declared.evidence.Evidence.{Evidence}
 use Rattle.drop_proof.specs.Judging.{is_enough}
 use Rattle.annex_base.specs.declared.kinds.Found.TheVariants.{Absent as found_absent}
-use Rattle.run_model.specs.Lists.{Each}
+use Rattle.annex_base.specs.Lists.{Each}
 use Rattle.run_model.specs.declared.entry.Entry.{Entry}
 use Rattle.run_model.specs.declared.entry.EntryKind.{EntryKind}
 use Rattle.run_model.specs.declared.entry.EntryKind.TheVariants.{Share, Check}

@@ -9,7 +9,7 @@ use Rattle.drop_proof.specs.declared.rule.Side.TheVariants.{Local}
 use Rattle.drop_proof.specs.declared.evidence.Kind.{Kind}
 use Rattle.drop_proof.specs.declared.evidence.Evidence.{Evidence}
 use Rattle.drop_proof.specs.Judging.{is_enough}
-use Rattle.run_model.specs.Lists.{Each}
+use Rattle.annex_base.specs.Lists.{Each}
 use Rattle.run_model.specs.declared.entry.Entry.{Entry}
 use Rattle.run_model.specs.declared.job.Cause.{Cause}
 use Rattle.run_model.specs.declared.job.CandidateCause.{CandidateCause}

@@ -3,7 +3,7 @@ use Rattle.std.proofs.Common.{◌≡◌, ℕ, zero, suc, ◌+◌, ◌<◌, ◌�
 use Rattle.std.specs.Prelude.{if◌then◌else◌}
 use Rattle.std.proofs.lemmas.List.{take_more, drop_more, take-append-drop, append-nil, reverse-append, length-reverse, map-append, length-map}
 use Rattle.std.proofs.Math.ListN.{drop_of_length-le}
-use Rattle.run_model.specs.Lists.{Each}
+use Rattle.annex_base.specs.Lists.{Each}
 use Rattle.run_model.specs.declared.entry.Entry.{Entry}
 use Rattle.run_model.specs.declared.entry.EntryKind.TheVariants.{Gain}
 use Rattle.run_model.specs.declared.entry.By.TheVariants.{Script}

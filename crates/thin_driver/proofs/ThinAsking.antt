@@ -12,7 +12,7 @@ use Rattle.run_model.specs.declared.entry.Entry.{Entry}
 use Rattle.run_model.specs.declared.entry.By.TheVariants.{Peer}
 use Rattle.run_model.specs.declared.entry.EntryKind.{EntryKind}
 use Rattle.run_model.specs.declared.entry.EntryKind.TheVariants.{Share, Check}
-use Rattle.run_model.specs.Lists.{Each}
+use Rattle.annex_base.specs.Lists.{Each}
 use Rattle.run_model.specs.Past.{Running, Decision, jobs, jobs_after, holds, holds_after, bar, bar_after, present, decided, decided_after, begun, is_begin, made}
 use Rattle.run_model.specs.Drops.{candidates}
 use Rattle.run_model.specs.Safety.{offset_of}

@@ -5,7 +5,7 @@ use Rattle.std.specs.List.{range_with_len}
 use Rattle.std.specs.Cmp.Lexicographic.{bytes_decides}
 use Rattle.std.proofs.lemmas.Bool.Decides.{nat_tests}
 use Rattle.std.proofs.lemmas.List.{reverse-append}
-use Rattle.run_model.specs.Lists.{Each}
+use Rattle.annex_base.specs.Lists.{Each}
 
 pub eqb_refl : (a : ℕ) → (a == a) ≡ true
 eqb_refl a = grind arith

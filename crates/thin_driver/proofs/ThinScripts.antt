@@ -7,7 +7,7 @@ use Rattle.run_model.specs.declared.entry.Entry.{Entry}
 use Rattle.run_model.specs.declared.entry.By.TheVariants.{Script}
 use Rattle.run_model.specs.declared.entry.EntryKind.{EntryKind}
 use Rattle.run_model.specs.declared.entry.EntryKind.TheVariants.{Gain}
-use Rattle.run_model.specs.Lists.{Each}
+use Rattle.annex_base.specs.Lists.{Each}
 use Rattle.run_model.specs.Past.{present}
 use Rattle.run_model.specs.Safety.{offset_of}
 use Rattle.run_model.specs.Thin.{IsSetUp, IsThinRun, ThinPast, MayGain, fits_size}

@@ -15,7 +15,7 @@ use Rattle.run_model.specs.declared.entry.EntryKind.TheVariants.{Begin, Gain, Sh
 use Rattle.run_model.specs.declared.job.Job.{Job}
 use Rattle.run_model.specs.declared.job.Outcome.TheVariants.{Dropped, Refused}
 use Rattle.run_model.specs.declared.job.DropRefusal.TheVariants.{NotPresent, Lacking}
-use Rattle.run_model.specs.Lists.{Each}
+use Rattle.annex_base.specs.Lists.{Each}
 use Rattle.run_model.specs.Past.{Hold, present, holds, begun, made}
 use Rattle.run_model.specs.Drops.{evidence, candidates, proof_of, causes}
 use Rattle.run_model.specs.Safety.{offset_of}

@@ -3,7 +3,7 @@ ghost use Rattle.run_model.specs.declared.entry.Entry.{Entry};
 ghost use Rattle.run_model.specs.declared.entry.EntryKind.TheVariants.{Gain};
 ghost use Rattle.run_model.specs.declared.entry.By.TheVariants.{Script};
 ghost use Rattle.run_model.specs.declared.run.RepoView.{RepoView};
-ghost use Rattle.run_model.specs.Lists.{Each};
+ghost use Rattle.annex_base.specs.Lists.{Each};
 ghost use Rattle.run_model.specs.Past.{present};
 ghost use Rattle.run_model.specs.Safety.{offset_of};
 ghost use Rattle.script_lang.specs.declared.command.Command.{Command};

@@ -1,6 +1,7 @@
 use Rattle.std.proofs.Common.{◌≡◌, ◌↔◌, List, ℕ, Some, Contains, sym, subst}
 use Rattle.std.specs.List.Sorted.{IsStrictlySortedBy}
-use Rattle.annex_key.specs.Tree.{text_cmp, key_of, paths_of}
+use Rattle.annex_base.specs.ByteOrder.{text_cmp}
+use Rattle.annex_key.specs.Tree.{key_of, paths_of}
 use Rattle.annex_key.specs.TreeView.{seen}
 use Rattle.annex_key.proofs.TreeLaws.{IsInOrder, of_both, paths_each, paths_of-sorted}
 use Rattle.annex_key.proofs.tree.Tree.paths.Goals as goal
