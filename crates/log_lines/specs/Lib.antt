@@ -1,2 +1,3 @@
 pub mod LineText
 pub mod Reading
+pub mod Newest

@@ -1,0 +1,46 @@
+-- The files of a branch, as a map of their paths to the sets of their lines (git-annex internals: branch files). A branch
+-- stands as the list of its files in byte order of path.
+use Rattle.std.specs.Prelude.{◌≡◌, ℕ, List, [], ◌∷◌, map, Option, Some, None}
+use Rattle.std.specs.List.{fold}
+use Rattle.std.specs.List.Sorted.{IsStrictlySortedBy}
+use Rattle.std.specs.Map.{lookup, keys_of}
+use Rattle.std.specs.BTreeMap.{insert_entry, is_at}
+use Rattle.annex_base.specs.ByteOrder.{text_cmp}
+use Rattle.annex_base.specs.Lists.{Each}
+use Rattle.union_merge.specs.LineSet.{IsLine, IsLineSet, union}
+
+abbrev pub Files : Type 0
+Files = List (List ℕ × List (List ℕ))
+
+-- a path, like a line, isn't empty and has no newline
+pub record IsBranch (files : Files) : Type 0 where
+  pub sorted : IsStrictlySortedBy text_cmp (keys_of files)
+  pub files : Each (λ f. IsLine f.0 × IsLineSet f.1) files
+
+-- the lines of a file, if it is there
+abbrev pub file_at : Files → List ℕ → Option (List (List ℕ))
+file_at files path = lookup (is_at (text_cmp path)) files
+
+abbrev pub or_none : Option (List (List ℕ)) → List (List ℕ)
+or_none None = []
+or_none (Some lines) = lines
+
+-- the lines of a file; one that isn't there has none
+abbrev pub lines_at : Files → List ℕ → List (List ℕ)
+lines_at files path = or_none (file_at files path)
+
+-- the branch with these lines as the file's
+abbrev pub with_file : Files → List ℕ → List (List ℕ) → Files
+with_file files path lines = insert_entry text_cmp files path lines
+
+-- the branch with these lines beside those of the file
+abbrev pub merged_file : Files → List ℕ → List (List ℕ) → Files
+merged_file files path lines = with_file files path (union (lines_at files path) lines)
+
+-- the files of both branches, a file of both with the lines of both
+abbrev pub merged : Files → Files → Files
+merged files others = fold (λ all f. merged_file all f.0 f.1) files others
+
+-- the files of all these branches
+abbrev pub merged_all : Files → List Files → Files
+merged_all files branches = fold merged files branches

@@ -1,0 +1,3 @@
+pub mod Branch
+pub mod Bundle
+pub mod LineSet

@@ -1,0 +1,45 @@
+-- The lines of a file of a branch, as a set (git-annex internals: branch files, which merge as the union of their lines). A
+-- set stands as the list of its lines, each once, in byte order.
+use Rattle.std.specs.Prelude.{◌≡◌, ◌≢◌, ¬, ℕ, Bool, true, false, not, ◌==◌, List, [], ◌∷◌, ◌++◌, filter, flat_map, Contains}
+use Rattle.std.specs.List.{fold, slice_split}
+use Rattle.std.specs.List.Sorted.{IsStrictlySortedBy}
+use Rattle.std.specs.BTreeSet.{insert_key}
+use Rattle.annex_base.specs.ByteOrder.{text_cmp}
+use Rattle.annex_base.specs.Lists.{Each}
+
+abbrev pub newline : ℕ
+newline = 10
+
+-- a line isn't empty and has no newline
+pub record IsLine (line : List ℕ) : Type 0 where
+  pub some : line ≢ []
+  pub single : ¬ Contains line newline
+
+-- lines in byte order, each once
+pub record IsLineSet (lines : List (List ℕ)) : Type 0 where
+  pub sorted : IsStrictlySortedBy text_cmp lines
+  pub lines : Each IsLine lines
+
+-- the lines and one more
+abbrev pub with_line : List (List ℕ) → List ℕ → List (List ℕ)
+with_line lines line = insert_key text_cmp lines line
+
+-- the lines of both
+abbrev pub union : List (List ℕ) → List (List ℕ) → List (List ℕ)
+union lines others = fold with_line lines others
+
+abbrev pub is_empty : List ℕ → Bool
+is_empty [] = true
+is_empty (b ∷ bs) = false
+
+-- the lines of a text, which end at newlines; those that are empty don't count
+abbrev pub lines_in : List ℕ → List (List ℕ)
+lines_in text = filter (λ line. not (is_empty line)) (slice_split (λ b. b == newline) text)
+
+-- the set of the lines of a text
+abbrev pub set_of : List ℕ → List (List ℕ)
+set_of text = union [] (lines_in text)
+
+-- the lines as a text, each with its newline
+abbrev pub text_of : List (List ℕ) → List ℕ
+text_of lines = flat_map (λ line. line ++ newline ∷ []) lines
