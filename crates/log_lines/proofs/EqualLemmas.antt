@@ -42,13 +42,13 @@ bytes l m = slice_eq-Decides Decides-eqb l m (pointwise ◌==◌ l m) refl
 names : (l m : List (List ℕ)) → Decides (pointwise (pointwise ◌==◌) l m) (l ≡ m)
 names l m = slice_eq-Decides bytes l m (pointwise (pointwise ◌==◌) l m) refl
 
-topic_same : (t u : Topic) → topic_impl.ghosts.eq t u ≡ true → t ≡ u
+pub topic_same : (t u : Topic) → topic_impl.ghosts.eq t u ≡ true → t ≡ u
 topic_same (topics.Repo l) (topics.Repo m) e = ap topics.Repo ((bytes l m).0 e)
 topic_same (topics.Group l) (topics.Group m) e = ap topics.Group ((bytes l m).0 e)
 topic_same topics.Whole topics.Whole e = refl
 topic_same t u e = other e
 
-topic_equal : (t : Topic) → topic_impl.ghosts.eq t t ≡ true
+pub topic_equal : (t : Topic) → topic_impl.ghosts.eq t t ≡ true
 topic_equal (topics.Repo l) = (bytes l l).1 refl
 topic_equal (topics.Group l) = (bytes l l).1 refl
 topic_equal topics.Whole = refl

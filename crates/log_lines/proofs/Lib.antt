@@ -1,9 +1,16 @@
 pub mod EqualLemmas
+pub mod ClaimLemmas
+pub mod CompactLemmas
 pub mod BodyLemmas
 pub mod FormLemmas
 pub mod GroupLemmas
+pub mod NewerLemmas
+pub mod NewestLemmas
+pub mod NextLemmas
 pub mod NumberLemmas
+pub mod OrderLemmas
 pub mod PlainLemmas
+pub mod PutLemmas
 pub mod ReadLemmas
 pub mod RepoLemmas
 pub mod StampLemmas

@@ -1,3 +1,5 @@
 pub mod LineText
 pub mod Reading
 pub mod Newest
+pub mod Latest
+pub mod Keeping

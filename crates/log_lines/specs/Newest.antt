@@ -1,6 +1,6 @@
 -- What the lines of a log file say together: of each topic its newest entry (git-annex internals: branch files; which of
 -- two entries of one stamp is the newer, and compaction, are the project's own).
-use Rattle.std.specs.Prelude.{◌≡◌, ◌↔◌, ℕ, ◌+◌, Bool, true, false, not, ◌&&◌, if◌then◌else◌, List, [], ◌∷◌, filter, map, max, min, Option, Some, None}
+use Rattle.std.specs.Prelude.{◌≡◌, ◌↔◌, ℕ, ◌+◌, Bool, false, not, ◌&&◌, if◌then◌else◌, List, [], ◌∷◌, filter, map, max, min, Option, Some, None}
 use Rattle.std.specs.declared.cmp.Ordering.{Ordering}
 use Rattle.std.specs.Ordering.{nat_cmp, ordering_then, is_eq, is_lt, match_ordering}
 use Rattle.std.specs.Cmp.Lexicographic.{slice_cmp}

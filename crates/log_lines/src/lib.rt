@@ -1,14 +1,19 @@
 //! The lines of git-annex's log files, read and written exactly.
 #![tactic(auto)]
 
+mod claims;
+mod compare;
 mod crossing;
 mod entry;
 mod group_list;
 mod groups;
+mod laws;
 mod location;
 mod number;
+mod one_topic;
 mod read;
 mod repo;
+mod stamping;
 mod stamps;
 #[cfg(test)]
 mod tests;
@@ -17,7 +22,14 @@ mod trust;
 mod words;
 mod write;
 
+pub use claims::{compact, newest};
 pub use entry::{Entry, LogKind, Topic, Value};
 pub use group_list::GroupList;
+pub use laws::{
+    compaction_keeps_the_reading, next_entries_are_read, order_is_total, readings_are_exact,
+    readings_depend_on_the_set,
+};
+pub use one_topic::newest_of;
 pub use read::{lines_are_exact, read_line};
+pub use stamping::next_stamp;
 pub use write::{try_write_line, write_line};

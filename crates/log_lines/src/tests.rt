@@ -1,3 +1,5 @@
+mod readings;
+
 use super::*;
 use annex_base::{Level, RepoId, Stamp, Text};
 use std::alloc::Global;

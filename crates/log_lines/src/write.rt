@@ -161,12 +161,11 @@ fn line_bytes(alloc: Global, kind: LogKind, entry: &Entry) -> Result<Vec<u8>, No
 }
 
 /// The line, without its newline, that a log file of this kind has for the entry; the stamp is written in full, and an
-/// empty text keeps its space (git-annex internals: location log and the other log files).
+/// empty text keeps its space (git-annex internals: location log and the other log files). It is read as the entry
+/// where some line of this kind has the entry, and the text is at most 8,192 bytes.
 pub fn write_line(alloc: Global, kind: LogKind, entry: &Entry) -> Result<Line, NoMemory>
-    requires has { HasLine kind entry.now }
-    requires short { length (line_text kind entry.now) ≤ 8192 }
     ensures text { IfOk result (λ l. l ≡ line_text kind entry.now) }
-    ensures again { IfOk result (λ l. IsLine kind l entry.now) }
+    ensures again { HasLine kind entry.now → length (line_text kind entry.now) ≤ 8192 → IfOk result (λ l. IsLine kind l entry.now) }
 {
     let bytes = line_bytes(alloc, kind, entry)?;
     Text::new(alloc, &bytes)

@@ -3,5 +3,5 @@ use Rattle.log_lines.proofs.WriteLemmas.{written_again}
 use Rattle.log_lines.proofs.write.write_line.Goals as goal
 
 pub returns-clause-again : goal.returns-clause-again
-returns-clause-again c =
-    written_again c.args.kind c.args.entry.now c.new.result c.deref.result.now c.requires.has c.requires.short (c.deref.ensures.value ∙ c.in_ok-bytes.ensures) c.new.ensures
+returns-clause-again c has short =
+    written_again c.args.kind c.args.entry.now c.new.result c.deref.result.now has short (c.deref.ensures.value ∙ c.in_ok-bytes.ensures) c.new.ensures

@@ -1,0 +1,225 @@
+-- Compaction keeps the reading, as additions and merges do.
+use Rattle.std.proofs.Common.{◌⊎◌, inl, inr, ◌≡◌, ◌↔◌, ℕ, Bool, true, false, not, ◌||◌, List, [], ◌∷◌, ◌++◌, filter, Option, Some, None, refl, sym, ap, subst, ◌∙◌}
+use Rattle.std.specs.List.{list_any}
+use Rattle.std.proofs.lemmas.List.{append-nil}
+use Rattle.std.proofs.lemmas.List.Elements.{filter-append}
+use Rattle.annex_base.specs.Lists.{Member, Each}
+use Rattle.log_lines.specs.declared.entry.LogKind.{LogKind}
+use Rattle.log_lines.specs.declared.entry.Topic.{Topic}
+use Rattle.log_lines.specs.declared.entry.Entry.{Entry}
+use Rattle.log_lines.specs.Reading.{entry_of}
+use Rattle.log_lines.specs.Newest.{same_topic, is_older, IsNewest, newer, newest, entry_at, newest_of, ReadAlike, says_newer, outdated_by, is_outdated, compacted}
+use Rattle.log_lines.specs.Latest.{said_of, newer_of, is_outdated_in}
+use Rattle.log_lines.specs.Keeping.{HasNewer, Keeps}
+use Rattle.log_lines.specs.Keeping.Keeps.{Empty, Add, AddAgain, Merge, Arrange, Compact}
+use Rattle.log_lines.proofs.Steps.{some_is}
+use Rattle.log_lines.proofs.FormLemmas.{entry_takes, entry_again}
+use Rattle.log_lines.proofs.OrderLemmas.{other, same_topic_own}
+use Rattle.log_lines.proofs.NewerLemmas.{by_test, newer_topic, lt_newer}
+use Rattle.log_lines.proofs.NewestLemmas.{newest_of-cons, newest_of_is, said_is, alike_by_newest, alike_by_members, alike_append}
+
+-- ---- lists
+
+any_found : {X : Type 0} (test : X → Bool) (xs : List X) → list_any test xs ≡ true → (x : X) × Member x xs × (test x ≡ true)
+any_found test [] h = other h
+any_found test (x ∷ xs) h =
+    by_test (test x)
+    (λ t. (x, inl refl, t))
+    (λ t. let rest = any_found test xs (rw t at h) in (rest.0, inr rest.1, rest.2))
+
+any_here : {X : Type 0} (test : X → Bool) (xs : List X) (x : X) → Member x xs → test x ≡ true → list_any test xs ≡ true
+any_here test [] x among t = absurd among
+any_here test (y ∷ ys) x (inl is) t = let here : test y ≡ true = ap test (sym is) ∙ t in rw here refl
+any_here test (y ∷ ys) x (inr among) t = let there = any_here test ys x among t in by_test (test y) (λ s. rw s refl) (λ s. rw s there)
+
+from_front : {X : Type 0} (p : X → Bool) (y : X) (ys : List X) (x : X) → p y ≡ true → Member x (y ∷ filter p ys) → (Member x (filter p ys) → Member x ys × (p x ≡ true)) → Member x (y ∷ ys) × (p x ≡ true)
+from_front p y ys x t (inl is) rest = (inl is, ap p is ∙ t)
+from_front p y ys x t (inr among) rest = let found = rest among in (inr found.0, found.1)
+
+pub filter_member : {X : Type 0} (p : X → Bool) (xs : List X) (x : X) → Member x (filter p xs) → Member x xs × (p x ≡ true)
+filter_member p [] x among = absurd among
+filter_member p (y ∷ ys) x among =
+    by_test (p y)
+    (λ t. from_front p y ys x t (rw t at among) (filter_member p ys x))
+    (λ t. let rest = filter_member p ys x (rw t at among) in (inr rest.0, rest.1))
+
+pub member_filter : {X : Type 0} (p : X → Bool) (xs : List X) (x : X) → Member x xs → p x ≡ true → Member x (filter p xs)
+member_filter p [] x among t = absurd among
+member_filter p (y ∷ ys) x (inl is) t = let here : p y ≡ true = ap p (sym is) ∙ t in rw here (inl is)
+member_filter p (y ∷ ys) x (inr among) t =
+    let there = member_filter p ys x among t in by_test (p y) (λ s. rw s (inr there)) (λ s. rw s there)
+
+pub member_append : {X : Type 0} (xs ys : List X) (x : X) → Member x (xs ++ ys) → Member x xs ⊎ Member x ys
+member_append [] ys x among = inr among
+member_append (z ∷ zs) ys x (inl is) = inl (inl is)
+member_append (z ∷ zs) ys x (inr among) = elim (member_append zs ys x among) [ inl l ↦ inl (inr l) | inr r ↦ inr r ]
+
+pub append_first : {X : Type 0} (xs ys : List X) (x : X) → Member x xs → Member x (xs ++ ys)
+append_first [] ys x among = absurd among
+append_first (z ∷ zs) ys x (inl is) = inl is
+append_first (z ∷ zs) ys x (inr among) = inr (append_first zs ys x among)
+
+pub append_second : {X : Type 0} (xs ys : List X) (x : X) → Member x ys → Member x (xs ++ ys)
+append_second [] ys x among = among
+append_second (z ∷ zs) ys x among = inr (append_second zs ys x among)
+
+each_member : {X : Type 0} (P : X → Type 0) (xs : List X) → Each P xs → (x : X) → Member x xs → P x
+each_member P [] all x among = absurd among
+each_member P (y ∷ ys) all x (inl is) = subst P (sym is) all.0
+each_member P (y ∷ ys) all x (inr among) = each_member P ys all.1 x among
+
+-- ---- a line that is outdated
+
+not_true : (b : Bool) → not b ≡ true → b ≡ false
+not_true true h = other h
+not_true false h = refl
+
+tells_newer : (e : Entry) (o : Option Entry) → says_newer e o ≡ true → (f : Entry) × (o ≡ Some f) × (is_older e f ≡ true)
+tells_newer e None h = other h
+tells_newer e (Some f) h = (f, refl, h)
+
+outdated_newer : (kind : LogKind) (lines : List (List ℕ)) (line : List ℕ) (o : Option Entry) → entry_of kind line ≡ o → outdated_by kind lines o ≡ true → HasNewer kind lines line
+outdated_newer kind lines line None read h = other h
+outdated_newer kind lines line (Some e) read h =
+    let found = any_found (λ l. says_newer e (entry_of kind l)) lines h in
+    let told = tells_newer e (entry_of kind found.0) found.2 in
+    record {
+      entry = e;
+      later = told.0;
+      says = entry_takes kind line e read;
+      said = record { line = found.0; among = found.1; says = entry_takes kind found.0 told.0 told.1 };
+      older = told.2;
+    }
+
+pub outdated_has_newer : (kind : LogKind) (lines : List (List ℕ)) (line : List ℕ) → is_outdated kind lines line ≡ true → HasNewer kind lines line
+outdated_has_newer kind lines line h = outdated_newer kind lines line (entry_of kind line) refl h
+
+pub has_newer_outdated : (kind : LogKind) (lines : List (List ℕ)) (line : List ℕ) → HasNewer kind lines line → is_outdated kind lines line ≡ true
+has_newer_outdated kind lines line n =
+    let read = entry_again kind line n.entry n.says in
+    let told : says_newer n.entry (entry_of kind n.said.line) ≡ true = ap (says_newer n.entry) (entry_again kind n.said.line n.later n.said.says) ∙ n.older in
+    ap (outdated_by kind lines) read ∙ any_here (λ l. says_newer n.entry (entry_of kind l)) lines n.said.line n.said.among told
+
+-- ---- compaction keeps what is newest
+
+pub compacted_among : (kind : LogKind) (lines : List (List ℕ)) (line : List ℕ) → Member line (compacted kind lines) → Member line lines × (is_outdated kind lines line ≡ false)
+compacted_among kind lines line among =
+    let found = filter_member (λ l. not (is_outdated kind lines l)) lines line among in (found.0, not_true (is_outdated kind lines line) found.1)
+
+pub among_compacted : (kind : LogKind) (lines : List (List ℕ)) (line : List ℕ) → Member line lines → is_outdated kind lines line ≡ false → Member line (compacted kind lines)
+among_compacted kind lines line among h = member_filter (λ l. not (is_outdated kind lines l)) lines line among (ap not h)
+
+compacted_newest : (kind : LogKind) (lines : List (List ℕ)) (e : Entry) → IsNewest kind (compacted kind lines) e → IsNewest kind lines e
+compacted_newest kind lines e new =
+    let stands = compacted_among kind lines new.line new.among in
+    record {
+      line = new.line;
+      among = stands.0;
+      says = new.says;
+      last = λ line f among says.
+          by_test (is_older e f)
+          (λ t. other (sym stands.1 ∙ has_newer_outdated kind lines new.line (record { entry = e; later = f; says = new.says; said = record { line = line; among = among; says = says }; older = t })))
+          (λ t. t);
+    }
+
+newest_compacted : (kind : LogKind) (lines : List (List ℕ)) (e : Entry) → IsNewest kind lines e → IsNewest kind (compacted kind lines) e
+newest_compacted kind lines e new = record {
+  line = new.line;
+  among = among_compacted kind lines new.line new.among
+      (by_test (is_outdated kind lines new.line)
+      (λ t. let n = outdated_has_newer kind lines new.line t in
+      let own = some_is n.entry e (sym (entry_again kind new.line n.entry n.says) ∙ entry_again kind new.line e new.says) in
+      other (sym (new.last n.said.line n.later n.said.among n.said.says) ∙ ap (λ (x : Entry). is_older x n.later) (sym own) ∙ n.older))
+      (λ t. t));
+  says = new.says;
+  last = λ line f among says. new.last line f (compacted_among kind lines line among).0 says;
+}
+
+pub compacted_alike : (kind : LogKind) (lines : List (List ℕ)) → ReadAlike kind (compacted kind lines) lines
+compacted_alike kind lines = alike_by_newest kind (compacted kind lines) lines (compacted_newest kind lines) (newest_compacted kind lines)
+
+-- compaction keeps the newest entry of each topic
+pub newest_of-compacted : (kind : LogKind) (lines : List (List ℕ)) (t : Topic) → newest_of kind (compacted kind lines) t ≡ newest_of kind lines t
+newest_of-compacted kind lines t = ap (λ es. entry_at es t) (compacted_alike kind lines)
+
+-- a line is left out exactly where it has a newer one
+pub left_out : (kind : LogKind) (lines : List (List ℕ)) (line : List ℕ) → Member line lines → (¬ Member line (compacted kind lines)) ↔ HasNewer kind lines line
+left_out kind lines line among = (
+  λ out. by_test (is_outdated kind lines line) (outdated_has_newer kind lines line) (λ t. absurd (out (among_compacted kind lines line among t))),
+  λ n m. other (sym (compacted_among kind lines line m).1 ∙ has_newer_outdated kind lines line n),
+)
+
+-- ---- a topic's newest entry tells whether a line is outdated
+
+newer_said : (e : Entry) (o : Option Entry) → says_newer e o ≡ says_newer e (said_of e.topic o)
+newer_said e None = refl
+newer_said e (Some f) = by_test (same_topic e.topic f.topic) (λ s. rw (s, s) refl) (λ s. rw s refl)
+
+newer_of_both : (e : Entry) (a b : Option Entry) → ((f : Entry) → a ≡ Some f → f.topic ≡ e.topic) → ((f : Entry) → b ≡ Some f → f.topic ≡ e.topic) → says_newer e (newer_of a b) ≡ says_newer e a || says_newer e b
+newer_of_both e None b p q = refl
+newer_of_both e (Some f) None p q = by_test (is_older e f) (λ t. rw t refl) (λ t. rw t refl)
+newer_of_both e (Some f) (Some g) p q =
+    let first : same_topic e.topic f.topic ≡ true = ap (same_topic e.topic) (p f refl) ∙ same_topic_own e.topic in
+    let second : same_topic e.topic g.topic ≡ true = ap (same_topic e.topic) (q g refl) ∙ same_topic_own e.topic in
+    let both : same_topic e.topic (newer f g).topic ≡ true = ap (same_topic e.topic) (newer_topic f g e.topic (p f refl) (q g refl)) ∙ same_topic_own e.topic in
+    rw (first, second, both) (lt_newer e f g)
+
+pub any_newer : (kind : LogKind) (lines : List (List ℕ)) (e : Entry) → list_any (λ line. says_newer e (entry_of kind line)) lines ≡ says_newer e (newest_of kind lines e.topic)
+any_newer kind [] e = refl
+any_newer kind (line ∷ lines) e =
+    let o = entry_of kind line in
+    let n = newest_of kind lines e.topic in
+    ap (λ b. b || list_any (λ l. says_newer e (entry_of kind l)) lines) (newer_said e o)
+    ∙ ap (λ b. says_newer e (said_of e.topic o) || b) (any_newer kind lines e)
+    ∙ sym (newer_of_both e (said_of e.topic o) n (λ f h. sym (said_is e.topic o f h).1) (λ f h. (newest_of_is kind lines e.topic f h).1))
+    ∙ ap (says_newer e) (sym (newest_of-cons kind line lines e.topic))
+
+-- ---- files that are merged
+
+pub alike_turned : (kind : LogKind) (xs ys : List (List ℕ)) → ReadAlike kind (xs ++ ys) (ys ++ xs)
+alike_turned kind xs ys = alike_by_members kind (xs ++ ys) (ys ++ xs) (λ l. (turn xs ys l, turn ys xs l))
+  where
+    turn : (xs ys : List (List ℕ)) (l : List ℕ) → Member l (xs ++ ys) → Member l (ys ++ xs)
+    turn xs ys l among = elim (member_append xs ys l among) [ inl m ↦ append_second ys xs l m | inr m ↦ append_first ys xs l m ]
+
+pub alike_both : (kind : LogKind) (xs others ys all : List (List ℕ)) → ReadAlike kind xs others → ReadAlike kind ys all → ReadAlike kind (xs ++ ys) (others ++ all)
+alike_both kind xs others ys all first second =
+    alike_append kind xs others ys first
+    ∙ alike_turned kind others ys
+    ∙ alike_append kind ys all others second
+    ∙ alike_turned kind all others
+
+alike_again : (kind : LogKind) (ever lines : List (List ℕ)) → Each (λ line. Member line ever) lines → ReadAlike kind (ever ++ lines) ever
+alike_again kind ever lines all = alike_by_members kind (ever ++ lines) ever (λ l. (back l, append_first ever lines l))
+  where
+    back : (l : List ℕ) → Member l (ever ++ lines) → Member l ever
+    back l among = elim (member_append ever lines l among) [ inl m ↦ m | inr m ↦ each_member (λ line. Member line ever) lines all l m ]
+
+pub kept_alike : (kind : LogKind) {kept ever : List (List ℕ)} → Keeps kind kept ever → ReadAlike kind kept ever
+kept_alike kind Empty = refl
+kept_alike kind (Add kept ever lines h) = alike_append kind kept ever lines (kept_alike kind h)
+kept_alike kind (AddAgain kept ever lines all h) = alike_append kind kept ever lines (kept_alike kind h) ∙ alike_again kind ever lines all
+kept_alike kind (Merge kept ever others all h k) = alike_both kind kept ever others all (kept_alike kind h) (kept_alike kind k)
+kept_alike kind (Arrange kept ever arranged same h) = sym (alike_by_members kind kept arranged same) ∙ kept_alike kind h
+kept_alike kind (Compact kept ever h) = compacted_alike kind kept ∙ kept_alike kind h
+
+-- ---- a list is filtered in order
+
+pub filter_with : {X : Type 0} (p : X → Bool) (xs : List X) (x : X) → p x ≡ true → filter p (xs ++ x ∷ []) ≡ filter p xs ++ x ∷ []
+filter_with p xs x h = filter-append p xs (x ∷ []) ∙ rw h refl
+
+pub filter_without : {X : Type 0} (p : X → Bool) (xs : List X) (x : X) → p x ≡ false → filter p (xs ++ x ∷ []) ≡ filter p xs
+filter_without p xs x h = filter-append p xs (x ∷ []) ∙ rw h (append-nil (filter p xs))
+
+-- a line is outdated where the newest entry of its topic is newer
+outdated_in : (kind : LogKind) (lines : List (List ℕ)) (o : Option Entry) → is_outdated_in (newest kind lines) o ≡ outdated_by kind lines o
+outdated_in kind lines None = refl
+outdated_in kind lines (Some e) = sym (any_newer kind lines e)
+
+pub outdated_by_newest : (kind : LogKind) (lines : List (List ℕ)) (line : List ℕ) → is_outdated_in (newest kind lines) (entry_of kind line) ≡ is_outdated kind lines line
+outdated_by_newest kind lines line = outdated_in kind lines (entry_of kind line)
+
+-- a line without a newer one stays
+pub stays : (kind : LogKind) (lines : List (List ℕ)) (line : List ℕ) → Member line lines → ¬ HasNewer kind lines line → Member line (compacted kind lines)
+stays kind lines line among last =
+    among_compacted kind lines line among (by_test (is_outdated kind lines line) (λ t. absurd (last (outdated_has_newer kind lines line t))) (λ t. t))
