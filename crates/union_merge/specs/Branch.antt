@@ -1,6 +1,6 @@
 -- The files of a branch, as a map of their paths to the sets of their lines (git-annex internals: branch files). A branch
 -- stands as the list of its files in byte order of path.
-use Rattle.std.specs.Prelude.{◌≡◌, ℕ, List, [], ◌∷◌, map, Option, Some, None}
+use Rattle.std.specs.Prelude.{ℕ, List, [], Option, Some, None}
 use Rattle.std.specs.List.{fold}
 use Rattle.std.specs.List.Sorted.{IsStrictlySortedBy}
 use Rattle.std.specs.Map.{lookup, keys_of}
@@ -15,7 +15,7 @@ Files = List (List ℕ × List (List ℕ))
 -- a path, like a line, isn't empty and has no newline
 pub record IsBranch (files : Files) : Type 0 where
   pub sorted : IsStrictlySortedBy text_cmp (keys_of files)
-  pub files : Each (λ f. IsLine f.0 × IsLineSet f.1) files
+  pub each : Each (λ f. IsLine f.0 × IsLineSet f.1) files
 
 -- the lines of a file, if it is there
 abbrev pub file_at : Files → List ℕ → Option (List (List ℕ))

@@ -1,3 +1,5 @@
 pub mod Branch
 pub mod Bundle
+pub mod FileView
 pub mod LineSet
+pub mod Parts

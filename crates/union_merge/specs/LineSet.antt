@@ -1,11 +1,11 @@
 -- The lines of a file of a branch, as a set (git-annex internals: branch files, which merge as the union of their lines). A
 -- set stands as the list of its lines, each once, in byte order.
-use Rattle.std.specs.Prelude.{◌≡◌, ◌≢◌, ¬, ℕ, Bool, true, false, not, ◌==◌, List, [], ◌∷◌, ◌++◌, filter, flat_map, Contains}
+use Rattle.std.specs.Prelude.{◌≢◌, ℕ, Bool, true, false, not, ◌==◌, List, [], ◌∷◌, ◌++◌, filter, flat_map}
 use Rattle.std.specs.List.{fold, slice_split}
 use Rattle.std.specs.List.Sorted.{IsStrictlySortedBy}
 use Rattle.std.specs.BTreeSet.{insert_key}
 use Rattle.annex_base.specs.ByteOrder.{text_cmp}
-use Rattle.annex_base.specs.Lists.{Each}
+use Rattle.annex_base.specs.Lists.{Member, Each}
 
 abbrev pub newline : ℕ
 newline = 10
@@ -13,12 +13,12 @@ newline = 10
 -- a line isn't empty and has no newline
 pub record IsLine (line : List ℕ) : Type 0 where
   pub some : line ≢ []
-  pub single : ¬ Contains line newline
+  pub single : ¬ Member newline line
 
 -- lines in byte order, each once
 pub record IsLineSet (lines : List (List ℕ)) : Type 0 where
   pub sorted : IsStrictlySortedBy text_cmp lines
-  pub lines : Each IsLine lines
+  pub each : Each IsLine lines
 
 -- the lines and one more
 abbrev pub with_line : List (List ℕ) → List ℕ → List (List ℕ)

@@ -1,0 +1,16 @@
+pub mod BeginLemmas
+pub mod BranchLemmas
+pub mod EndLemmas
+pub mod ExactLemmas
+pub mod FillLemmas
+pub mod LineLemmas
+pub mod MergeLemmas
+pub mod NumberLemmas
+pub mod OrderLemmas
+pub mod PlaceLemmas
+pub mod PartLemmas
+pub mod ReadLemmas
+pub mod SetLemmas
+pub mod TestLemmas
+pub mod TextLemmas
+pub mod ViewLemmas

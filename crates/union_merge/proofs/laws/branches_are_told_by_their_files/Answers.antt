@@ -1,0 +1,5 @@
+use Rattle.union_merge.proofs.BranchLemmas.{same_files}
+use Rattle.union_merge.proofs.laws.branches_are_told_by_their_files.Goals as goal
+
+pub returns : goal.returns
+returns c = same_files

@@ -1,0 +1,14 @@
+-- A map's entries without where their paths lie in memory.
+use Rattle.std.specs.Prelude.{ℕ, List, map}
+use Rattle.std.specs.declared.vec.Vec.{Vec}
+use Rattle.std.specs.declared.alloc.Global.{Global}
+use Rattle.std.specs.declared.cmp.Ordering.{Ordering}
+use Rattle.annex_base.specs.ByteOrder.{text_cmp}
+use Rattle.union_merge.specs.Branch.{Files}
+
+-- the order of the map's paths
+abbrev pub path_cmp : Vec ℕ Global → Vec ℕ Global → Ordering
+path_cmp x y = text_cmp x.items y.items
+
+abbrev pub seen : List (Vec ℕ Global × List (List ℕ)) → Files
+seen entries = map (λ e. (e.0.items, e.1)) entries

@@ -1,0 +1,253 @@
+ghost use Rattle.std.specs.Prelude.{◌≡◌, ◌+◌, ◌<◌, ◌↔◌, List, ℕ, [], ◌∷◌, ◌++◌, length, insert, IsTrue, IfOk, IfErr, OnOk, OnErr, MatchBool, MatchOption, IfSome, map, ◌≤◌};
+ghost use Rattle.std.specs.Cmp.Rules.{comparing};
+ghost use Rattle.std.specs.Cmp.Lexicographic.{pointwise};
+ghost use Rattle.std.specs.Prelude.{◌==◌};
+ghost use Rattle.std.specs.List.Sorted.{IsStrictlySortedBy};
+ghost use Rattle.std.specs.List.{slice_split};
+ghost use Rattle.std.proofs.Common.{rules};
+ghost use Rattle.annex_base.specs.ByteOrder.{text_cmp};
+ghost use Rattle.annex_base.specs.Lists.{Member, Each};
+ghost use Rattle.union_merge.specs.LineSet.{IsLine, IsLineSet, with_line, union, lines_in, set_of, text_of};
+
+use crate::parts::cut_at;
+use annex_base::{Line, NoMemory};
+use std::alloc::{AllocError, Global};
+use std::cmp::Ordering;
+use std::marker::Model;
+
+/// The lines of a file of a branch, as a set (git-annex internals: branch files). Contracts see it as the list of its
+/// lines in byte order, each once. A line has a byte or more, and no newline.
+#[derive(Debug, Drop)]
+pub struct LineSet {
+    lines: Vec<Line>,
+}
+
+impl Model for LineSet {
+    ghost use Rattle.std.specs.Prelude.{List, ℕ};
+    ghost use Rattle.union_merge.specs.LineSet.{IsLineSet};
+
+    ghost Value = { List (List ℕ) };
+
+    ghost view = { λ s. s.lines.items };
+
+    ghost invariant = { λ s. IsLineSet s.lines.items };
+}
+
+impl LineSet {
+    /// No lines.
+    pub fn new(alloc: Global) -> LineSet
+        ensures { result ≡ [] }
+    {
+        LineSet {
+            lines: Vec::new(alloc),
+        }
+    }
+
+    /// The lines of a file's bytes. A line ends at a newline or at the end of the bytes, and empty lines don't count.
+    pub fn from_bytes(alloc: Global, bytes: &[u8]) -> Result<LineSet, NoMemory>
+        ensures { IfOk result (λ s. s ≡ set_of bytes.now) }
+    {
+        let lines = lines_of(alloc, bytes)?;
+        Ok(LineSet::from_lines(lines))
+    }
+
+    /// The set of these lines, which may stand in any order and more than once.
+    pub fn from_lines(lines: Vec<Line>) -> LineSet
+        requires { Each IsLine lines.items }
+        ensures { result ≡ union [] lines.items }
+    {
+        let mut lines = lines;
+        lines.sort_unstable();
+        lines.dedup();
+        LineSet { lines }
+    }
+
+    /// Adds a line, and answers whether it is new.
+    pub fn insert(&mut self, line: &[u8]) -> Result<bool, NoMemory>
+        requires { IsLine line.now }
+        ensures ok { OnOk result (self.new ≡ with_line self.old line.now) }
+        ensures new_line { IfOk result (λ b. MatchBool b (Member line.now self.old → ⊥) (Member line.now self.old)) }
+        ensures err { OnErr result (self.new ≡ self.old) }
+    {
+        let place = place_of(&self.lines, line);
+        let Err(at) = place else {
+            return Ok(false);
+        };
+        let alloc = *self.lines.allocator();
+        let copy = Line::new(alloc, line)?;
+        self.lines.insert(at, copy)?;
+        Ok(true)
+    }
+
+    /// The lines of both sets.
+    pub fn union(&self, other: &LineSet) -> Result<LineSet, NoMemory>
+        ensures { IfOk result (λ s. s ≡ union self.now other.now) }
+    {
+        let alloc = *self.lines.allocator();
+        let lines = merged_lines(alloc, &self.lines, other.lines())?;
+        Ok(LineSet { lines })
+    }
+
+    /// Adds the lines of another set.
+    pub fn merge(&mut self, other: &LineSet) -> Result<(), NoMemory>
+        ensures ok { OnOk result (self.new ≡ union self.old other.now) }
+        ensures err { OnErr result (self.new ≡ self.old) }
+    {
+        *self = self.union(other)?;
+        Ok(())
+    }
+
+    /// The same lines once more.
+    pub fn copy(&self) -> Result<LineSet, NoMemory>
+        ensures value { IfOk result (λ s. s ≡ self.now) }
+        ensures set { IsLineSet self.now }
+    {
+        let _ = &self.lines;
+        Ok(self.clone()?)
+    }
+
+    /// Whether the line is in the set.
+    pub fn contains(&self, line: &[u8]) -> bool
+        ensures { IsTrue result ↔ Member line.now self.now }
+    {
+        place_of(&self.lines, line).is_ok()
+    }
+
+    /// The lines in byte order.
+    pub fn lines(&self) -> &[Line]
+        ensures value { result.now ≡ self.now }
+        ensures set { IsLineSet self.now }
+    {
+        &self.lines
+    }
+
+    /// The bytes of a file with these lines: each line and a newline.
+    pub fn to_bytes(&self) -> Result<Vec<u8>, NoMemory>
+        ensures { IfOk result (λ v. v.items ≡ text_of self.now) }
+    {
+        let alloc = *self.lines.allocator();
+        let mut out = Vec::new(alloc);
+        put_lines(&mut out, &self.lines)?;
+        Ok(out)
+    }
+}
+
+/// Whether the bytes are a line: a byte or more, and no newline.
+pub fn is_line(bytes: &[u8]) -> bool
+    ensures { IsTrue result ↔ IsLine bytes.now }
+{
+    !bytes.is_empty() && cut_at(bytes, b'\n').is_none()
+}
+
+impl Clone for LineSet {
+    ghost is_clone = { λ x y. y ≡ x };
+
+    fn clone(&self) -> Result<LineSet, AllocError> {
+        Ok(LineSet {
+            lines: self.lines.clone()?,
+        })
+    }
+}
+
+impl PartialEq for LineSet {
+    ghost eq = { pointwise (pointwise ◌==◌) };
+
+    ghost laws = { Prim.search (comparing, rules) };
+
+    fn eq(&self, other: &LineSet) -> bool {
+        self.lines == other.lines
+    }
+}
+
+impl Eq for LineSet {
+    ghost laws = { Prim.search (comparing, rules) };
+}
+
+fn pieces_of(alloc: Global, bytes: &[u8]) -> Result<Vec<&[u8]>, AllocError>
+    ensures { IfOk result (λ v. map (λ w. w.now) v.items ≡ slice_split (λ b. b == 10) bytes.now) }
+{
+    bytes.split(|b| *b == b'\n').collect(alloc)
+}
+
+fn lines_of(alloc: Global, bytes: &[u8]) -> Result<Vec<Line>, NoMemory>
+    ensures { IfOk result (λ v. v.items ≡ lines_in bytes.now) }
+{
+    let pieces = pieces_of(alloc, bytes)?;
+    let mut lines = Vec::new(alloc);
+    for piece in &pieces {
+        if !piece.is_empty() {
+            lines.push(Line::new(alloc, piece)?)?;
+        }
+    }
+    Ok(lines)
+}
+
+// Where the line stands, or where it would go.
+fn place_of(lines: &[Line], line: &[u8]) -> Result<usize, usize>
+    requires { IsStrictlySortedBy text_cmp lines.now }
+    ensures found { OnOk result (Member line.now lines.now) }
+    ensures missing { OnErr result (Member line.now lines.now → ⊥) }
+    ensures place { IfErr result (λ at. insert lines.now at line.now ≡ with_line lines.now line.now) }
+    ensures within { IfErr result (λ at. at ≤ length lines.now) }
+{
+    lines.binary_search_by(
+        |other: &Line| -> Ordering
+            ensures { result ≡ text_cmp other.now line.entry.now }
+        { other.bytes().cmp(line) },
+    )
+}
+
+// The least line of both, and what is left.
+fn split_least<'a>(
+    ours: &'a [Line],
+    theirs: &'a [Line],
+) -> Option<(&'a Line, &'a [Line], &'a [Line])>
+    requires ours { IsStrictlySortedBy text_cmp ours.now }
+    requires theirs { IsStrictlySortedBy text_cmp theirs.now }
+    ensures value { MatchOption result (union ours.now theirs.now ≡ []) (λ t. union ours.now theirs.now ≡ t.0.now ∷ union t.1.now t.2.now) }
+    ensures ours { IfSome result (λ t. IsStrictlySortedBy text_cmp t.1.now) }
+    ensures theirs { IfSome result (λ t. IsStrictlySortedBy text_cmp t.2.now) }
+    ensures less { IfSome result (λ t. length t.1.now + length t.2.now < length ours.now + length theirs.now) }
+{
+    let Some((x, xs)) = ours.split_first() else {
+        return match theirs.split_first() {
+            Some((y, ys)) => Some((y, ours, ys)),
+            None => None,
+        };
+    };
+    let Some((y, ys)) = theirs.split_first() else {
+        return Some((x, xs, theirs));
+    };
+    match x.cmp(y) {
+        Ordering::Less => Some((x, xs, theirs)),
+        Ordering::Equal => Some((x, xs, ys)),
+        Ordering::Greater => Some((y, ours, ys)),
+    }
+}
+
+fn merged_lines(alloc: Global, ours: &[Line], theirs: &[Line]) -> Result<Vec<Line>, NoMemory>
+    requires ours { IsStrictlySortedBy text_cmp ours.now }
+    requires theirs { IsStrictlySortedBy text_cmp theirs.now }
+    ensures { IfOk result (λ v. v.items ≡ union ours.now theirs.now) }
+{
+    let mut out = Vec::new(alloc);
+    let mut ours = ours;
+    let mut theirs = theirs;
+    while let Some((line, xs, ys)) = split_least(ours, theirs) {
+        out.push(line.clone()?)?;
+        ours = xs;
+        theirs = ys;
+    }
+    Ok(out)
+}
+
+/// Adds each line and a newline.
+pub fn put_lines(out: &mut Vec<u8>, lines: &[Line]) -> Result<(), NoMemory>
+    ensures { OnOk result (out.new.items ≡ out.old.items ++ text_of lines.now) }
+{
+    for line in lines {
+        out.extend_from_slice(line.bytes())?;
+        out.push(b'\n')?;
+    }
+    Ok(())
+}
