@@ -12,6 +12,7 @@ import time
 
 TOP = pathlib.Path(__file__).resolve().parent.parent
 PROGRAM = TOP / "crates" / "annex" / "out" / "annex"
+LOGS = TOP / "crates" / "log_bench" / "out" / "log_bench"
 RUNS = 5
 
 
@@ -48,24 +49,31 @@ def shows(keys, count):
     return lines + ["show presence %s" % key(s % keys) for s in range(count)]
 
 
-def median_time(lines):
-    script = ("\n".join(lines) + "\n").encode()
-    assert len(script) <= 1_048_576, "a script has at most 1,048,576 bytes, this one %d" % len(script)
+def median_time(command, text=b""):
     times = []
     for _ in range(RUNS):
         begin = time.perf_counter()
-        done = subprocess.run([str(PROGRAM), "run"], input=script, stdout=subprocess.PIPE, check=True)
+        subprocess.run(command, input=text, stdout=subprocess.PIPE, check=True)
         times.append(time.perf_counter() - begin)
-        assert done.stdout is not None
     return statistics.median(times)
 
 
-def table(title, rows):
+def run_time(lines):
+    script = ("\n".join(lines) + "\n").encode()
+    assert len(script) <= 1_048_576, "a script has at most 1,048,576 bytes, this one %d" % len(script)
+    return median_time([str(PROGRAM), "run"], script)
+
+
+def log_time(work, number):
+    return median_time([str(LOGS), work, str(number)])
+
+
+def table(title, rows, timed=run_time):
     print(title)
     print("  %12s %12s %12s %12s" % ("size", "ms", "work", "time"))
     before = None
-    for size, work, lines in rows:
-        took = median_time(lines)
+    for size, work, what in rows:
+        took = timed(what)
         if before is None:
             print("  %12s %12.2f" % (size, 1000 * took))
         else:
@@ -83,6 +91,20 @@ def main():
     table("keys, with 1,000 drops at 2 repositories", [(k, k, drops(2, k, 1000)) for k in (10, 100, 1000, 10000)])
     table("repositories, with 1,000 keys and 1,000 drops", [(r, r, drops(r, 1000, 1000)) for r in range(2, 9)])
     table("shows, of 1,000 keys", [(s, s, shows(1000, s)) for s in (10, 100, 1000, 10000)])
+    if not LOGS.exists():
+        subprocess.run(["rt", "run"], cwd=LOGS.parent.parent, stdout=subprocess.DEVNULL, check=True)
+    for work, title in (
+        ("sets", "lines, made into a set; half of the number"),
+        ("merge", "lines, two sets of half the number merged"),
+        ("newest", "lines, merged and their newest entries read"),
+    ):
+        table(title, [(n, n, n) for n in (1000, 10000, 100000)], lambda n: log_time(work, n))
+    for work, title in (
+        ("branch", "location logs, put into a branch"),
+        ("settings", "location logs, and the settings of their branch read"),
+        ("claims", "location logs, and the claims of one key read"),
+    ):
+        table(title, [(n, n, n) for n in (100, 1000, 10000, 30000)], lambda n: log_time(work, n))
 
 
 if __name__ == "__main__":

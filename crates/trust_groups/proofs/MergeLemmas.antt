@@ -1,0 +1,57 @@
+-- What merges, compactions and a branch's own lines keep.
+use Rattle.std.proofs.Common.{◌≡◌, ◌≢◌, ◌⊎◌, inl, inr, ℕ, List, [], ◌∷◌, ◌++◌, refl, sym, ap, subst, ◌∙◌}
+use Rattle.annex_base.specs.Lists.{Member, Each}
+use Rattle.log_lines.specs.declared.entry.LogKind.{LogKind}
+use Rattle.log_lines.specs.declared.entry.LogKind.TheVariants as kinds
+use Rattle.log_lines.specs.Newest.{compacted}
+use Rattle.log_lines.specs.Keeping.{SameLines, Keeps}
+use Rattle.log_lines.specs.Keeping.Keeps.{Empty, Add, Merge, Arrange, Compact}
+use Rattle.log_lines.proofs.CompactLemmas.{member_append, append_first, append_second}
+use Rattle.union_merge.specs.LineSet.{union}
+use Rattle.union_merge.specs.Branch.{Files, IsBranch, lines_at, merged, merged_all}
+use Rattle.union_merge.proofs.SetLemmas.{Member-union, union-left, union-right}
+use Rattle.union_merge.proofs.MergeLemmas.{lines_at-merged, merged_all-order}
+use Rattle.trust_groups.specs.Settings.{Lines, file_name, location_path, settings}
+use Rattle.trust_groups.specs.Alike.{KeepsFiles, MayCompact, CompactsFiles}
+
+own_lines : (kind : LogKind) (lines : List (List ℕ)) → Keeps kind lines lines
+own_lines kind lines = Add [] [] lines Empty
+
+pub own_files : (x : Lines) → KeepsFiles x x
+own_files x = record {
+  files = λ kind other. own_lines kind (x (file_name kind));
+  locations = λ key. own_lines kinds.Location (x (location_path key));
+}
+
+still_kept : (kind : LogKind) (old new ever : List (List ℕ)) → MayCompact kind old new → Keeps kind old ever → Keeps kind new ever
+still_kept kind old new ever (inl same) keeps = subst (λ lines. Keeps kind lines ever) (sym same) keeps
+still_kept kind old new ever (inr less) keeps = subst (λ lines. Keeps kind lines ever) (sym less) (Compact old ever keeps)
+
+pub compacted_files : (old new ever : Lines) → CompactsFiles old new → KeepsFiles old ever → KeepsFiles new ever
+compacted_files old new ever compacts keeps = record {
+  files = λ kind other. still_kept kind (old (file_name kind)) (new (file_name kind)) (ever (file_name kind)) (compacts.files kind other) (keeps.files kind other);
+  locations = λ key. still_kept kinds.Location (old (location_path key)) (new (location_path key)) (ever (location_path key)) (compacts.locations key) (keeps.locations key);
+}
+
+both_lines : (xs ys : List (List ℕ)) → SameLines (xs ++ ys) (union xs ys)
+both_lines xs ys line = (
+  λ among. elim (member_append xs ys line among) [ inl left ↦ union-left line xs ys left | inr right ↦ union-right line xs ys right ],
+  λ among. elim (Member-union line xs ys among) [ inl left ↦ append_first xs ys line left | inr right ↦ append_second xs ys line right ],
+)
+
+merged_lines : (kind : LogKind) (xs ys : Files) (ever others : Lines) (path : List ℕ) → IsBranch xs → IsBranch ys
+    → Keeps kind (lines_at xs path) (ever path) → Keeps kind (lines_at ys path) (others path) → Keeps kind (lines_at (merged xs ys) path) (ever path ++ others path)
+merged_lines kind xs ys ever others path one two first second =
+    let ours = lines_at xs path in
+    let theirs = lines_at ys path in
+    subst (λ lines. Keeps kind lines (ever path ++ others path)) (sym (lines_at-merged path xs ys one two))
+    (Arrange (ours ++ theirs) (ever path ++ others path) (union ours theirs) (both_lines ours theirs) (Merge ours (ever path) theirs (others path) first second))
+
+pub merged_files : (xs ys : Files) (ever others : Lines) → IsBranch xs → IsBranch ys → KeepsFiles (lines_at xs) ever → KeepsFiles (lines_at ys) others → KeepsFiles (lines_at (merged xs ys)) (λ path. ever path ++ others path)
+merged_files xs ys ever others one two first second = record {
+  files = λ kind other. merged_lines kind xs ys ever others (file_name kind) one two (first.files kind other) (second.files kind other);
+  locations = λ key. merged_lines kinds.Location xs ys ever others (location_path key) one two (first.locations key) (second.locations key);
+}
+
+pub any_order : (start : Files) (xs ys : List Files) → IsBranch start → Each IsBranch xs → Each IsBranch ys → ((b : Files) → (Member b xs → Member b ys) × (Member b ys → Member b xs)) → settings (lines_at (merged_all start xs)) ≡ settings (lines_at (merged_all start ys))
+any_order start xs ys is first second same = ap (λ b. settings (lines_at b)) (merged_all-order start xs ys is first second (λ b. (same b).0) (λ b. (same b).1))

@@ -1,0 +1,8 @@
+use Rattle.trust_groups.proofs.ClaimLemmas.{claims_exact, claims_sorted}
+use Rattle.trust_groups.proofs.laws.claims_are_exact.Goals as goal
+
+pub returns-clause-each : goal.returns-clause-each
+returns-clause-each c = claims_exact
+
+pub returns-clause-sorted : goal.returns-clause-sorted
+returns-clause-sorted c = claims_sorted

@@ -1,0 +1,8 @@
+use Rattle.trust_groups.proofs.ClaimLemmas.{grouped_exact, grouped_sorted}
+use Rattle.trust_groups.proofs.laws.grouped_are_exact.Goals as goal
+
+pub returns-clause-each : goal.returns-clause-each
+returns-clause-each c = grouped_exact
+
+pub returns-clause-sorted : goal.returns-clause-sorted
+returns-clause-sorted c = grouped_sorted

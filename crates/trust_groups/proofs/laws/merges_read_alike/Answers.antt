@@ -1,0 +1,14 @@
+use Rattle.trust_groups.proofs.MergeLemmas.{own_files, compacted_files, merged_files, any_order}
+use Rattle.trust_groups.proofs.laws.merges_read_alike.Goals as goal
+
+pub returns-clause-own : goal.returns-clause-own
+returns-clause-own c = own_files
+
+pub returns-clause-compacted : goal.returns-clause-compacted
+returns-clause-compacted c = compacted_files
+
+pub returns-clause-merged : goal.returns-clause-merged
+returns-clause-merged c = merged_files
+
+pub returns-clause-order : goal.returns-clause-order
+returns-clause-order c = any_order

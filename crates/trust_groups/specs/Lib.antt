@@ -1,0 +1,5 @@
+pub mod Alike
+pub mod Claims
+pub mod Kept
+pub mod Settings
+pub mod View

@@ -1,0 +1,48 @@
+//! Laws of what a branch says, which no call depends on.
+ghost use Rattle.std.specs.Prelude.{◌≡◌, ◌≢◌, ◌↔◌, ◌≤◌, ◌++◌, ℕ, List, []};
+ghost use Rattle.std.specs.List.Sorted.{IsStrictlySortedBy};
+ghost use Rattle.annex_base.specs.ByteOrder.{text_cmp};
+ghost use Rattle.annex_base.specs.Lists.{Member, Each};
+ghost use Rattle.union_merge.specs.Branch.{Files, IsBranch, lines_at, merged, merged_all};
+ghost use Rattle.trust_groups.specs.Settings.{Lines, settings, claims, grouped, groups, numcopies, mincopies};
+ghost use Rattle.trust_groups.specs.Alike.{SameFiles, SameReading, KeepsFiles, CompactsFiles};
+ghost use Rattle.trust_groups.specs.Claims.{IsClaimed};
+
+/// Branches whose log files read alike have the same settings: so those with the same lines, in any order and any number,
+/// those of which some files were compacted, and those to which the same lines were ever added.
+pub fn equal_lines_read_alike()
+    ensures readings { (x y : Lines) → SameReading x y → settings x ≡ settings y }
+    ensures lines { (x y : Lines) → SameFiles x y → settings x ≡ settings y }
+    ensures compacted { (old new : Lines) → CompactsFiles old new → settings new ≡ settings old }
+    ensures kept { (kept ever : Lines) → KeepsFiles kept ever → settings kept ≡ settings ever }
+{}
+
+/// A branch keeps the lines that are in it, still after some of its files are compacted, and after a merge it keeps the lines
+/// that either branch kept. So whichever branches are merged, in whatever order and however often, and whatever is compacted
+/// in between, what is read in the end is what all lines together say (git-annex internals: branch files; compaction is
+/// the project's own).
+pub fn merges_read_alike()
+    ensures own { (x : Lines) → KeepsFiles x x }
+    ensures compacted { (old new ever : Lines) → CompactsFiles old new → KeepsFiles old ever → KeepsFiles new ever }
+    ensures merged { (xs ys : Files) (ever others : Lines) → IsBranch xs → IsBranch ys → KeepsFiles (lines_at xs) ever → KeepsFiles (lines_at ys) others → KeepsFiles (lines_at (merged xs ys)) (λ path. ever path ++ others path) }
+    ensures order { (start : Files) (xs ys : List Files) → IsBranch start → Each IsBranch xs → Each IsBranch ys → ((b : Files) → Member b xs ↔ Member b ys) → settings (lines_at (merged_all start xs)) ≡ settings (lines_at (merged_all start ys)) }
+{}
+
+/// A repository is claimed to have a key exactly where its newest status is 1 and it isn't dead (git-annex internals:
+/// location log; git-annex-dead). Each stands once, in order of identifier.
+pub fn claims_are_exact()
+    ensures each { (lines : Lines) (key repo : List ℕ) → Member repo (claims lines key) ↔ IsClaimed lines key repo }
+    ensures sorted { (lines : Lines) (key : List ℕ) → IsStrictlySortedBy text_cmp (claims lines key) }
+{}
+
+/// A repository is grouped exactly where it is in a group (git-annex-group). Each stands once, in order of identifier.
+pub fn grouped_are_exact()
+    ensures each { (lines : Lines) (repo : List ℕ) → Member repo (grouped lines) ↔ (groups lines repo ≢ []) }
+    ensures sorted { (lines : Lines) → IsStrictlySortedBy text_cmp (grouped lines) }
+{}
+
+/// No branch asks for fewer than one copy (own).
+pub fn some_copies_are_wanted()
+    ensures numcopies { (lines : Lines) → 1 ≤ numcopies lines }
+    ensures mincopies { (lines : Lines) → 1 ≤ mincopies lines }
+{}

@@ -1,0 +1,27 @@
+//! What a branch sets: trust, numbers of copies, groups, texts, and which repositories are claimed to have a key.
+#![tactic(auto)]
+
+mod claims;
+mod copies;
+mod crossing;
+mod entries;
+mod files;
+mod groups;
+mod laws;
+mod levels;
+mod settings;
+mod values;
+
+pub use claims::claims_of;
+pub use copies::{mincopies_of, numcopies_of};
+pub use files::{file_name, location_path};
+pub use groups::groups_of;
+pub use laws::{
+    claims_are_exact, equal_lines_read_alike, grouped_are_exact, merges_read_alike,
+    some_copies_are_wanted,
+};
+pub use levels::Levels;
+pub use settings::Settings;
+
+#[cfg(test)]
+mod tests;
