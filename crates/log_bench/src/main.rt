@@ -5,8 +5,8 @@ use annex_base::NoMemory;
 use annex_key::Key;
 use log_lines::{LogKind, newest};
 use std::alloc::Global;
-use std::process::ExitCode;
 use std::env;
+use std::process::ExitCode;
 use trust_groups::{Settings, location_path};
 use union_merge::{Branch, LineSet};
 
@@ -71,7 +71,9 @@ fn found(alloc: Global, work: &str, number: u32) -> Result<usize, NoMemory> {
         "merge" => both(alloc, number)?.lines().len(),
         "newest" => newest(alloc, LogKind::Location, both(alloc, number)?.lines())?.len(),
         "branch" => branch_of(alloc, number)?.paths()?.len(),
-        "settings" => Settings::read(alloc, &branch_of(alloc, number)?)?.grouped()?.len(),
+        "settings" => Settings::read(alloc, &branch_of(alloc, number)?)?
+            .grouped()?
+            .len(),
         "claims" => {
             let settings = Settings::read(alloc, &branch_of(alloc, number)?)?;
             settings.claims(&key_of(alloc, 0)?)?.len()
