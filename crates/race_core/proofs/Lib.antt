@@ -8,7 +8,4 @@ pub mod Pasts
 pub mod AtPlaces
 pub mod ThinCauses
 pub mod Checking
-pub mod ThinReads
-pub mod ReadLaws
-pub mod ReadingFacts
 pub mod CheckedFacts

@@ -1,26 +1,16 @@
-mod AskLoop
-mod Asked
-mod Changes
-mod Deciding
-mod Gathering
-mod Logging
-mod Paths
-mod Readings
-mod Scripts
-mod SetUps
-mod Steps
 mod Tables
-pub mod ThinAdded
-pub mod ThinAsking
-pub mod ThinBranches
-pub mod ThinDeciding
-pub mod ThinDropping
-pub mod ThinLines
+mod Changes
+mod Evidence
+mod Steps
+mod Asked
+mod AskLoop
+mod Deciding
+mod Scripts
 pub mod ThinLists
-pub mod ThinLogging
+pub mod ThinAdded
 pub mod ThinPasts
-pub mod ThinPrograms
+pub mod ThinAsking
+pub mod ThinDeciding
 pub mod ThinReleasing
+pub mod ThinDropping
 pub mod ThinScripts
-pub mod ThinSets
-mod Walks

@@ -1,6 +1,4 @@
-pub mod Asking
 pub mod Driver
-pub mod Reading
-pub mod Setting
-pub mod Standing
 pub mod State
+pub mod Asking
+pub mod Standing

@@ -1,0 +1,17 @@
+use Rattle.script_lang.proofs.LineLemmas.{no_verb}
+use Rattle.script_lang.proofs.lines.read_three.Goals as goal
+
+pub returns-in_default : goal.returns-in_default
+returns-in_default c = no_verb c.args.verb.now _ c.args.repos.now c.args.closed c.in_default.ensures
+
+pub returns-in-Numcopies : goal.returns-in-Numcopies
+returns-in-Numcopies c = rw (c.in-Some.ensures, c.in-Numcopies.is) (c.read_numcopies.ensures c.args.closed)
+
+pub returns-in-Mincopies : goal.returns-in-Mincopies
+returns-in-Mincopies c = rw (c.in-Some.ensures, c.in-Mincopies.is) (c.read_mincopies.ensures c.args.closed)
+
+pub returns-in-Drop : goal.returns-in-Drop
+returns-in-Drop c = rw (c.in-Some.ensures, c.in-Drop.is) (c.read_drop.ensures c.args.closed)
+
+pub returns-in-Show : goal.returns-in-Show
+returns-in-Show c = rw (c.in-Some.ensures, c.in-Show.is) (c.read_show.ensures c.args.closed)
