@@ -1,10 +1,10 @@
 -- The text of an identifier is 36 bytes of ASCII, and parses to the identifier alone.
-use Rattle.std.proofs.Common.{◌≡◌, ℕ, ◌+◌, ◌*◌, ◌<◌, Bool, true, false, ◌&&◌, ◌==◌, if◌then◌else◌, true≢false, List, length, slice_index, Some, None, Option, unwrap_or, [], inl, refl, sym, ap, subst, ◌∙◌, arith}
+use Rattle.std.proofs.Common.{◌≡◌, ℕ, ◌+◌, ◌*◌, ◌<◌, ◌≤◌, Bool, true, false, ◌&&◌, ◌==◌, if◌then◌else◌, true≢false, List, length, slice_index, Some, None, Option, unwrap_or, [], inl, refl, sym, ap, subst, ◌∙◌, arith}
 use Rattle.std.specs.Str.{IsAscii}
 use Rattle.std.specs.List.{list_all}
 use Rattle.std.proofs.lemmas.Bool.Decides.{nat_tests, Decides-eqb}
-use Rattle.std.proofs.lemmas.List.Sums.{AllPass-from_list_all}
-use Rattle.uuid.specs.Text.{parsed, parsed_simple, parsed_hyphenated, digits_of, by_index, byte_of_digits, is_hex_digit, value_of, lower}
+use Rattle.std.proofs.lemmas.List.Sums.{AllPass-from_list_all, list_all-from_AllPass}
+use Rattle.uuid.specs.Text.{parsed, parsed_simple, parsed_hyphenated, digits_of, by_index, byte_of_digits, is_hex_digit, value_of, lower, hyphen, hex_digit, nibble, digit_place, is_hyphen_place}
 use Rattle.uuid.proofs.RoundTrips.{parses_hyphenated}
 use Rattle.uuid.proofs.TextLemmas.{by_index_length, by_index_at, hyphenated_ascii}
 use Rattle.annex_base.specs.RepoText.{IsId, repo_text}
@@ -61,3 +61,18 @@ parsed_id text word bytes spelled whole {found} is read =
     let long : length word ≡ 36 = ap length (whole ∙ spelled) ∙ length-repo_text bytes in
     let digits = some_where _ (parsed_simple (digits_of word)) found (read ∙ parsed_at_36 word long) in
     subst IsId (sym is) (simple_id (digits_of word) found digits.1)
+
+-- ---- what holds of every byte from the hyphen on holds of the text's bytes
+
+hex_above : (d : ℕ) → 45 ≤ hex_digit lower d
+hex_above d = grind (arith, nat_tests)
+
+byte_above : (b : Bool) (d : ℕ) → 45 ≤ (if b then hyphen else hex_digit lower d)
+byte_above true d = omega arith
+byte_above false d = hex_above d
+
+pub repo_text-all : (p : ℕ → Bool) → ((b : ℕ) → 45 ≤ b → p b ≡ true) → (id : List ℕ) → list_all p (repo_text id) ≡ true
+repo_text-all p above id =
+    let f : ℕ → ℕ = λ k. if is_hyphen_place k then hyphen else hex_digit lower (nibble id (digit_place k)) in
+    list_all-from_AllPass p (repo_text id) (λ k d within.
+    rw (by_index_at 36 f k d (subst (λ n. k < n) (length-repo_text id) within)) (above (f k) (byte_above (is_hyphen_place k) (nibble id (digit_place k)))))

@@ -1,6 +1,9 @@
 -- The evidence of a drop (git-annex-numcopies and git-annex-mincopies; how it is gathered is the project's own).
-use Rattle.std.specs.Prelude.{◌≡◌, refl, ℕ, ◌+◌, Bool, true, false, not, ◌&&◌, ◌||◌, if◌then◌else◌, ◌==◌, List, [], ◌∷◌, ◌++◌, filter, Option, Some, None}
+use Rattle.std.specs.Prelude.{◌≡◌, refl, ℕ, ◌+◌, Bool, true, false, not, ◌&&◌, ◌||◌, if◌then◌else◌, ◌==◌, List, [], ◌∷◌, ◌++◌, filter, length, Option, Some, None, bytes_eq}
 use Rattle.std.specs.List.{range_with_len, list_any}
+use Rattle.annex_base.specs.Settings.{Settings}
+use Rattle.annex_base.specs.declared.kinds.Level.{Level}
+use Rattle.annex_base.specs.declared.kinds.Level.TheVariants as levels
 use Rattle.annex_base.specs.declared.kinds.Found.{Found}
 use Rattle.annex_base.specs.declared.kinds.Found.TheVariants.{Present, Absent as found_absent, Barred as found_barred}
 use Rattle.drop_proof.specs.declared.rule.Need.{Need}
@@ -16,10 +19,14 @@ use Rattle.run_model.specs.declared.entry.By.TheVariants.{Job as by_job, Peer}
 use Rattle.run_model.specs.declared.entry.EntryKind.{EntryKind}
 use Rattle.run_model.specs.declared.entry.EntryKind.TheVariants.{Share, Check, End}
 use Rattle.run_model.specs.declared.job.Cause.{Cause}
-use Rattle.run_model.specs.declared.job.Cause.TheVariants.{Absent, Barred, Fault}
+use Rattle.run_model.specs.declared.job.Cause.TheVariants.{Absent, Barred, Fault, Untrusted as cause_untrusted, Dead as cause_dead}
 use Rattle.run_model.specs.declared.job.CandidateCause.{CandidateCause}
 use Rattle.run_model.specs.declared.job.Proof.{Proof}
-use Rattle.run_model.specs.Past.{is_of, is_lost_ordered, Running, Decision, jobs, decided, runs}
+use Rattle.run_model.specs.declared.job.Job.{Job}
+use Rattle.run_model.specs.declared.run.RepoView.{RepoView}
+use Rattle.run_model.specs.SetUp.{id_of, offset_of}
+use Rattle.run_model.specs.Past.{is_of, is_lost_ordered, Running, Decision, begun_job, jobs, decided, runs}
+use Rattle.run_model.specs.Logs.{read_at, settings_of}
 
 -- ---- what a repository says of its copy
 
@@ -127,10 +134,25 @@ pub data Standing : Type 0 where
   Ignored : (cause : Cause) → Standing  -- untrusted or dead
   Asked : Standing
 
--- every repository is asked: nothing is read of the logs yet. Only a proof that names it opens this definition, so that
--- laws can hold for whatever is read later
-unfoldable pub standing : List Entry → ℕ → ℕ → ℕ → Standing
-standing past a j r = Asked
+abbrev pub seen : Level → Bool → Standing
+seen levels.Trusted true = Claimed
+seen levels.Trusted false = Asked
+seen levels.Semitrusted claimed = Asked
+seen levels.Untrusted claimed = Ignored cause_untrusted
+seen levels.Dead claimed = Ignored cause_dead
+
+abbrev pub key_in : Option Job → List ℕ
+key_in None = []
+key_in (Some job) = job.key
+
+-- how settings see a repository, for a job on this key
+abbrev pub standing_by : Settings → List ℕ → List ℕ → Standing
+standing_by s key repo = seen (s.level repo) (list_any (λ claimed. bytes_eq claimed repo) (s.claims key))
+
+-- how the logs see r, as job j of a reads them. Only a proof that names it opens this definition: laws hold whatever is read
+unfoldable pub standing : List RepoView → List Entry → ℕ → ℕ → ℕ → Standing
+standing repos past a j r =
+    let read = read_at past a j in standing_by (settings_of read a) (key_in (begun_job read a j)) (id_of repos r)
 
 pub data Offer : Type 0 where
   Gives : Kind → Offer
@@ -167,17 +189,27 @@ candidates Local n a target = but a (range_with_len 0 n)
 candidates Remote n a target = a ∷ but target (but a (range_with_len 0 n))
 
 -- what a candidate offers job j of a
-abbrev pub asked : (ℕ → ℕ) → List Entry → ℕ → ℕ → ℕ → Offer
-asked offset past a j r = offer (offset a) (standing past a j r) (reply past a j r)
+abbrev pub asked : List RepoView → List Entry → ℕ → ℕ → ℕ → Offer
+asked repos past a j r = offer (offset_of repos a) (standing repos past a j r) (reply past a j r)
 
--- a job whose bar was put has read the logs: no later entry changes what it read. Laws use no more of the reading
-pub standing-kept : (e : Entry) (past : List Entry) (a j r : ℕ) (d : Decision) → decided past a j ≡ Some d → standing (e ∷ past) a j r ≡ standing past a j r
-unfolding standing
-standing-kept e past a j r d h = refl
+-- the candidate is to be asked, and has told nothing yet
+abbrev pub is_waiting : Standing → Option Vouch → Option Cause → Bool
+is_waiting Asked None None = true
+is_waiting _ _ _ = false
 
--- the evidence of job j of a, a drop from the target
-abbrev pub evidence : Side → ℕ → (ℕ → ℕ) → List Entry → ℕ → ℕ → ℕ → Need → List Evidence
-evidence side n offset past a j target need = gather side need (asked offset past a j) (candidates side n a target) []
+-- job j of a still waits for what r tells
+abbrev pub waits : List RepoView → List Entry → ℕ → ℕ → ℕ → Bool
+waits repos past a j r = is_waiting (standing repos past a j r) (reply past a j r) (told_cause past a j r)
+
+-- the candidates before the first for which the job waits
+abbrev pub reached : (ℕ → Bool) → List ℕ → List ℕ
+reached waits [] = []
+reached waits (c ∷ cs) = if waits c then [] else c ∷ reached waits cs
+
+-- the evidence of job j of a, a drop from the target: what the candidates gave before the first for which it waits
+abbrev pub evidence : Side → List RepoView → List Entry → ℕ → ℕ → ℕ → Need → List Evidence
+evidence side repos past a j target need =
+    gather side need (asked repos past a j) (reached (waits repos past a j) (candidates side (length repos) a target)) []
 
 -- ---- what a drop's outcome says
 
@@ -215,8 +247,8 @@ cause_by Claimed told = or_fault told
 cause_by Asked told = or_fault told
 
 -- why a candidate gave job j of a nothing
-abbrev pub why : List Entry → ℕ → ℕ → ℕ → Cause
-why past a j r = cause_by (standing past a j r) (told_cause past a j r)
+abbrev pub why : List RepoView → List Entry → ℕ → ℕ → ℕ → Cause
+why repos past a j r = cause_by (standing repos past a j r) (told_cause past a j r)
 
 -- the candidates that gave nothing, in order, each with its cause
 abbrev pub failures : (ℕ → Offer) → (ℕ → Cause) → List ℕ → List CandidateCause
@@ -224,8 +256,8 @@ failures ask cause [] = []
 failures ask cause (c ∷ cs) = pick (ask c) (λ kind. failures ask cause cs) (record { repo = c; cause = cause c } ∷ failures ask cause cs)
 
 -- the causes of job j of a, a drop from the target, for which no candidate is left
-abbrev pub causes : Side → ℕ → (ℕ → ℕ) → List Entry → ℕ → ℕ → ℕ → List CandidateCause
-causes side n offset past a j target = failures (asked offset past a j) (why past a j) (candidates side n a target)
+abbrev pub causes : Side → List RepoView → List Entry → ℕ → ℕ → ℕ → List CandidateCause
+causes side repos past a j target = failures (asked repos past a j) (why repos past a j) (candidates side (length repos) a target)
 
 -- the job's end, other than after a lost order, is among the entries
 abbrev pub done_kind : ℕ → EntryKind → Bool

@@ -5,6 +5,8 @@ use Rattle.std.specs.Prelude.{ℕ, ◌+◌, Bool, true, false, not, ◌&&◌, �
 use Rattle.std.specs.List.{list_any}
 use Rattle.annex_base.specs.declared.kinds.Call.TheVariants.{Unhold}
 use Rattle.run_model.specs.declared.entry.Entry.{Entry}
+use Rattle.run_model.specs.declared.run.RepoView.{RepoView}
+use Rattle.run_model.specs.SetUp.{offset_of}
 use Rattle.run_model.specs.declared.job.Job.{Job}
 use Rattle.drop_proof.specs.declared.rule.Need.{Need}
 use Rattle.run_model.specs.declared.entry.By.{By}
@@ -31,8 +33,8 @@ now [] = 0
 now (e ∷ past) = e.time
 
 -- the clock of r at a time from now on
-abbrev pub clock : (ℕ → ℕ) → List Entry → ℕ → ℕ → ℕ
-clock offset past r time = time + offset r
+abbrev pub clock : List RepoView → List Entry → ℕ → ℕ → ℕ
+clock repos past r time = time + offset_of repos r
 
 -- ---- rows
 

@@ -1,12 +1,14 @@
 //! Runs of several repositories: the plain data of a run, and the definitions of what its entries say.
 #![tactic(auto)]
 
+mod branches;
 mod contents;
 mod entry;
 mod job;
 mod row;
 mod run;
 
+pub use branches::{Branches, file_path, kind_of};
 pub use contents::Contents;
 pub use entry::{By, Entry, EntryKind, FrameText, FrameView, LogFile};
 pub use job::{
@@ -22,6 +24,8 @@ fn is_sync<T: Sync>() {}
 
 /// A run and its parts go from thread to thread.
 pub fn cross_threads() {
+    is_send::<Branches>();
+    is_sync::<Branches>();
     is_send::<Contents>();
     is_sync::<Contents>();
     is_send::<Run>();
