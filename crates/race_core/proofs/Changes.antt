@@ -9,6 +9,7 @@ use Rattle.annex_base.specs.declared.kinds.Call.TheVariants.{Unhold}
 use Rattle.annex_base.specs.declared.kinds.Found.{Found}
 use Rattle.annex_base.specs.declared.kinds.Found.TheVariants.{Present}
 use Rattle.run_model.specs.declared.entry.Entry.{Entry}
+use Rattle.run_model.specs.declared.run.RepoView.{RepoView}
 use Rattle.run_model.specs.declared.entry.FrameView.{FrameView}
 use Rattle.drop_proof.specs.declared.rule.Need.{Need}
 use Rattle.run_model.specs.declared.job.Job.{Job}
@@ -320,17 +321,17 @@ peer_no_job p s i e = cc
 -- ---- removals
 
 -- the entry is the removal of a local drop
-pub record Removes (n : ℕ) (offset : ℕ → ℕ) (e : Entry) (past : List Entry) (key : List ℕ) (x : Removal) : Type 0 where
+pub record Removes (repos : List RepoView) (e : Entry) (past : List Entry) (key : List ℕ) (x : Removal) : Type 0 where
   pub r : ℕ
   pub j : ℕ
   pub d : Decision
   pub repo_is : is_of r e ≡ true
   pub kind_is : e.kind ≡ Gone (by_job j) key
   pub decided_is : decided past r j ≡ Some d
-  pub is : x ≡ local_removal n offset past r j d
+  pub is : x ≡ local_removal repos past r j d
 
 -- the entry is the removal of a remote drop
-pub record Obeys (n : ℕ) (offset : ℕ → ℕ) (e : Entry) (past : List Entry) (key : List ℕ) (x : Removal) : Type 0 where
+pub record Obeys (repos : List RepoView) (e : Entry) (past : List Entry) (key : List ℕ) (x : Removal) : Type 0 where
   pub r : ℕ
   pub a : ℕ
   pub slot : ℕ
@@ -343,48 +344,48 @@ pub record Obeys (n : ℕ) (offset : ℕ → ℕ) (e : Entry) (past : List Entry
   pub kind_is : e.kind ≡ Gone (Peer a slot) key
   pub sent_is : sender past r e.taken ≡ Some s
   pub order_is : s.entry.kind ≡ Order j target deadline need key
-  pub is : x ≡ remote_removal n offset past r a j need s
+  pub is : x ≡ remote_removal repos past r a j need s
 
-abbrev pub LocalKind : ℕ → (ℕ → ℕ) → List Entry → List ℕ → Option ℕ → EntryKind → Removal → Type 0
-LocalKind n offset past key repo kind x =
-    (r : ℕ) × ((j : ℕ) × ((d : Decision) × ((repo ≡ Some r) × (kind ≡ Gone (by_job j) key) × (decided past r j ≡ Some d) × (x ≡ local_removal n offset past r j d))))
+abbrev pub LocalKind : List RepoView → List Entry → List ℕ → Option ℕ → EntryKind → Removal → Type 0
+LocalKind repos past key repo kind x =
+    (r : ℕ) × ((j : ℕ) × ((d : Decision) × ((repo ≡ Some r) × (kind ≡ Gone (by_job j) key) × (decided past r j ≡ Some d) × (x ≡ local_removal repos past r j d))))
 
-abbrev pub RemoteKind : ℕ → (ℕ → ℕ) → List Entry → List ℕ → Option ℕ → Option FrameView → EntryKind → Removal → Type 0
-RemoteKind n offset past key repo taken kind x =
+abbrev pub RemoteKind : List RepoView → List Entry → List ℕ → Option ℕ → Option FrameView → EntryKind → Removal → Type 0
+RemoteKind repos past key repo taken kind x =
     (r a slot : ℕ) × ((s : Sent) × ((j target : ℕ) × ((deadline : Option ℕ) × ((need : Need) ×
-    ((repo ≡ Some r) × (kind ≡ Gone (Peer a slot) key) × (sender past r taken ≡ Some s) × (s.entry.kind ≡ Order j target deadline need key) × (x ≡ remote_removal n offset past r a j need s))))))
+    ((repo ≡ Some r) × (kind ≡ Gone (Peer a slot) key) × (sender past r taken ≡ Some s) × (s.entry.kind ≡ Order j target deadline need key) × (x ≡ remote_removal repos past r a j need s))))))
 
-ordered-kind : (n : ℕ) (offset : ℕ → ℕ) (past : List Entry) (key : List ℕ) (r a : ℕ) (s : Sent) (kind : EntryKind) (x : Removal) → ordered n offset past key r a s kind ≡ Some x
-    → (j target : ℕ) × ((deadline : Option ℕ) × ((need : Need) × ((kind ≡ Order j target deadline need key) × (x ≡ remote_removal n offset past r a j need s))))
-ordered-kind n offset past key r a s (Order j target deadline need k) x h = elim (if_is (bytes_eq k key) (Some (remote_removal n offset past r a j need s)) None (Some x) h) [
+ordered-kind : (repos : List RepoView) (past : List Entry) (key : List ℕ) (r a : ℕ) (s : Sent) (kind : EntryKind) (x : Removal) → ordered repos past key r a s kind ≡ Some x
+    → (j target : ℕ) × ((deadline : Option ℕ) × ((need : Need) × ((kind ≡ Order j target deadline need key) × (x ≡ remote_removal repos past r a j need s))))
+ordered-kind repos past key r a s (Order j target deadline need k) x h = elim (if_is (bytes_eq k key) (Some (remote_removal repos past r a j need s)) None (Some x) h) [
   | inl t ↦ (j, target, (deadline, (need, (ap (λ y. Order j target deadline need y) ((bytes_decides k key).0 t.0), some_inj _ _ (sym t.1)))))
   | inr t ↦ cc
 ]
-ordered-kind n offset past key r a s _ x h = cc
+ordered-kind repos past key r a s _ x h = cc
 
-removal-kind : (n : ℕ) (offset : ℕ → ℕ) (past : List Entry) (key : List ℕ) (repo : Option ℕ) (taken : Option FrameView) (kind : EntryKind) (x : Removal) → removal_by n offset past key repo taken kind ≡ Some x
-    → LocalKind n offset past key repo kind x ⊎ RemoteKind n offset past key repo taken kind x
-removal-kind n offset past key (Some r) taken (Gone (by_job j) k) x h = elim (if_is (bytes_eq k key) (option_map (local_removal n offset past r j) (decided past r j)) None (Some x) h) [
+removal-kind : (repos : List RepoView) (past : List Entry) (key : List ℕ) (repo : Option ℕ) (taken : Option FrameView) (kind : EntryKind) (x : Removal) → removal_by repos past key repo taken kind ≡ Some x
+    → LocalKind repos past key repo kind x ⊎ RemoteKind repos past key repo taken kind x
+removal-kind repos past key (Some r) taken (Gone (by_job j) k) x h = elim (if_is (bytes_eq k key) (option_map (local_removal repos past r j) (decided past r j)) None (Some x) h) [
   | inl t ↦ inl (go (decided past r j) refl t.1 ((bytes_decides k key).0 t.0))
   | inr t ↦ cc
 ]
   where
-    go : (o : Option Decision) → decided past r j ≡ o → option_map (local_removal n offset past r j) o ≡ Some x → k ≡ key → LocalKind n offset past key (Some r) (Gone (by_job j) k) x
+    go : (o : Option Decision) → decided past r j ≡ o → option_map (local_removal repos past r j) o ≡ Some x → k ≡ key → LocalKind repos past key (Some r) (Gone (by_job j) k) x
     go None e f same = cc
     go (Some d) e f same = (r, (j, (d, (refl, ap (λ y. Gone (by_job j) y) same, e, cc))))
-removal-kind n offset past key (Some r) taken (Gone (Peer p slot) k) x h = elim (if_is (bytes_eq k key) (sent_order n offset past key r p (sender past r taken)) None (Some x) h) [
+removal-kind repos past key (Some r) taken (Gone (Peer p slot) k) x h = elim (if_is (bytes_eq k key) (sent_order repos past key r p (sender past r taken)) None (Some x) h) [
   | inl t ↦ inr (go (sender past r taken) refl t.1 ((bytes_decides k key).0 t.0))
   | inr t ↦ cc
 ]
   where
-    go : (o : Option Sent) → sender past r taken ≡ o → sent_order n offset past key r p o ≡ Some x → k ≡ key → RemoteKind n offset past key (Some r) taken (Gone (Peer p slot) k) x
+    go : (o : Option Sent) → sender past r taken ≡ o → sent_order repos past key r p o ≡ Some x → k ≡ key → RemoteKind repos past key (Some r) taken (Gone (Peer p slot) k) x
     go None e f same = cc
-    go (Some s) e f same = let w = ordered-kind n offset past key r p s s.entry.kind x f in
+    go (Some s) e f same = let w = ordered-kind repos past key r p s s.entry.kind x f in
         (r, p, slot, (s, (w.0, w.1, (w.2.0, (w.2.1.0, (refl, ap (λ y. Gone (Peer p slot) y) same, e, w.2.1.1.0, w.2.1.1.1))))))
-removal-kind n offset past key repo taken kind x h = cc
+removal-kind repos past key repo taken kind x h = cc
 
-pub removal_was : (n : ℕ) (offset : ℕ → ℕ) (e : Entry) (past : List Entry) (key : List ℕ) (x : Removal) → removal n offset past key e ≡ Some x → Removes n offset e past key x ⊎ Obeys n offset e past key x
-removal_was n offset e past key x h = elim (removal-kind n offset past key e.repo e.taken e.kind x h) [
+pub removal_was : (repos : List RepoView) (e : Entry) (past : List Entry) (key : List ℕ) (x : Removal) → removal repos past key e ≡ Some x → Removes repos e past key x ⊎ Obeys repos e past key x
+removal_was repos e past key x h = elim (removal-kind repos past key e.repo e.taken e.kind x h) [
   | inl w ↦ let is : is_of w.0 e ≡ true = is_some e.repo w.0 w.1.1.1.0 in
       inl (record { r = w.0; j = w.1.0; d = w.1.1.0; repo_is = is; kind_is = w.1.1.1.1; decided_is = w.1.1.1.2; is = w.1.1.1.3 })
   | inr w ↦ let is : is_of w.0 e ≡ true = is_some e.repo w.0 w.3.1.2.1.1.0 in
@@ -405,13 +406,13 @@ removal_was n offset e past key x h = elim (removal-kind n offset past key e.rep
       })
 ]
 
-pub removal_is : (n : ℕ) (offset : ℕ → ℕ) (e : Entry) (past : List Entry) (r j : ℕ) (key : List ℕ) (d : Decision) → is_of r e ≡ true → e.kind ≡ Gone (by_job j) key → decided past r j ≡ Some d
-    → removal n offset past key e ≡ Some (local_removal n offset past r j d)
-removal_is n offset e past r j key d is kind h = rw (repo_of e r is, kind, bytes_refl key, h) refl
+pub removal_is : (repos : List RepoView) (e : Entry) (past : List Entry) (r j : ℕ) (key : List ℕ) (d : Decision) → is_of r e ≡ true → e.kind ≡ Gone (by_job j) key → decided past r j ≡ Some d
+    → removal repos past key e ≡ Some (local_removal repos past r j d)
+removal_is repos e past r j key d is kind h = rw (repo_of e r is, kind, bytes_refl key, h) refl
 
-pub order_is : (n : ℕ) (offset : ℕ → ℕ) (e : Entry) (past : List Entry) (r a slot j target : ℕ) (deadline : Option ℕ) (need : Need) (key : List ℕ) (s : Sent) → is_of r e ≡ true → e.kind ≡ Gone (Peer a slot) key
-    → sender past r e.taken ≡ Some s → s.entry.kind ≡ Order j target deadline need key → removal n offset past key e ≡ Some (remote_removal n offset past r a j need s)
-order_is n offset e past r a slot j target deadline need key s is kind h k = rw (repo_of e r is, kind, bytes_refl key, h, k, bytes_refl key) refl
+pub order_is : (repos : List RepoView) (e : Entry) (past : List Entry) (r a slot j target : ℕ) (deadline : Option ℕ) (need : Need) (key : List ℕ) (s : Sent) → is_of r e ≡ true → e.kind ≡ Gone (Peer a slot) key
+    → sender past r e.taken ≡ Some s → s.entry.kind ≡ Order j target deadline need key → removal repos past key e ≡ Some (remote_removal repos past r a j need s)
+order_is repos e past r a slot j target deadline need key s is kind h k = rw (repo_of e r is, kind, bytes_refl key, h, k, bytes_refl key) refl
 
 -- ---- vouches
 

@@ -1,6 +1,6 @@
--- What the checker keeps is what the definitions of a safe run read, where nothing is read of the logs.
+-- What the checker keeps is what the definitions of a safe run read.
 use Rattle.std.proofs.Common.{◌≡◌, ℕ, ◌+◌, ◌<◌, Bool, true, false, not, ◌&&◌, ◌||◌, List, [], ◌∷◌, ◌++◌, length, get_or, take, reverse, Option, Some, None, refl, sym, ap, ◌∙◌, subst}
-use Rattle.std.specs.Prelude.{bytes_eq, if◌then◌else◌, ◌==◌, count_by, map, option_map, option_to_list, slice_get}
+use Rattle.std.specs.Prelude.{bytes_eq, if◌then◌else◌, ◌==◌, count_by, is_some, map, option_map, option_to_list, slice_get}
 use Rattle.std.specs.List.{list_all, list_any, range_with_len}
 use Rattle.std.proofs.lemmas.List.{append-nil, length-map, map-append, reverse-append}
 use Rattle.std.proofs.lemmas.Option.{slice_get_read}
@@ -14,16 +14,25 @@ use Rattle.drop_proof.specs.Judging.{counts, is_enough, is_full_kind}
 use Rattle.run_model.specs.declared.entry.Entry.{Entry}
 use Rattle.run_model.specs.declared.entry.EntryKind.{EntryKind}
 use Rattle.run_model.specs.declared.entry.EntryKind.TheVariants.{Order}
-use Rattle.run_model.specs.Past.{Decision, present}
+use Rattle.run_model.specs.declared.job.Cause.{Cause}
+use Rattle.run_model.specs.declared.run.RepoView.{RepoView}
+use Rattle.run_model.specs.SetUp.{id_of, offset_of}
+use Rattle.run_model.specs.Past.{Decision, begun_job, present}
 use Rattle.run_model.specs.Frames.{Sent}
-use Rattle.run_model.specs.Drops.{Asked, Fails, Gives, Lock, Look, Offer, Standing, Vouch, asked, candidates, evidence, gather, is_trusted, offer, pick, reply, standing}
+use Rattle.run_model.specs.Logs.{ever, read_at}
+use Rattle.run_model.specs.Drops.{Asked, Claimed, Ignored, Lock, Look, Offer, Standing, Vouch, asked, candidates, evidence, gather, is_trusted, is_waiting, key_in, offer, pick, reached, reply, standing, told_cause, waits}
 use Rattle.run_model.specs.Safety.{Removal, add_removal, all_stand, backed, claim, count, is_gone, judged, least_need, local_removal, ordered, owned, removal, removals, smaller, stands, trusts, within}
-use Rattle.race_core.specs.declared.gathering.Given.{Given}
+use Rattle.log_lines.specs.declared.entry.LogKind.TheVariants as kinds
+use Rattle.trust_groups.specs.Settings.{file_name, location_path}
+use Rattle.race_core.specs.declared.gathering.Candidate.{Candidate}
 use Rattle.race_core.specs.declared.gathering.Item.{Item}
+use Rattle.race_core.specs.declared.reading.Reading.{Reading}
 use Rattle.race_core.specs.declared.removing.KeyDrop.{KeyDrop}
-use Rattle.race_core.specs.Checked.{add_given, backed_given, counts_given, drop_of, enough_given, gather_given, given_by, given_of, is_claim, is_full_given, item_of, judged_given, least_of, newest_removal, owned_given, sent_at, stands_given, trusts_given}
+use Rattle.race_core.specs.Steps.{sent_at}
+use Rattle.race_core.specs.Checked.{answer_given, backed_given, candidate_given, counts_given, drop_of, enough_given, gather_given, given_by, given_of, go_on, is_claim, is_full_given, item_of, judged_given, least_of, newest_removal, owned_given, seen_in, standing_given, stands_given, trusts_given}
 use Rattle.race_core.proofs.Lists.{count_by-cons}
 use Rattle.race_core.proofs.Checking.{past_read}
+use Rattle.race_core.proofs.ReadingFacts.{standing_same}
 
 -- ---- lists
 
@@ -57,64 +66,86 @@ counts_same Remote i = full_same i.kind
 enough_same : (side : Side) (need : Need) (items : List Evidence) → enough_given side need (map item_of items) ≡ is_enough side need items
 enough_same side need items = rw (length-map items item_of, count_by-map (counts_given side) (counts side) item_of (counts_same side) items) refl
 
-abbrev pub given_of_offer : Offer → Option Given
-given_of_offer (Gives kind) = Some (given_of kind)
-given_of_offer Fails = None
+gather_full : (side : Side) (need : Need) (ask : ℕ → Offer) (cs : List ℕ) (items : List Evidence) → is_enough side need items ≡ true → gather side need ask cs items ≡ items
+gather_full side need ask [] items h = refl
+gather_full side need ask (c ∷ cs) items h = rw h refl
 
-gather_same : (side : Side) (need : Need) (ask : ℕ → Offer) (give : ℕ → Option Given) → ((c : ℕ) → give c ≡ given_of_offer (ask c)) → (cs : List ℕ) (items : List Evidence)
-    → map item_of (gather side need ask cs items) ≡ gather_given side need give cs (map item_of items)
-gather_same side need ask give h [] items = refl
-gather_same side need ask give h (c ∷ cs) items = go (λ more. gather_same side need ask give h cs more) (is_enough side need items) (ask c) ∙ sym tests
+-- nothing is gathered from a candidate for which the job waits, nor from those after it
+gather_reached : (side : Side) (need : Need) (ask : ℕ → Offer) (w : Bool) (c : ℕ) (cs : List ℕ) (items : List Evidence)
+    → gather side need ask (if w then [] else c ∷ cs) items ≡ (if w then items else gather side need ask (c ∷ cs) items)
+gather_reached side need ask true c cs items = refl
+gather_reached side need ask false c cs items = refl
+
+-- one candidate
+ask_same : (side : Side) (need : Need) (c o : ℕ) (s : Standing) (v : Option Vouch) (t : Option Cause) (b : Bool) (items : List Evidence) (more : List Evidence → List Evidence) (more' : List Item → List Item)
+    → ((xs : List Evidence) → map item_of (more xs) ≡ more' (map item_of xs))
+    → map item_of (if is_waiting s v t then items else (if b then items else pick (offer o s v) (λ kind. more (items ++ record { repo = c; kind = kind } ∷ [])) (more items)))
+    ≡ (if b then map item_of items else go_on (answer_given (standing_given s) (given_by v) (is_some t)) (λ g. more' (map item_of items ++ record { repo = c; given = g } ∷ [])) (more' (map item_of items)) (map item_of items))
+ask_same side need c o s v t b items more more' same = go s v t b
   where
-    go : ((more : List Evidence) → map item_of (gather side need ask cs more) ≡ gather_given side need give cs (map item_of more)) → (b : Bool) (o : Offer) → map item_of (if b then items else pick o (λ kind. gather side need ask cs (items ++ record { repo = c; kind = kind } ∷ [])) (gather side need ask cs items))
-        ≡ (if b then map item_of items else gather_given side need give cs (add_given (map item_of items) c (given_of_offer o)))
-    go ih true o = refl
-    go ih false (Gives kind) = ih (items ++ record { repo = c; kind = kind } ∷ []) ∙ ap (λ xs. gather_given side need give cs xs) (map-append item_of items (record { repo = c; kind = kind } ∷ []))
-    go ih false Fails = ih items
+    one : (kind : Kind) → map item_of (more (items ++ record { repo = c; kind = kind } ∷ [])) ≡ more' (map item_of items ++ record { repo = c; given = given_of kind } ∷ [])
+    one kind = same (items ++ record { repo = c; kind = kind } ∷ []) ∙ ap more' (map-append item_of items (record { repo = c; kind = kind } ∷ []))
 
-    tests : gather_given side need give (c ∷ cs) (map item_of items) ≡ (if is_enough side need items then map item_of items else gather_given side need give cs (add_given (map item_of items) c (given_of_offer (ask c))))
-    tests = rw (enough_same side need items, h c) refl
+    go : (s' : Standing) (v' : Option Vouch) (t' : Option Cause) (b' : Bool) → map item_of (if is_waiting s' v' t' then items else (if b' then items else pick (offer o s' v') (λ kind. more (items ++ record { repo = c; kind = kind } ∷ [])) (more items)))
+        ≡ (if b' then map item_of items else go_on (answer_given (standing_given s') (given_by v') (is_some t')) (λ g. more' (map item_of items ++ record { repo = c; given = g } ∷ [])) (more' (map item_of items)) (map item_of items))
+    go Claimed v' t' true = refl
+    go Claimed v' t' false = one Trusted
+    go (Ignored cause) v' t' true = refl
+    go (Ignored cause) v' t' false = same items
+    go Asked (Some (Lock hold since owner key)) t' true = refl
+    go Asked (Some (Lock hold since owner key)) t' false = one (Locked (since + o + 600000))
+    go Asked (Some (Look key)) t' true = refl
+    go Asked (Some (Look key)) t' false = one Recent
+    go Asked None (Some cause) true = refl
+    go Asked None (Some cause) false = same items
+    go Asked None None true = refl
+    go Asked None None false = refl
 
-offered : (o : ℕ) (s : Standing) (v : Option Vouch) → s ≡ Asked → given_by v ≡ given_of_offer (offer o s v)
-offered o s v h = subst (λ x. given_by v ≡ given_of_offer (offer o x v)) (sym h) (go v)
+gather_same : (side : Side) (need : Need) (repos : List RepoView) (past : List Entry) (reading : Reading) (a j : ℕ) → ((c : ℕ) → seen_in reading (id_of repos c) ≡ standing_given (standing repos past a j c)) → (cs : List ℕ) (items : List Evidence)
+    → map item_of (gather side need (asked repos past a j) (reached (waits repos past a j) cs) items) ≡ gather_given side need (map (candidate_given repos past reading a j) cs) (map item_of items)
+gather_same side need repos past reading a j seen [] items = refl
+gather_same side need repos past reading a j seen (c ∷ cs) items =
+    ap (λ xs. map item_of xs) (gather_reached side need (asked repos past a j) (waits repos past a j c) c (reached (waits repos past a j) cs) items)
+    ∙ ask_same side need c (offset_of repos a) (standing repos past a j c) (reply past a j c) (told_cause past a j c) (is_enough side need items) items
+    (λ xs. gather side need (asked repos past a j) (reached (waits repos past a j) cs) xs) (λ xs. gather_given side need (map (candidate_given repos past reading a j) cs) xs)
+    (λ xs. gather_same side need repos past reading a j seen cs xs)
+    ∙ sym tests
   where
-    go : (v' : Option Vouch) → given_by v' ≡ given_of_offer (offer o Asked v')
-    go None = refl
-    go (Some (Lock hold since owner key)) = refl
-    go (Some (Look key)) = refl
+    tests : gather_given side need (map (candidate_given repos past reading a j) (c ∷ cs)) (map item_of items)
+        ≡ (if is_enough side need items then map item_of items else go_on (answer_given (standing_given (standing repos past a j c)) (given_by (reply past a j c)) (is_some (told_cause past a j c)))
+        (λ g. gather_given side need (map (candidate_given repos past reading a j) cs) (map item_of items ++ record { repo = c; given = g } ∷ []))
+        (gather_given side need (map (candidate_given repos past reading a j) cs) (map item_of items)) (map item_of items))
+    tests = rw (enough_same side need items, seen c) refl
 
--- while nothing is read of the logs, each repository is asked
-standing_asked : (past : List Entry) (a j r : ℕ) → standing past a j r ≡ Asked
-unfolding standing
-standing_asked past a j r = refl
+pub evidence_same : (side : Side) (repos : List RepoView) (past : List Entry) (a j target : ℕ) (need : Need) (reading : Reading) → reading.trust ≡ ever (read_at past a j) a (file_name kinds.Trust)
+    → reading.location ≡ ever (read_at past a j) a (location_path (key_in (begun_job (read_at past a j) a j)))
+    → map item_of (evidence side repos past a j target need) ≡ gather_given side need (map (candidate_given repos past reading a j) (candidates side (length repos) a target)) []
+evidence_same side repos past a j target need reading trust location =
+    gather_same side need repos past reading a j (λ c. standing_same repos past a j c reading trust location) (candidates side (length repos) a target) []
 
-pub evidence_same : (side : Side) (n : ℕ) (offset : ℕ → ℕ) (past : List Entry) (a j target : ℕ) (need : Need)
-    → map item_of (evidence side n offset past a j target need) ≡ gather_given side need (λ r. given_by (reply past a j r)) (candidates side n a target) []
-evidence_same side n offset past a j target need =
-    gather_same side need (asked offset past a j) (λ r. given_by (reply past a j r)) (λ c. offered (offset a) (standing past a j c) (reply past a j c) (standing_asked past a j c)) (candidates side n a target) []
+-- nothing is gathered where there is enough
+pub gather_enough : (side : Side) (need : Need) (cs : List Candidate) (items : List Item) → enough_given side need items ≡ true → gather_given side need cs items ≡ items
+gather_enough side need [] items h = refl
+gather_enough side need (c ∷ cs) items h = rw h refl
 
 -- ---- removals
-
-evidence_is : (side : Side) (n : ℕ) (offset : ℕ → ℕ) (past : List Entry) (a j target : ℕ) (need need' : Need) (items : List Item) → need ≡ need'
-    → items ≡ gather_given side need (λ r. given_by (reply past a j r)) (candidates side n a target) [] → items ≡ map item_of (evidence side n offset past a j target need')
-evidence_is side n offset past a j target need need' items e h = h ∙ sym (evidence_same side n offset past a j target need) ∙ ap (λ k. map item_of (evidence side n offset past a j target k)) e
 
 drop_is : (side : Side) (need need' : Need) (items items' : List Item) → need ≡ need' → items ≡ items'
     → let d : KeyDrop = record { side = side; need = need; items = items } in let d' : KeyDrop = record { side = side; need = need'; items = items' } in Some d ≡ Some d'
 drop_is side need need' items items' e f = cc
 
-pub own_same : (n : ℕ) (offset : ℕ → ℕ) (past : List Entry) (r j : ℕ) (need : Need) (items : List Item) (o : Option Decision) → Some need ≡ option_map (λ d. d.need) o
-    → items ≡ gather_given Local need (λ c. given_by (reply past r j c)) (candidates Local n r r) []
-    → let it : KeyDrop = record { side = Local; need = need; items = items } in Some it ≡ option_map drop_of (option_map (local_removal n offset past r j) o)
-own_same n offset past r j need items None e h = cc
-own_same n offset past r j need items (Some d) e h = let same : need ≡ d.need = cc in
-    drop_is Local need d.need items (map item_of (evidence Local n offset past r j r d.need)) same (evidence_is Local n offset past r j r need d.need items same h)
+pub own_same : (repos : List RepoView) (past : List Entry) (r j : ℕ) (need : Need) (items : List Item) (o : Option Decision) → Some need ≡ option_map (λ d. d.need) o
+    → items ≡ map item_of (evidence Local repos past r j r need)
+    → let it : KeyDrop = record { side = Local; need = need; items = items } in Some it ≡ option_map drop_of (option_map (local_removal repos past r j) o)
+own_same repos past r j need items None e h = cc
+own_same repos past r j need items (Some d) e h = let same : need ≡ d.need = cc in
+    drop_is Local need d.need items (map item_of (evidence Local repos past r j r d.need)) same (h ∙ ap (λ k. map item_of (evidence Local repos past r j r k)) same)
 
-pub order_same : (n : ℕ) (offset : ℕ → ℕ) (past : List Entry) (key : List ℕ) (r a : ℕ) (s : Sent) (kind : EntryKind) (j target : ℕ) (deadline : Option ℕ) (need : Need) (k : List ℕ) (items : List Item)
-    → kind ≡ Order j target deadline need k → bytes_eq k key ≡ true → items ≡ gather_given Remote need (λ c. given_by (reply s.before a j c)) (candidates Remote n a r) []
-    → let it : KeyDrop = record { side = Remote; need = need; items = items } in Some it ≡ option_map drop_of (ordered n offset past key r a s kind)
-order_same n offset past key r a s kind j target deadline need k items e same h =
-    rw (e, same) (drop_is Remote need need items (map item_of (evidence Remote n offset s.before a j r need)) refl (evidence_is Remote n offset s.before a j r need need items refl h))
+pub order_same : (repos : List RepoView) (past : List Entry) (key : List ℕ) (r a : ℕ) (s : Sent) (kind : EntryKind) (j target : ℕ) (deadline : Option ℕ) (need : Need) (k : List ℕ) (items : List Item)
+    → kind ≡ Order j target deadline need k → bytes_eq k key ≡ true → items ≡ map item_of (evidence Remote repos s.before a j r need)
+    → let it : KeyDrop = record { side = Remote; need = need; items = items } in Some it ≡ option_map drop_of (ordered repos past key r a s kind)
+order_same repos past key r a s kind j target deadline need k items e same h =
+    rw (e, same) (drop_is Remote need need items (map item_of (evidence Remote repos s.before a j r need)) refl h)
 
 -- the sender at a place
 pub sent_here : (entries : List Entry) (place : ℕ) (e : Entry) (before : List Entry) (o : Option Sent) → place < length entries → e ≡ get_or entries place e → before ≡ take place entries
@@ -124,13 +155,13 @@ sent_here entries place e before o lt is front h =
     ap (λ (xs : List Entry). Some (record { entry = e; before = reverse xs })) front ∙ (rw got at h)
 
 -- one more entry
-pub removals_more : (n : ℕ) (offset : ℕ → ℕ) (entries : List Entry) (i : ℕ) (e : Entry) (key : List ℕ) (was new : List KeyDrop) (o : Option KeyDrop) → i < length entries → e ≡ get_or entries i e
-    → reverse was ≡ map drop_of (removals n offset (reverse (take i entries)) key) → o ≡ option_map drop_of (removal n offset (reverse (take i entries)) key e)
-    → new ≡ was ++ option_to_list o → reverse new ≡ map drop_of (removals n offset (reverse (take (i + 1) entries)) key)
-removals_more n offset entries i e key was new o lt is old removed h =
-    ap (λ xs. reverse xs) h ∙ go (removal n offset (reverse (take i entries)) key e) removed ∙ ap (λ past. map drop_of (removals n offset past key)) (sym (past_read entries i e lt is))
+pub removals_more : (repos : List RepoView) (entries : List Entry) (i : ℕ) (e : Entry) (key : List ℕ) (was new : List KeyDrop) (o : Option KeyDrop) → i < length entries → e ≡ get_or entries i e
+    → reverse was ≡ map drop_of (removals repos (reverse (take i entries)) key) → o ≡ option_map drop_of (removal repos (reverse (take i entries)) key e)
+    → new ≡ was ++ option_to_list o → reverse new ≡ map drop_of (removals repos (reverse (take (i + 1) entries)) key)
+removals_more repos entries i e key was new o lt is old removed h =
+    ap (λ xs. reverse xs) h ∙ go (removal repos (reverse (take i entries)) key e) removed ∙ ap (λ past. map drop_of (removals repos past key)) (sym (past_read entries i e lt is))
   where
-    go : (x : Option Removal) → o ≡ option_map drop_of x → reverse (was ++ option_to_list o) ≡ map drop_of (add_removal x (removals n offset (reverse (take i entries)) key))
+    go : (x : Option Removal) → o ≡ option_map drop_of x → reverse (was ++ option_to_list o) ≡ map drop_of (add_removal x (removals repos (reverse (take i entries)) key))
     go None none = ap (λ y. reverse (was ++ option_to_list y)) none ∙ ap (λ xs. reverse xs) (append-nil was) ∙ old
     go (Some x) some = ap (λ y. reverse (was ++ option_to_list y)) some ∙ reverse-append was (drop_of x ∷ []) ∙ ap (λ xs. drop_of x ∷ xs) old
 
@@ -151,52 +182,52 @@ trusts_same r x = any-map (λ i. (i.repo == r) && is_claim i.given) (λ i. (i.re
 claims_same : (r : ℕ) (xs : List Removal) → list_any (trusts_given r) (map drop_of xs) ≡ list_any (trusts r) xs
 claims_same r xs = any-map (trusts_given r) (trusts r) drop_of (trusts_same r) xs
 
-pub within_same : (n : ℕ) (offset : ℕ → ℕ) (past : List Entry) (key : List ℕ) (drops : List KeyDrop) → drops ≡ map drop_of (removals n offset past key)
-    → within (least_of drops) (count_by (λ r. present past r key || list_any (trusts_given r) drops) (range_with_len 0 n)) ≡ within (least_need (removals n offset past key)) (count n offset past key)
-within_same n offset past key drops h =
-    subst (λ xs. within (least_of xs) (count_by (λ r. present past r key || list_any (trusts_given r) xs) (range_with_len 0 n)) ≡ within (least_need (removals n offset past key)) (count n offset past key)) (sym h)
-    (ap (λ o. within o (count_by (λ r. present past r key || list_any (trusts_given r) (map drop_of (removals n offset past key))) (range_with_len 0 n))) (least_same (removals n offset past key))
-    ∙ ap (λ c. within (least_need (removals n offset past key)) c)
-    (count_by-same (λ r. present past r key || list_any (trusts_given r) (map drop_of (removals n offset past key))) (λ r. present past r key || claim n offset past r key)
-    (λ r. ap (λ b. present past r key || b) (claims_same r (removals n offset past key))) (range_with_len 0 n)))
+pub within_same : (repos : List RepoView) (past : List Entry) (key : List ℕ) (drops : List KeyDrop) → drops ≡ map drop_of (removals repos past key)
+    → within (least_of drops) (count_by (λ r. present past r key || list_any (trusts_given r) drops) (range_with_len 0 (length repos))) ≡ within (least_need (removals repos past key)) (count repos past key)
+within_same repos past key drops h =
+    subst (λ xs. within (least_of xs) (count_by (λ r. present past r key || list_any (trusts_given r) xs) (range_with_len 0 (length repos))) ≡ within (least_need (removals repos past key)) (count repos past key)) (sym h)
+    (ap (λ o. within o (count_by (λ r. present past r key || list_any (trusts_given r) (map drop_of (removals repos past key))) (range_with_len 0 (length repos)))) (least_same (removals repos past key))
+    ∙ ap (λ c. within (least_need (removals repos past key)) c)
+    (count_by-same (λ r. present past r key || list_any (trusts_given r) (map drop_of (removals repos past key))) (λ r. present past r key || claim repos past r key)
+    (λ r. ap (λ b. present past r key || b) (claims_same r (removals repos past key))) (range_with_len 0 (length repos))))
 
 judged_same : (o : Option Removal) → judged_given (option_map drop_of o) ≡ judged o
 judged_same None = refl
 judged_same (Some x) = enough_same x.side x.need x.items
 
-pub owned_same : (n : ℕ) (offset : ℕ → ℕ) (past : List Entry) (key : List ℕ) (last : Option KeyDrop) → last ≡ option_map drop_of (newest_removal n offset past key) → owned_given past key last ≡ owned n offset past key
-owned_same n offset [] key last h = refl
-owned_same n offset (e ∷ past) key last h = ap (λ o. not (is_gone key e.kind) || judged_given o) h ∙ ap (λ b. not (is_gone key e.kind) || b) (judged_same (removal n offset past key e))
+pub owned_same : (repos : List RepoView) (past : List Entry) (key : List ℕ) (last : Option KeyDrop) → last ≡ option_map drop_of (newest_removal repos past key) → owned_given past key last ≡ owned repos past key
+owned_same repos [] key last h = refl
+owned_same repos (e ∷ past) key last h = ap (λ o. not (is_gone key e.kind) || judged_given o) h ∙ ap (λ b. not (is_gone key e.kind) || b) (judged_same (removal repos past key e))
 
-stands_same : (n : ℕ) (offset : ℕ → ℕ) (past : List Entry) (key : List ℕ) (i : Evidence) → stands_given past key (map drop_of (removals n offset past key)) (item_of i) ≡ stands n offset past key i
-stands_same n offset past key i = go i.kind refl
+stands_same : (repos : List RepoView) (past : List Entry) (key : List ℕ) (i : Evidence) → stands_given past key (map drop_of (removals repos past key)) (item_of i) ≡ stands repos past key i
+stands_same repos past key i = go i.kind refl
   where
-    go : (kind : Kind) → i.kind ≡ kind → stands_given past key (map drop_of (removals n offset past key)) (item_of i) ≡ stands n offset past key i
+    go : (kind : Kind) → i.kind ≡ kind → stands_given past key (map drop_of (removals repos past key)) (item_of i) ≡ stands repos past key i
     go (Locked end) h = rw h refl
-    go Trusted h = rw h (claims_same i.repo (removals n offset past key))
+    go Trusted h = rw h (claims_same i.repo (removals repos past key))
     go Recent h = rw h refl
 
-pub backed_same : (n : ℕ) (offset : ℕ → ℕ) (past : List Entry) (key : List ℕ) (drops : List KeyDrop) (last : Option KeyDrop) → drops ≡ map drop_of (removals n offset past key)
-    → last ≡ option_map drop_of (newest_removal n offset past key) → backed_given past key drops last ≡ backed n offset past key
-backed_same n offset past key drops last e h = ap (λ xs. backed_given past key xs last) e ∙ ap (λ o. backed_given past key (map drop_of (removals n offset past key)) o) h ∙ whole past
+pub backed_same : (repos : List RepoView) (past : List Entry) (key : List ℕ) (drops : List KeyDrop) (last : Option KeyDrop) → drops ≡ map drop_of (removals repos past key)
+    → last ≡ option_map drop_of (newest_removal repos past key) → backed_given past key drops last ≡ backed repos past key
+backed_same repos past key drops last e h = ap (λ xs. backed_given past key xs last) e ∙ ap (λ o. backed_given past key (map drop_of (removals repos past key)) o) h ∙ whole past
   where
-    some : (past' : List Entry) (o : Option Removal) → backed_given past' key (map drop_of (removals n offset past' key)) (option_map drop_of o) ≡ all_stand n offset past' key o
+    some : (past' : List Entry) (o : Option Removal) → backed_given past' key (map drop_of (removals repos past' key)) (option_map drop_of o) ≡ all_stand repos past' key o
     some past' None = refl
-    some past' (Some x) = all-map (stands_given past' key (map drop_of (removals n offset past' key))) (stands n offset past' key) item_of (stands_same n offset past' key) x.items
+    some past' (Some x) = all-map (stands_given past' key (map drop_of (removals repos past' key))) (stands repos past' key) item_of (stands_same repos past' key) x.items
 
-    whole : (past' : List Entry) → backed_given past' key (map drop_of (removals n offset past' key)) (option_map drop_of (newest_removal n offset past' key)) ≡ backed n offset past' key
+    whole : (past' : List Entry) → backed_given past' key (map drop_of (removals repos past' key)) (option_map drop_of (newest_removal repos past' key)) ≡ backed repos past' key
     whole [] = refl
-    whole (x ∷ past') = some (x ∷ past') (removal n offset past' key x)
+    whole (x ∷ past') = some (x ∷ past') (removal repos past' key x)
 
-pub safe_same : (n n' : ℕ) (offset : ℕ → ℕ) (past past' : List Entry) (key : List ℕ) (drops : List KeyDrop) (last : Option KeyDrop) (least : Option ℕ) (counted : ℕ) (enough own stand all : Bool)
-    → n' ≡ n → past' ≡ past → drops ≡ map drop_of (removals n' offset past' key) → last ≡ option_map drop_of (newest_removal n' offset past' key)
-    → least ≡ least_of drops → counted ≡ count_by (λ r. present past' r key || list_any (trusts_given r) drops) (range_with_len 0 n')
+pub safe_same : (repos repos' : List RepoView) (past past' : List Entry) (key : List ℕ) (drops : List KeyDrop) (last : Option KeyDrop) (least : Option ℕ) (counted : ℕ) (enough own stand all : Bool)
+    → repos' ≡ repos → past' ≡ past → drops ≡ map drop_of (removals repos' past' key) → last ≡ option_map drop_of (newest_removal repos' past' key)
+    → least ≡ least_of drops → counted ≡ count_by (λ r. present past' r key || list_any (trusts_given r) drops) (range_with_len 0 (length repos'))
     → enough ≡ within least counted → own ≡ owned_given past' key last → stand ≡ backed_given past' key drops last → all ≡ (enough && own && stand)
-    → all ≡ (within (least_need (removals n offset past key)) (count n offset past key) && owned n offset past key && backed n offset past key)
-safe_same n n' offset past past' key drops last least counted enough own stand all en ep d l least_is counted_is enough_is own_is stand_is all_is =
+    → all ≡ (within (least_need (removals repos past key)) (count repos past key) && owned repos past key && backed repos past key)
+safe_same repos repos' past past' key drops last least counted enough own stand all er ep d l least_is counted_is enough_is own_is stand_is all_is =
     all_is
-    ∙ ap (λ b. b && own && stand) (enough_is ∙ ap (λ o. within o counted) least_is ∙ ap (λ k. within (least_of drops) k) counted_is ∙ within_same n' offset past' key drops d)
-    ∙ ap (λ b. within (least_need (removals n' offset past' key)) (count n' offset past' key) && b && stand) (own_is ∙ owned_same n' offset past' key last l)
-    ∙ ap (λ b. within (least_need (removals n' offset past' key)) (count n' offset past' key) && owned n' offset past' key && b) (stand_is ∙ backed_same n' offset past' key drops last d l)
-    ∙ ap (λ m. within (least_need (removals m offset past' key)) (count m offset past' key) && owned m offset past' key && backed m offset past' key) en
-    ∙ ap (λ p. within (least_need (removals n offset p key)) (count n offset p key) && owned n offset p key && backed n offset p key) ep
+    ∙ ap (λ b. b && own && stand) (enough_is ∙ ap (λ o. within o counted) least_is ∙ ap (λ k. within (least_of drops) k) counted_is ∙ within_same repos' past' key drops d)
+    ∙ ap (λ b. within (least_need (removals repos' past' key)) (count repos' past' key) && b && stand) (own_is ∙ owned_same repos' past' key last l)
+    ∙ ap (λ b. within (least_need (removals repos' past' key)) (count repos' past' key) && owned repos' past' key && b) (stand_is ∙ backed_same repos' past' key drops last d l)
+    ∙ ap (λ (m : List RepoView). within (least_need (removals m past' key)) (count m past' key) && owned m past' key && backed m past' key) er
+    ∙ ap (λ p. within (least_need (removals repos p key)) (count repos p key) && owned repos p key && backed repos p key) ep

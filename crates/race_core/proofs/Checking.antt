@@ -1,21 +1,17 @@
 -- The checker's loops over entries, against the past.
-use Rattle.std.proofs.Common.{◌≡◌, ℕ, ◌+◌, ◌<◌, Bool, true, false, not, ◌&&◌, cond, List, [], ◌∷◌, length, get_or, take, reverse, Option, Some, refl, sym, ap, ◌∙◌, subst}
+use Rattle.std.proofs.Common.{◌≡◌, ℕ, ◌+◌, ◌<◌, Bool, true, false, not, ◌&&◌, ◌||◌, cond, List, [], ◌∷◌, length, get_or, take, reverse, Option, Some, refl, sym, ap, ◌∙◌, subst}
 use Rattle.std.specs.Prelude.{if◌then◌else◌, ◌==◌, filter, map, option_map, slice_get}
-use Rattle.drop_proof.specs.declared.rule.Need.{Need}
 use Rattle.run_model.specs.declared.entry.Entry.{Entry}
 use Rattle.run_model.specs.declared.entry.EntryKind.{EntryKind}
 use Rattle.run_model.specs.declared.entry.EntryKind.TheVariants.{Bar, Begin, Crash, End}
-use Rattle.run_model.specs.Past.{Decision, Running, decided, decided_after, is_of, jobs, jobs_after}
+use Rattle.run_model.specs.Past.{Decision, Running, decided, decided_after, is_of, jobs, jobs_after, runs}
 use Rattle.run_model.specs.Frames.{sent_by}
 use Rattle.std.specs.Prelude.{IfSome}
 use Rattle.std.specs.List.{list_any}
 use Rattle.std.proofs.lemmas.Option.{slice_get_read}
-use Rattle.drop_proof.specs.declared.rule.Side.{Side}
 use Rattle.run_model.specs.declared.entry.FrameView.{FrameView}
 use Rattle.run_model.specs.Frames.{is_frame}
-use Rattle.race_core.specs.declared.gathering.Given.{Given}
-use Rattle.race_core.specs.declared.gathering.Item.{Item}
-use Rattle.race_core.specs.Checked.{enough_given, gather_given, need_by, numbers_after, sent_at}
+use Rattle.race_core.specs.Steps.{need_by, numbers_after, sent_at}
 use Rattle.race_core.proofs.Pasts.{past_more}
 
 -- the past after the entry at an index
@@ -64,6 +60,11 @@ numbers_step e past r = go (is_of r e)
     go true = sym (numbers_kind (jobs past r) e.kind)
     go false = refl
 
+-- the job is among the numbers
+pub numbers_run : (js : List Running) (job : ℕ) → list_any (λ n. n == job) (map (λ j. j.number) js) ≡ runs js job
+numbers_run [] job = refl
+numbers_run (j ∷ js) job = ap (λ b. (j.number == job) || b) (numbers_run js job)
+
 -- ---- senders
 
 pub sent_step : (entries : List Entry) (place : ℕ) (e : Entry) (b : Bool) (was : Option ℕ) → slice_get entries place ≡ Some e
@@ -90,10 +91,3 @@ sender_more entries i e peer r f was new lt is old h =
 pub sender_within : (entries : List Entry) (i : ℕ) (b : Bool) (was new : Option ℕ) → i < length entries → IfSome was (λ k. k < length entries) → new ≡ (if b then Some i else was) → IfSome new (λ k. k < length entries)
 sender_within entries i true was new lt old h = subst (λ o. IfSome o (λ k. k < length entries)) (sym h) lt
 sender_within entries i false was new lt old h = subst (λ o. IfSome o (λ k. k < length entries)) (sym h) old
-
--- ---- gathering
-
--- nothing is gathered where there is enough
-pub gather_enough : (side : Side) (need : Need) (ask : ℕ → Option Given) (cs : List ℕ) (items : List Item) → enough_given side need items ≡ true → gather_given side need ask cs items ≡ items
-gather_enough side need ask [] items h = refl
-gather_enough side need ask (c ∷ cs) items h = rw h refl

@@ -5,6 +5,8 @@ use Rattle.std.specs.List.{list_any, range_with_len}
 use Rattle.std.proofs.lemmas.Bool.{true≢false}
 use Rattle.std.proofs.lemmas.Bool.Decides.{nat_tests}
 use Rattle.run_model.specs.declared.entry.Entry.{Entry}
+use Rattle.run_model.specs.declared.run.RepoView.{RepoView}
+use Rattle.run_model.specs.SetUp.{offset_of}
 use Rattle.drop_proof.specs.declared.rule.Need.{Need}
 use Rattle.run_model.specs.declared.job.Outcome.{Outcome}
 use Rattle.run_model.specs.declared.entry.By.{By}
@@ -23,60 +25,60 @@ use Rattle.run_model.specs.Safety.{Removal, removal, removals, add_removal, loca
 use Rattle.annex_base.specs.Lists.{Each, Member}
 use Rattle.race_core.specs.Lawful.{Free, InTime, FoundRemote, IsFresh, Lawful}
 use Rattle.race_core.proofs.Lists.{or_false, Each-both, eqb_refl, true_or_false, Each-any, Each-weaker, or_left, or_right, Member-append}
-use Rattle.race_core.proofs.Gather.{never_target, gather_each, gather_count, candidates_count, enough_m, offer_locked, offer_recent}
+use Rattle.race_core.proofs.Gather.{never_target, evidence_each, evidence_count, enough_m, offer_locked, offer_recent}
 use Rattle.race_core.proofs.Changes.{TakesAway, present_stays, PutsBar, bar_was, decided_was, Shares, blocked_was, unblocked_later, lasts, lasts_stays, lasts-blocks, decided_keeps, decided_new, same_repo, removal_is, order_is, removal_was, Removes, Obeys, any_add, bytes_refl, same_owner_refl, VouchedBy, vouch_was, own_lock, sender_before, reply_vouched, some_inj}
 
 abbrev pub is_later : ℕ → Removal → Bool
 is_later place x = nat_lt place x.decision
 
 -- whatever removes the key at r from now on, or has removed it since, decided later than this place
-pub record LaterOnly (n : ℕ) (offset : ℕ → ℕ) (past : List Entry) (r place : ℕ) (key : List ℕ) : Type 0 where
+pub record LaterOnly (repos : List RepoView) (past : List Entry) (r place : ℕ) (key : List ℕ) : Type 0 where
   pub later : (j : ℕ) → bar past r key ≡ Some j → (d : Decision) × (decided past r j ≡ Some d) × (place < d.place)
-  pub copy : (present past r key ≡ true) ⊎ (list_any (is_later place) (removals n offset past key) ≡ true)
+  pub copy : (present past r key ≡ true) ⊎ (list_any (is_later place) (removals repos past key) ≡ true)
 
 -- an item that counts, and isn't a claim
-abbrev pub ItemOk : ℕ → (ℕ → ℕ) → List Entry → List ℕ → Side → ℕ → Evidence → Type 0
-ItemOk n offset past key side place i = counts side i ≡ true → is_trusted i.kind ≡ false → LaterOnly n offset past i.repo place key
+abbrev pub ItemOk : List RepoView → List Entry → List ℕ → Side → ℕ → Evidence → Type 0
+ItemOk repos past key side place i = counts side i ≡ true → is_trusted i.kind ≡ false → LaterOnly repos past i.repo place key
 
 -- what is known of a removal for ever
-pub record RemovalOk (n : ℕ) (offset : ℕ → ℕ) (past : List Entry) (key : List ℕ) (x : Removal) : Type 0 where
+pub record RemovalOk (repos : List RepoView) (past : List Entry) (key : List ℕ) (x : Removal) : Type 0 where
   pub before : x.decision < length past
-  pub items : Each (ItemOk n offset past key x.side x.decision) x.items
-  pub counted : (q : ℕ → Bool) → Each (λ i. counts x.side i ≡ true → q i.repo ≡ true) x.items → x.need.m ≤ count_by q (range_with_len 0 n)
+  pub items : Each (ItemOk repos past key x.side x.decision) x.items
+  pub counted : (q : ℕ → Bool) → Each (λ i. counts x.side i ≡ true → q i.repo ≡ true) x.items → x.need.m ≤ count_by q (range_with_len 0 (length repos))
 
 -- a lock that was vouched is recorded at r, and ends no earlier than ten minutes after it was asked for
-abbrev pub Lasts : (ℕ → ℕ) → List Entry → ℕ → Vouch → Type 0
-Lasts offset past r (Lock hold since owner key) = lasts (holds past r) hold (clock offset past r (since + 600000)) owner key ≡ true
-Lasts offset past r (Look key) = Unit {0}
+abbrev pub Lasts : List RepoView → List Entry → ℕ → Vouch → Type 0
+Lasts repos past r (Lock hold since owner key) = lasts (holds past r) hold (clock repos past r (since + 600000)) owner key ≡ true
+Lasts repos past r (Look key) = Unit {0}
 
-pub record Facts (n : ℕ) (offset : ℕ → ℕ) (past : List Entry) : Type 0 where
+pub record Facts (repos : List RepoView) (past : List Entry) : Type 0 where
   pub bar_there : (r j : ℕ) (key : List ℕ) → bar past r key ≡ Some j → present past r key ≡ true
-  pub bar_free : (r j t : ℕ) (key : List ℕ) → now past ≤ t → bar past r key ≡ Some j → is_blocked (holds past r) key (clock offset past r t) ≡ false
+  pub bar_free : (r j t : ℕ) (key : List ℕ) → now past ≤ t → bar past r key ≡ Some j → is_blocked (holds past r) key (clock repos past r t) ≡ false
   pub guarded : (r a j hold since : ℕ) (owner : By) (key : List ℕ) → Member (Lock hold since owner key) (vouches past r a j) → done past a j ≡ false → now past < since + 600000 → present past r key ≡ true
   pub placed : (a j : ℕ) (d : Decision) → decided past a j ≡ Some d → d.place < length past
-  pub vouched : (r a j : ℕ) (v : Vouch) (d : Decision) → Member v (vouches past r a j) → decided past a j ≡ Some d → LaterOnly n offset past r d.place (key_of v)
-  pub lasting : (r a j : ℕ) (v : Vouch) → Member v (vouches past r a j) → Lasts offset past r v ⊎ (done past a j ≡ true)
-  pub removed : (key : List ℕ) → Each (RemovalOk n offset past key) (removals n offset past key)
+  pub vouched : (r a j : ℕ) (v : Vouch) (d : Decision) → Member v (vouches past r a j) → decided past a j ≡ Some d → LaterOnly repos past r d.place (key_of v)
+  pub lasting : (r a j : ℕ) (v : Vouch) → Member v (vouches past r a j) → Lasts repos past r v ⊎ (done past a j ≡ true)
+  pub removed : (key : List ℕ) → Each (RemovalOk repos past key) (removals repos past key)
 
 -- ---- each fact is kept
 
-decided_still : (n : ℕ) (offset : ℕ → ℕ) (past : List Entry) (e : Entry) → Lawful n offset past e → (a j : ℕ) (d : Decision) → decided past a j ≡ Some d → decided (e ∷ past) a j ≡ Some d
-decided_still n offset past e law a j d h = elim (decided_keeps e past a j d h) [
+decided_still : (repos : List RepoView) (past : List Entry) (e : Entry) → Lawful repos past e → (a j : ℕ) (d : Decision) → decided past a j ≡ Some d → decided (e ∷ past) a j ≡ Some d
+decided_still repos past e law a j d h = elim (decided_keeps e past a j d h) [
   | inl s ↦ s
   | inr t ↦ let w = law.bars a j t.need t.key t.repo_is t.kind_is in let none : decided past a j ≡ None = w.first in cc
 ]
 
-later_still : (n : ℕ) (offset : ℕ → ℕ) (past : List Entry) (e : Entry) → Lawful n offset past e → (r place : ℕ) (key : List ℕ) → place < length past
-    → LaterOnly n offset past r place key → LaterOnly n offset (e ∷ past) r place key
-later_still n offset past e law r place key lt old = record { later = later; copy = copy old.copy }
+later_still : (repos : List RepoView) (past : List Entry) (e : Entry) → Lawful repos past e → (r place : ℕ) (key : List ℕ) → place < length past
+    → LaterOnly repos past r place key → LaterOnly repos (e ∷ past) r place key
+later_still repos past e law r place key lt old = record { later = later; copy = copy old.copy }
   where
     later : (j : ℕ) → bar (e ∷ past) r key ≡ Some j → (d : Decision) × (decided (e ∷ past) r j ≡ Some d) × (place < d.place)
     later j h = elim (bar_was e past r key j h) [
-      | inl s ↦ let w = old.later j s in (w.0, decided_still n offset past e law r j w.0 w.1, w.2)
+      | inl s ↦ let w = old.later j s in (w.0, decided_still repos past e law r j w.0 w.1, w.2)
       | inr t ↦ (record { place = length past; key = key; need = t.need }, decided_new e past r j t.need key t.repo_is t.kind_is, lt)
     ]
 
-    gone : (by : By) → is_of r e ≡ true → e.kind ≡ Gone by key → list_any (is_later place) (removals n offset (e ∷ past) key) ≡ true
+    gone : (by : By) → is_of r e ≡ true → e.kind ≡ Gone by key → list_any (is_later place) (removals repos (e ∷ past) key) ≡ true
     gone Script is kind = absurd (law.drops key kind)
     gone (by_job j) is kind =
         let w = law.removes r j key is kind in
@@ -84,16 +86,16 @@ later_still n offset past e law r place key lt old = record { later = later; cop
         let same : Some o.0 ≡ Some w.d = sym o.1 ∙ w.decided_is in
         let at : o.0 ≡ w.d = cc in
         let lt' : place < w.d.place = rw at at o.2 in
-        let first : is_later place (local_removal n offset past r j w.d) ≡ true = grind (arith, nat_tests) in
-        rw (removal_is n offset e past r j key w.d is kind w.decided_is) (or_left _ (list_any (is_later place) (removals n offset past key)) first)
+        let first : is_later place (local_removal repos past r j w.d) ≡ true = grind (arith, nat_tests) in
+        rw (removal_is repos e past r j key w.d is kind w.decided_is) (or_left _ (list_any (is_later place) (removals repos past key)) first)
     gone (Peer a slot) is kind =
         let w = law.obeys r a slot key is kind in
-        let first : is_later place (remote_removal n offset past r a w.j w.need w.s) ≡ true = grind (arith, nat_tests) in
-        rw (order_is n offset e past r a slot w.j w.target w.deadline w.need key w.s is kind w.sent_is w.kind_is) (or_left _ (list_any (is_later place) (removals n offset past key)) first)
+        let first : is_later place (remote_removal repos past r a w.j w.need w.s) ≡ true = grind (arith, nat_tests) in
+        rw (order_is repos e past r a slot w.j w.target w.deadline w.need key w.s is kind w.sent_is w.kind_is) (or_left _ (list_any (is_later place) (removals repos past key)) first)
 
-    copy : (present past r key ≡ true) ⊎ (list_any (is_later place) (removals n offset past key) ≡ true) → (present (e ∷ past) r key ≡ true) ⊎ (list_any (is_later place) (removals n offset (e ∷ past) key) ≡ true)
+    copy : (present past r key ≡ true) ⊎ (list_any (is_later place) (removals repos past key) ≡ true) → (present (e ∷ past) r key ≡ true) ⊎ (list_any (is_later place) (removals repos (e ∷ past) key) ≡ true)
     copy (inl s) = elim (present_stays e past r key s) [ inl k ↦ inl k | inr t ↦ inr (gone t.by t.repo_is t.kind_is) ]
-    copy (inr s) = inr (any_add (is_later place) (removal n offset past key e) (removals n offset past key) s)
+    copy (inr s) = inr (any_add (is_later place) (removal repos past key e) (removals repos past key) s)
 
 -- ---- vouches
 
@@ -106,24 +108,24 @@ vouched_no_bar r a j kind (Lock hold since owner key) w i need k g = let h : kin
 vouched_no_bar r a j kind (Look key) w i need k g = let h : kind ≡ Check w.0 key = w.1 in cc
 
 -- a copy without a bar, which the entry leaves alone, is later than each place so far
-free_later : (n : ℕ) (offset : ℕ → ℕ) (past : List Entry) (e : Entry) (r place : ℕ) (key : List ℕ) → Free past r key
-    → (TakesAway e r key → ⊥) → ((j : ℕ) → PutsBar e r key j → ⊥) → LaterOnly n offset (e ∷ past) r place key
-free_later n offset past e r place key row no_gone no_bar = record { later = later; copy = copy }
+free_later : (repos : List RepoView) (past : List Entry) (e : Entry) (r place : ℕ) (key : List ℕ) → Free past r key
+    → (TakesAway e r key → ⊥) → ((j : ℕ) → PutsBar e r key j → ⊥) → LaterOnly repos (e ∷ past) r place key
+free_later repos past e r place key row no_gone no_bar = record { later = later; copy = copy }
   where
     later : (i : ℕ) → bar (e ∷ past) r key ≡ Some i → (d : Decision) × (decided (e ∷ past) r i ≡ Some d) × (place < d.place)
     later i h = elim (bar_was e past r key i h) [ inl s ↦ let none : bar past r key ≡ None = row.free in cc | inr t ↦ absurd (no_bar i t) ]
 
-    copy : (present (e ∷ past) r key ≡ true) ⊎ (list_any (is_later place) (removals n offset (e ∷ past) key) ≡ true)
+    copy : (present (e ∷ past) r key ≡ true) ⊎ (list_any (is_later place) (removals repos (e ∷ past) key) ≡ true)
     copy = elim (present_stays e past r key row.there) [ inl s ↦ inl s | inr t ↦ absurd (no_gone t) ]
 
-vouched_kept : (n : ℕ) (offset : ℕ → ℕ) (past : List Entry) (e : Entry) → Facts n offset past → Lawful n offset past e
-    → (r a j : ℕ) (v : Vouch) (d : Decision) → Member v (vouches (e ∷ past) r a j) → decided (e ∷ past) a j ≡ Some d → LaterOnly n offset (e ∷ past) r d.place (key_of v)
-vouched_kept n offset past e f law r a j v d m h = elim (Member-append v (vouch past e r a j) (vouches past r a j) m) [
+vouched_kept : (repos : List RepoView) (past : List Entry) (e : Entry) → Facts repos past → Lawful repos past e
+    → (r a j : ℕ) (v : Vouch) (d : Decision) → Member v (vouches (e ∷ past) r a j) → decided (e ∷ past) a j ≡ Some d → LaterOnly repos (e ∷ past) r d.place (key_of v)
+vouched_kept repos past e f law r a j v d m h = elim (Member-append v (vouch past e r a j) (vouches past r a j) m) [
   | inl k ↦ let w = vouch_was past e r a j v k in
-      free_later n offset past e r d.place (key_of v) (law.copies r a j v k).0
+      free_later repos past e r d.place (key_of v) (law.copies r a j v k).0
       (λ t. vouched_no_gone r a j e.kind v w.1 t.by (key_of v) t.kind_is) (λ i t. vouched_no_bar r a j e.kind v w.1 i t.need (key_of v) t.kind_is)
   | inr k ↦ elim (decided_was e past a j d h) [
-    | inl s ↦ later_still n offset past e law r d.place (key_of v) (f.placed a j d s) (f.vouched r a j v d k s)
+    | inl s ↦ later_still repos past e law r d.place (key_of v) (f.placed a j d s) (f.vouched r a j v d k s)
     | inr t ↦ let none : vouches past r a j ≡ [] = (law.bars a j d.need d.key t.repo_is t.kind_is).fresh r in absurd (subst (λ vs. Member v vs) none k)
   ]
 ]
@@ -138,24 +140,24 @@ new_lasts past e r hold end until owner key is kind le = rw (is, kind, eqb_refl 
     le' : nat_le until end ≡ true
     le' = grind (arith, nat_tests)
 
-lasting_kept : (n : ℕ) (offset : ℕ → ℕ) (past : List Entry) (e : Entry) → Facts n offset past → Lawful n offset past e
-    → (r a j : ℕ) (v : Vouch) → Member v (vouches (e ∷ past) r a j) → Lasts offset (e ∷ past) r v ⊎ (done (e ∷ past) a j ≡ true)
-lasting_kept n offset past e f law r a j (Look key) m = inl tt
-lasting_kept n offset past e f law r a j (Lock hold since owner key) m = elim (Member-append v (vouch past e r a j) (vouches past r a j) m) [ inl k ↦ inl (fresh k) | inr k ↦ old k (f.lasting r a j v k) ]
+lasting_kept : (repos : List RepoView) (past : List Entry) (e : Entry) → Facts repos past → Lawful repos past e
+    → (r a j : ℕ) (v : Vouch) → Member v (vouches (e ∷ past) r a j) → Lasts repos (e ∷ past) r v ⊎ (done (e ∷ past) a j ≡ true)
+lasting_kept repos past e f law r a j (Look key) m = inl tt
+lasting_kept repos past e f law r a j (Lock hold since owner key) m = elim (Member-append v (vouch past e r a j) (vouches past r a j) m) [ inl k ↦ inl (fresh k) | inr k ↦ old k (f.lasting r a j v k) ]
   where
     v : Vouch
     v = Lock hold since owner key
 
-    fresh : Member (Lock hold since owner key) (vouch past e r a j) → lasts (holds (e ∷ past) r) hold (clock offset past r (since + 600000)) owner key ≡ true
+    fresh : Member (Lock hold since owner key) (vouch past e r a j) → lasts (holds (e ∷ past) r) hold (clock repos past r (since + 600000)) owner key ≡ true
     fresh k =
         let w = vouch_was past e r a j (Lock hold since owner key) k in
         let s = law.shares r hold w.1.0 owner key w.0 w.1.1.0 in
-        new_lasts past e r hold w.1.0 (clock offset past r (since + 600000)) owner key w.0 w.1.1.0 (omega (arith, s.1, (law.copies r a j (Lock hold since owner key) k).1))
+        new_lasts past e r hold w.1.0 (clock repos past r (since + 600000)) owner key w.0 w.1.1.0 (omega (arith, s.1, (law.copies r a j (Lock hold since owner key) k).1))
 
-    old : Member (Lock hold since owner key) (vouches past r a j) → Lasts offset past r (Lock hold since owner key) ⊎ (done past a j ≡ true)
-        → (lasts (holds (e ∷ past) r) hold (clock offset past r (since + 600000)) owner key ≡ true) ⊎ (done (e ∷ past) a j ≡ true)
+    old : Member (Lock hold since owner key) (vouches past r a j) → Lasts repos past r (Lock hold since owner key) ⊎ (done past a j ≡ true)
+        → (lasts (holds (e ∷ past) r) hold (clock repos past r (since + 600000)) owner key ≡ true) ⊎ (done (e ∷ past) a j ≡ true)
     old k (inr d) = inr (or_right (is_of a e && done_kind j e.kind) (done past a j) d)
-    old k (inl l) = elim (lasts_stays e past r hold (clock offset past r (since + 600000)) owner key l) [
+    old k (inl l) = elim (lasts_stays e past r hold (clock repos past r (since + 600000)) owner key l) [
       | inl s ↦ inl s
       | inr s ↦ elim s [
         | inl t ↦ inr (or_right (is_of a e && done_kind j e.kind) (done past a j) (law.releases r hold t.key t.repo_is t.kind_is a j since owner key k))
@@ -167,21 +169,21 @@ lasting_kept n offset past e f law r a j (Lock hold since owner key) m = elim (M
 -- ---- a hold that was vouched keeps the copy, and lets no bar come
 
 -- while a vouched lock lasts, its hold blocks
-lock_blocks : (n : ℕ) (offset : ℕ → ℕ) (past : List Entry) (t : ℕ) → Facts n offset past → now past ≤ t → (c a j hold since : ℕ) (owner : By) (key : List ℕ)
-    → Member (Lock hold since owner key) (vouches past c a j) → done past a j ≡ false → t < since + 600000 → is_blocked (holds past c) key (clock offset past c t) ≡ true
-lock_blocks n offset past t f le c a j hold since owner key m open' lt = go (f.lasting c a j (Lock hold since owner key) m)
+lock_blocks : (repos : List RepoView) (past : List Entry) (t : ℕ) → Facts repos past → now past ≤ t → (c a j hold since : ℕ) (owner : By) (key : List ℕ)
+    → Member (Lock hold since owner key) (vouches past c a j) → done past a j ≡ false → t < since + 600000 → is_blocked (holds past c) key (clock repos past c t) ≡ true
+lock_blocks repos past t f le c a j hold since owner key m open' lt = go (f.lasting c a j (Lock hold since owner key) m)
   where
-    go : Lasts offset past c (Lock hold since owner key) ⊎ (done past a j ≡ true) → is_blocked (holds past c) key (clock offset past c t) ≡ true
+    go : Lasts repos past c (Lock hold since owner key) ⊎ (done past a j ≡ true) → is_blocked (holds past c) key (clock repos past c t) ≡ true
     go (inr d) = absurd (true≢false (sym d ∙ open'))
-    go (inl l) = lasts-blocks (holds past c) hold (clock offset past c (since + 600000)) owner key (clock offset past c t) (omega arith) l
+    go (inl l) = lasts-blocks (holds past c) hold (clock repos past c (since + 600000)) owner key (clock repos past c t) (omega arith) l
 
-pub lock_there : (n : ℕ) (offset : ℕ → ℕ) (past : List Entry) (e : Entry) → Facts n offset past → Lawful n offset past e → (c a j hold since : ℕ) (owner : By) (key : List ℕ)
+pub lock_there : (repos : List RepoView) (past : List Entry) (e : Entry) → Facts repos past → Lawful repos past e → (c a j hold since : ℕ) (owner : By) (key : List ℕ)
     → Member (Lock hold since owner key) (vouches past c a j) → done past a j ≡ false → e.time < since + 600000 → Free past c key
-lock_there n offset past e f law c a j hold since owner key m open' lt =
+lock_there repos past e f law c a j hold since owner key m open' lt =
     record { there = f.guarded c a j hold since owner key m open' (omega (arith, law.time)); free = free (bar past c key) refl }
   where
-    blocked : is_blocked (holds past c) key (clock offset past c e.time) ≡ true
-    blocked = lock_blocks n offset past e.time f law.time c a j hold since owner key m open' lt
+    blocked : is_blocked (holds past c) key (clock repos past c e.time) ≡ true
+    blocked = lock_blocks repos past e.time f law.time c a j hold since owner key m open' lt
 
     free : (o : Option ℕ) → bar past c key ≡ o → o ≡ None
     free None h = refl
@@ -189,10 +191,10 @@ lock_there n offset past e f law c a j hold since owner key m open' lt =
 
 -- ---- removals
 
-removal_still : (n : ℕ) (offset : ℕ → ℕ) (past : List Entry) (e : Entry) → Lawful n offset past e → (key : List ℕ) (x : Removal) → RemovalOk n offset past key x → RemovalOk n offset (e ∷ past) key x
-removal_still n offset past e law key x old = record {
+removal_still : (repos : List RepoView) (past : List Entry) (e : Entry) → Lawful repos past e → (key : List ℕ) (x : Removal) → RemovalOk repos past key x → RemovalOk repos (e ∷ past) key x
+removal_still repos past e law key x old = record {
   before = omega (arith, old.before);
-  items = Each-weaker (ItemOk n offset past key x.side x.decision) (ItemOk n offset (e ∷ past) key x.side x.decision) (λ i h c t. later_still n offset past e law i.repo x.decision key old.before (h c t)) x.items old.items;
+  items = Each-weaker (ItemOk repos past key x.side x.decision) (ItemOk repos (e ∷ past) key x.side x.decision) (λ i h c t. later_still repos past e law i.repo x.decision key old.before (h c t)) x.items old.items;
   counted = old.counted;
 }
 
@@ -200,66 +202,65 @@ same_decision : (past : List Entry) (r j : ℕ) (d d' : Decision) → decided pa
 same_decision past r j d d' h k = let e : Some d ≡ Some d' = sym h ∙ k in cc
 
 -- what the entry found, with the removal's own decision
-pub record LocalDrop (n : ℕ) (offset : ℕ → ℕ) (past : List Entry) (r j time : ℕ) (key : List ℕ) (d : Decision) : Type 0 where
+pub record LocalDrop (repos : List RepoView) (past : List Entry) (r j time : ℕ) (key : List ℕ) (d : Decision) : Type 0 where
   pub barred : bar past r key ≡ Some j
   pub key_is : d.key ≡ key
-  pub enough : is_enough Local d.need (evidence Local n offset past r j r d.need) ≡ true
-  pub in_time : InTime past r j time key (evidence Local n offset past r j r d.need)
+  pub enough : is_enough Local d.need (evidence Local repos past r j r d.need) ≡ true
+  pub in_time : InTime past r j time key (evidence Local repos past r j r d.need)
   pub open' : done past r j ≡ false
 
-pub local_drop : (n : ℕ) (offset : ℕ → ℕ) (past : List Entry) (e : Entry) → Lawful n offset past e → (r j : ℕ) (key : List ℕ) (d : Decision) → is_of r e ≡ true → e.kind ≡ Gone (by_job j) key
-    → decided past r j ≡ Some d → LocalDrop n offset past r j e.time key d
-local_drop n offset past e law r j key d is kind at =
+pub local_drop : (repos : List RepoView) (past : List Entry) (e : Entry) → Lawful repos past e → (r j : ℕ) (key : List ℕ) (d : Decision) → is_of r e ≡ true → e.kind ≡ Gone (by_job j) key
+    → decided past r j ≡ Some d → LocalDrop repos past r j e.time key d
+local_drop repos past e law r j key d is kind at =
     let w = law.removes r j key is kind in
-    subst (λ (x : Decision). LocalDrop n offset past r j e.time key x) (same_decision past r j w.d d w.decided_is at)
+    subst (λ (x : Decision). LocalDrop repos past r j e.time key x) (same_decision past r j w.d d w.decided_is at)
     (record { barred = w.barred; key_is = w.key_is; enough = w.enough; in_time = w.in_time; open' = w.open' })
 
 -- the items of a local drop
-local_item : (n : ℕ) (offset : ℕ → ℕ) (past : List Entry) (e : Entry) → Facts n offset past → Lawful n offset past e → (r j : ℕ) (key : List ℕ) (d : Decision) → decided past r j ≡ Some d → LocalDrop n offset past r j e.time key d
-    → (c : ℕ) (kind : Kind) → asked offset past r j c ≡ Gives kind → ItemOk n offset (e ∷ past) key Local d.place (record { repo = c; kind = kind })
-local_item n offset past e f law r j key d at w c Trusted g y t = cc
-local_item n offset past e f law r j key d at w c (Locked end) g y t =
-    let o = offer_locked (offset r) (standing past r j c) (reply past r j c) end g in
+local_item : (repos : List RepoView) (past : List Entry) (e : Entry) → Facts repos past → Lawful repos past e → (r j : ℕ) (key : List ℕ) (d : Decision) → decided past r j ≡ Some d → LocalDrop repos past r j e.time key d
+    → (c : ℕ) (kind : Kind) → asked repos past r j c ≡ Gives kind → ItemOk repos (e ∷ past) key Local d.place (record { repo = c; kind = kind })
+local_item repos past e f law r j key d at w c Trusted g y t = cc
+local_item repos past e f law r j key d at w c (Locked end) g y t =
+    let o = offer_locked (offset_of repos r) (standing repos past r j c) (reply past r j c) end g in
     let v : Vouch = Lock o.0 o.1 o.2.0 o.2.1.0 in
     let is : reply past r j c ≡ Some v = o.2.1.1 in
-    later_still n offset past e law c d.place key (f.placed r j d at)
-    (subst (λ k. LaterOnly n offset past c d.place k) (w.in_time.keys c v is) (f.vouched c r j v d (reply_vouched past r j c v is) at))
-local_item n offset past e f law r j key d at w c Recent g y t =
-    let o = offer_recent (offset r) (standing past r j c) (reply past r j c) g in
-    later_still n offset past e law c d.place key (f.placed r j d at)
-    (subst (λ k. LaterOnly n offset past c d.place k) (w.in_time.keys c (Look o.0) o.1) (f.vouched c r j (Look o.0) d (reply_vouched past r j c (Look o.0) o.1) at))
+    later_still repos past e law c d.place key (f.placed r j d at)
+    (subst (λ k. LaterOnly repos past c d.place k) (w.in_time.keys c v is) (f.vouched c r j v d (reply_vouched past r j c v is) at))
+local_item repos past e f law r j key d at w c Recent g y t =
+    let o = offer_recent (offset_of repos r) (standing repos past r j c) (reply past r j c) g in
+    later_still repos past e law c d.place key (f.placed r j d at)
+    (subst (λ k. LaterOnly repos past c d.place k) (w.in_time.keys c (Look o.0) o.1) (f.vouched c r j (Look o.0) d (reply_vouched past r j c (Look o.0) o.1) at))
 
-local_ok : (n : ℕ) (offset : ℕ → ℕ) (past : List Entry) (e : Entry) → Facts n offset past → Lawful n offset past e → (r j : ℕ) (key : List ℕ) (d : Decision) → decided past r j ≡ Some d → LocalDrop n offset past r j e.time key d
-    → RemovalOk n offset (e ∷ past) key (local_removal n offset past r j d)
-local_ok n offset past e f law r j key d at w = record {
+local_ok : (repos : List RepoView) (past : List Entry) (e : Entry) → Facts repos past → Lawful repos past e → (r j : ℕ) (key : List ℕ) (d : Decision) → decided past r j ≡ Some d → LocalDrop repos past r j e.time key d
+    → RemovalOk repos (e ∷ past) key (local_removal repos past r j d)
+local_ok repos past e f law r j key d at w = record {
   before = omega (arith, f.placed r j d at);
-  items = gather_each (ItemOk n offset (e ∷ past) key Local d.place) (λ c. Unit {0}) Local d.need (asked offset past r j)
-      (λ c kind u g. local_item n offset past e f law r j key d at w c kind g) (candidates Local n r r) [] (Each-any (candidates Local n r r)) tt;
+  items = evidence_each (ItemOk repos (e ∷ past) key Local d.place) (λ c. Unit {0}) Local repos past r j r d.need
+      (λ c kind u g. local_item repos past e f law r j key d at w c kind g) (Each-any (candidates Local (length repos) r r));
   counted = λ q all. omega (
     arith,
-    enough_m Local d.need (evidence Local n offset past r j r d.need) w.enough,
-    gather_count q Local d.need (asked offset past r j) (candidates Local n r r) [] all,
-    candidates_count q Local n r r tt,
+    enough_m Local d.need (evidence Local repos past r j r d.need) w.enough,
+    evidence_count q Local repos past r j r d.need tt all,
   );
 }
 
 -- a copy that a remote drop locked, as its order is obeyed
-pub remote_lock : (n : ℕ) (offset : ℕ → ℕ) (past : List Entry) (e : Entry) → Facts n offset past → Lawful n offset past e → (r a : ℕ) (key : List ℕ) → (w : FoundRemote n offset past e r a key)
-    → (c end : ℕ) → asked offset w.s.before a w.j c ≡ Gives (Locked end) → IsFresh w.s.before a w.j e.time (record { repo = c; kind = Locked end }) → Free past c key
-remote_lock n offset past e f law r a key w c end g lt =
-    let o = offer_locked (offset a) (standing w.s.before a w.j c) (reply w.s.before a w.j c) end g in
+pub remote_lock : (repos : List RepoView) (past : List Entry) (e : Entry) → Facts repos past → Lawful repos past e → (r a : ℕ) (key : List ℕ) → (w : FoundRemote repos past e r a key)
+    → (c end : ℕ) → asked repos w.s.before a w.j c ≡ Gives (Locked end) → IsFresh w.s.before a w.j e.time (record { repo = c; kind = Locked end }) → Free past c key
+remote_lock repos past e f law r a key w c end g lt =
+    let o = offer_locked (offset_of repos a) (standing repos w.s.before a w.j c) (reply w.s.before a w.j c) end g in
     let v : Vouch = Lock o.0 o.1 o.2.0 o.2.1.0 in
     let is : reply w.s.before a w.j c ≡ Some v = o.2.1.1 in
     let m = sender_before past r e.taken w.s c a w.j v w.sent_is (reply_vouched w.s.before a w.j c v is) in
-    subst (λ k. Free past c k) (w.in_time.keys c v is) (lock_there n offset past e f law c a w.j o.0 o.1 o.2.0 o.2.1.0 m w.open' (lt end o.0 o.1 o.2.0 o.2.1.0 refl is))
+    subst (λ k. Free past c k) (w.in_time.keys c v is) (lock_there repos past e f law c a w.j o.0 o.1 o.2.0 o.2.1.0 m w.open' (lt end o.0 o.1 o.2.0 o.2.1.0 refl is))
 
-remote_item : (n : ℕ) (offset : ℕ → ℕ) (past : List Entry) (e : Entry) → Facts n offset past → Lawful n offset past e → (r a slot : ℕ) (key : List ℕ) → is_of r e ≡ true → e.kind ≡ Gone (Peer a slot) key
-    → (w : FoundRemote n offset past e r a key) → (c : ℕ) (kind : Kind) → not (c == r) ≡ true → asked offset w.s.before a w.j c ≡ Gives kind
-    → IsFresh w.s.before a w.j e.time (record { repo = c; kind = kind }) → ItemOk n offset (e ∷ past) key Remote (length past) (record { repo = c; kind = kind })
-remote_item n offset past e f law r a slot key is kind w c Trusted other g lt y t = cc
-remote_item n offset past e f law r a slot key is kind w c Recent other g lt y t = cc
-remote_item n offset past e f law r a slot key is kind w c (Locked end) other g lt y t =
-    free_later n offset past e c (length past) key (remote_lock n offset past e f law r a key w c end g lt)
+remote_item : (repos : List RepoView) (past : List Entry) (e : Entry) → Facts repos past → Lawful repos past e → (r a slot : ℕ) (key : List ℕ) → is_of r e ≡ true → e.kind ≡ Gone (Peer a slot) key
+    → (w : FoundRemote repos past e r a key) → (c : ℕ) (kind : Kind) → not (c == r) ≡ true → asked repos w.s.before a w.j c ≡ Gives kind
+    → IsFresh w.s.before a w.j e.time (record { repo = c; kind = kind }) → ItemOk repos (e ∷ past) key Remote (length past) (record { repo = c; kind = kind })
+remote_item repos past e f law r a slot key is kind w c Trusted other g lt y t = cc
+remote_item repos past e f law r a slot key is kind w c Recent other g lt y t = cc
+remote_item repos past e f law r a slot key is kind w c (Locked end) other g lt y t =
+    free_later repos past e c (length past) key (remote_lock repos past e f law r a key w c end g lt)
     (λ k. not_there k) (λ i k. gone_no_bar (Peer a slot) key i k.need key e.kind kind k.kind_is)
   where
     gone_no_bar : (by : By) (k : List ℕ) (i : ℕ) (need : Need) (l : List ℕ) (kind' : EntryKind) → kind' ≡ Gone by k → kind' ≡ Bar i need l → ⊥
@@ -268,47 +269,46 @@ remote_item n offset past e f law r a slot key is kind w c (Locked end) other g 
     not_there : TakesAway e c key → ⊥
     not_there k = let same : c ≡ r = same_repo e c r k.repo_is is in absurd (true≢false (sym (subst (λ x. not (x == r) ≡ true) same other) ∙ ap not (eqb_refl r)))
 
-remote_ok : (n : ℕ) (offset : ℕ → ℕ) (past : List Entry) (e : Entry) → Facts n offset past → Lawful n offset past e → (r a slot : ℕ) (key : List ℕ) → is_of r e ≡ true → e.kind ≡ Gone (Peer a slot) key
-    → (w : FoundRemote n offset past e r a key) → RemovalOk n offset (e ∷ past) key (remote_removal n offset past r a w.j w.need w.s)
-remote_ok n offset past e f law r a slot key is kind w = record {
+remote_ok : (repos : List RepoView) (past : List Entry) (e : Entry) → Facts repos past → Lawful repos past e → (r a slot : ℕ) (key : List ℕ) → is_of r e ≡ true → e.kind ≡ Gone (Peer a slot) key
+    → (w : FoundRemote repos past e r a key) → RemovalOk repos (e ∷ past) key (remote_removal repos past r a w.j w.need w.s)
+remote_ok repos past e f law r a slot key is kind w = record {
   before = omega arith;
-  items = Each-both _ _ (ItemOk n offset (e ∷ past) key Remote (length past)) (λ i h k. h k) (evidence Remote n offset w.s.before a w.j r w.need)
-      (gather_each (λ i. IsFresh w.s.before a w.j e.time i → ItemOk n offset (e ∷ past) key Remote (length past) i) (λ c. not (c == r) ≡ true) Remote w.need (asked offset w.s.before a w.j)
-      (λ c kind' other g. remote_item n offset past e f law r a slot key is kind w c kind' other g) (candidates Remote n a r) [] (never_target Remote n a r w.other) tt)
+  items = Each-both _ _ (ItemOk repos (e ∷ past) key Remote (length past)) (λ i h k. h k) (evidence Remote repos w.s.before a w.j r w.need)
+      (evidence_each (λ i. IsFresh w.s.before a w.j e.time i → ItemOk repos (e ∷ past) key Remote (length past) i) (λ c. not (c == r) ≡ true) Remote repos w.s.before a w.j r w.need
+      (λ c kind' other g. remote_item repos past e f law r a slot key is kind w c kind' other g) (never_target Remote (length repos) a r w.other))
       w.in_time.ends;
   counted = λ q all. omega (
     arith,
-    enough_m Remote w.need (evidence Remote n offset w.s.before a w.j r w.need) w.enough,
-    gather_count q Remote w.need (asked offset w.s.before a w.j) (candidates Remote n a r) [] all,
-    candidates_count q Remote n a r w.in_range,
+    enough_m Remote w.need (evidence Remote repos w.s.before a w.j r w.need) w.enough,
+    evidence_count q Remote repos w.s.before a w.j r w.need w.in_range all,
   );
 }
 
 -- the removal that the entry is, by what the entry found
-pub obeyed : (n : ℕ) (offset : ℕ → ℕ) (past : List Entry) (e : Entry) → Lawful n offset past e → (key : List ℕ) (x : Removal) → (t : Obeys n offset e past key x)
-    → (w : FoundRemote n offset past e t.r t.a key) × (x ≡ remote_removal n offset past t.r t.a w.j w.need w.s)
-obeyed n offset past e law key x t =
+pub obeyed : (repos : List RepoView) (past : List Entry) (e : Entry) → Lawful repos past e → (key : List ℕ) (x : Removal) → (t : Obeys repos e past key x)
+    → (w : FoundRemote repos past e t.r t.a key) × (x ≡ remote_removal repos past t.r t.a w.j w.need w.s)
+obeyed repos past e law key x t =
     let w = law.obeys t.r t.a t.slot key t.repo_is t.kind_is in
-    let a : removal n offset past key e ≡ Some (remote_removal n offset past t.r t.a w.j w.need w.s) = order_is n offset e past t.r t.a t.slot w.j w.target w.deadline w.need key w.s t.repo_is t.kind_is w.sent_is w.kind_is in
-    let b : removal n offset past key e ≡ Some (remote_removal n offset past t.r t.a t.j t.need t.s) = order_is n offset e past t.r t.a t.slot t.j t.target t.deadline t.need key t.s t.repo_is t.kind_is t.sent_is t.order_is in
-    let c : Some (remote_removal n offset past t.r t.a t.j t.need t.s) ≡ Some (remote_removal n offset past t.r t.a w.j w.need w.s) = sym b ∙ a in
+    let a : removal repos past key e ≡ Some (remote_removal repos past t.r t.a w.j w.need w.s) = order_is repos e past t.r t.a t.slot w.j w.target w.deadline w.need key w.s t.repo_is t.kind_is w.sent_is w.kind_is in
+    let b : removal repos past key e ≡ Some (remote_removal repos past t.r t.a t.j t.need t.s) = order_is repos e past t.r t.a t.slot t.j t.target t.deadline t.need key t.s t.repo_is t.kind_is t.sent_is t.order_is in
+    let c : Some (remote_removal repos past t.r t.a t.j t.need t.s) ≡ Some (remote_removal repos past t.r t.a w.j w.need w.s) = sym b ∙ a in
     (w, t.is ∙ some_inj _ _ c)
 
-removed_kept : (n : ℕ) (offset : ℕ → ℕ) (past : List Entry) (e : Entry) → Facts n offset past → Lawful n offset past e → (key : List ℕ) → Each (RemovalOk n offset (e ∷ past) key) (removals n offset (e ∷ past) key)
-removed_kept n offset past e f law key = go (removal n offset past key e) refl
+removed_kept : (repos : List RepoView) (past : List Entry) (e : Entry) → Facts repos past → Lawful repos past e → (key : List ℕ) → Each (RemovalOk repos (e ∷ past) key) (removals repos (e ∷ past) key)
+removed_kept repos past e f law key = go (removal repos past key e) refl
   where
-    old : Each (RemovalOk n offset (e ∷ past) key) (removals n offset past key)
-    old = Each-weaker (RemovalOk n offset past key) (RemovalOk n offset (e ∷ past) key) (λ x h. removal_still n offset past e law key x h) (removals n offset past key) (f.removed key)
+    old : Each (RemovalOk repos (e ∷ past) key) (removals repos past key)
+    old = Each-weaker (RemovalOk repos past key) (RemovalOk repos (e ∷ past) key) (λ x h. removal_still repos past e law key x h) (removals repos past key) (f.removed key)
 
-    one : (x : Removal) → Removes n offset e past key x ⊎ Obeys n offset e past key x → RemovalOk n offset (e ∷ past) key x
-    one x (inl t) = subst (λ y. RemovalOk n offset (e ∷ past) key y) (sym t.is)
-        (local_ok n offset past e f law t.r t.j key t.d t.decided_is (local_drop n offset past e law t.r t.j key t.d t.repo_is t.kind_is t.decided_is))
-    one x (inr t) = let w = obeyed n offset past e law key x t in
-        subst (λ y. RemovalOk n offset (e ∷ past) key y) (sym w.1) (remote_ok n offset past e f law t.r t.a t.slot key t.repo_is t.kind_is w.0)
+    one : (x : Removal) → Removes repos e past key x ⊎ Obeys repos e past key x → RemovalOk repos (e ∷ past) key x
+    one x (inl t) = subst (λ y. RemovalOk repos (e ∷ past) key y) (sym t.is)
+        (local_ok repos past e f law t.r t.j key t.d t.decided_is (local_drop repos past e law t.r t.j key t.d t.repo_is t.kind_is t.decided_is))
+    one x (inr t) = let w = obeyed repos past e law key x t in
+        subst (λ y. RemovalOk repos (e ∷ past) key y) (sym w.1) (remote_ok repos past e f law t.r t.a t.slot key t.repo_is t.kind_is w.0)
 
-    go : (o : Option Removal) → removal n offset past key e ≡ o → Each (RemovalOk n offset (e ∷ past) key) (add_removal o (removals n offset past key))
+    go : (o : Option Removal) → removal repos past key e ≡ o → Each (RemovalOk repos (e ∷ past) key) (add_removal o (removals repos past key))
     go None h = old
-    go (Some x) h = (one x (removal_was n offset e past key x h), old)
+    go (Some x) h = (one x (removal_was repos e past key x h), old)
 
 -- ---- all together
 
@@ -325,31 +325,31 @@ share_no_bar : (e : Entry) (r j : ℕ) (key : List ℕ) → Shares e r key → P
 share_no_bar e r j key s t = let g : e.kind ≡ Bar j t.need key = t.kind_is in let h : e.kind ≡ Share s.hold s.end s.owner key = s.kind_is in cc
 
 -- an entry that takes the key away found no hold that blocks
-unheld_gone : (n : ℕ) (offset : ℕ → ℕ) (past : List Entry) (e : Entry) → Facts n offset past → Lawful n offset past e → (r t : ℕ) (by : By) (key : List ℕ) → e.time ≤ t → is_of r e ≡ true → e.kind ≡ Gone by key
-    → is_blocked (holds past r) key (clock offset past r t) ≡ false
-unheld_gone n offset past e f law r t Script key le is kind = absurd (law.drops key kind)
-unheld_gone n offset past e f law r t (by_job j) key le is kind = f.bar_free r j t key (omega (arith, law.time)) (law.removes r j key is kind).barred
-unheld_gone n offset past e f law r t (Peer a slot) key le is kind = unblocked_later (holds past r) key (clock offset past r e.time) (t + offset r) (omega arith) (law.obeys r a slot key is kind).unheld
+unheld_gone : (repos : List RepoView) (past : List Entry) (e : Entry) → Facts repos past → Lawful repos past e → (r t : ℕ) (by : By) (key : List ℕ) → e.time ≤ t → is_of r e ≡ true → e.kind ≡ Gone by key
+    → is_blocked (holds past r) key (clock repos past r t) ≡ false
+unheld_gone repos past e f law r t Script key le is kind = absurd (law.drops key kind)
+unheld_gone repos past e f law r t (by_job j) key le is kind = f.bar_free r j t key (omega (arith, law.time)) (law.removes r j key is kind).barred
+unheld_gone repos past e f law r t (Peer a slot) key le is kind = unblocked_later (holds past r) key (clock repos past r e.time) (t + offset_of repos r) (omega arith) (law.obeys r a slot key is kind).unheld
 
-pub facts_kept : (n : ℕ) (offset : ℕ → ℕ) (past : List Entry) (e : Entry) → Facts n offset past → Lawful n offset past e → Facts n offset (e ∷ past)
-facts_kept n offset past e f law = record {
+pub facts_kept : (repos : List RepoView) (past : List Entry) (e : Entry) → Facts repos past → Lawful repos past e → Facts repos (e ∷ past)
+facts_kept repos past e f law = record {
   bar_there = λ r j key h. elim (present_stays e past r key (there r j key h)) [ inl s ↦ s | inr t ↦ absurd (bar_gone_not past e r j key h t) ];
-  bar_free = λ r j t key le h. elim (true_or_false (is_blocked (holds (e ∷ past) r) key (clock offset past r t))) [ inl s ↦ absurd (free r j t key le h s) | inr s ↦ s ];
+  bar_free = λ r j t key le h. elim (true_or_false (is_blocked (holds (e ∷ past) r) key (clock repos past r t))) [ inl s ↦ absurd (free r j t key le h s) | inr s ↦ s ];
   guarded = λ r a j hold since owner key m o lt. guarded r a j hold since owner key o lt (Member-append (Lock hold since owner key) (vouch past e r a j) (vouches past r a j) m);
   placed = λ a j d h. elim (decided_was e past a j d h) [ inl s ↦ omega (arith, f.placed a j d s) | inr t ↦ omega (arith, t.place_is) ];
-  vouched = λ r a j v d m h. vouched_kept n offset past e f law r a j v d m h;
-  lasting = λ r a j v m. lasting_kept n offset past e f law r a j v m;
-  removed = removed_kept n offset past e f law;
+  vouched = λ r a j v d m h. vouched_kept repos past e f law r a j v d m h;
+  lasting = λ r a j v m. lasting_kept repos past e f law r a j v m;
+  removed = removed_kept repos past e f law;
 }
   where
     there : (r j : ℕ) (key : List ℕ) → bar (e ∷ past) r key ≡ Some j → present past r key ≡ true
     there r j key h = elim (bar_was e past r key j h) [ inl s ↦ f.bar_there r j key s | inr t ↦ (law.bars r j t.need key t.repo_is t.kind_is).row.there ]
 
-    free : (r j t : ℕ) (key : List ℕ) → e.time ≤ t → bar (e ∷ past) r key ≡ Some j → is_blocked (holds (e ∷ past) r) key (clock offset past r t) ≡ true → ⊥
-    free r j t key le h s = elim (blocked_was e past r key (clock offset past r t) s) [
+    free : (r j t : ℕ) (key : List ℕ) → e.time ≤ t → bar (e ∷ past) r key ≡ Some j → is_blocked (holds (e ∷ past) r) key (clock repos past r t) ≡ true → ⊥
+    free r j t key le h s = elim (blocked_was e past r key (clock repos past r t) s) [
       | inl k ↦ elim (bar_was e past r key j h) [
         | inl b ↦ absurd (true≢false (sym k ∙ f.bar_free r j t key (omega (arith, law.time)) b))
-        | inr p ↦ absurd (true≢false (sym k ∙ unblocked_later (holds past r) key (clock offset past r e.time) (t + offset r) (omega arith) (law.bars r j p.need key p.repo_is p.kind_is).unheld))
+        | inr p ↦ absurd (true≢false (sym k ∙ unblocked_later (holds past r) key (clock repos past r e.time) (t + offset_of repos r) (omega arith) (law.bars r j p.need key p.repo_is p.kind_is).unheld))
       ]
       | inr k ↦ elim (bar_was e past r key j h) [
         | inl b ↦ let none : bar past r key ≡ None = (law.shares r k.hold k.end k.owner key k.repo_is k.kind_is).0.free in cc
@@ -367,11 +367,11 @@ facts_kept n offset past e f law = record {
         let open' : done past a j ≡ false = (or_false (is_of a e && done_kind j e.kind) (done past a j) o).1 in
         elim (present_stays e past r key (f.guarded r a j hold since owner key k open' (omega (arith, law.time)))) [
           | inl s ↦ s
-          | inr g ↦ absurd (true≢false (sym (lock_blocks n offset past e.time f law.time r a j hold since owner key k open' lt) ∙ unheld_gone n offset past e f law r e.time g.by key (omega arith) g.repo_is g.kind_is))
+          | inr g ↦ absurd (true≢false (sym (lock_blocks repos past e.time f law.time r a j hold since owner key k open' lt) ∙ unheld_gone repos past e f law r e.time g.by key (omega arith) g.repo_is g.kind_is))
         ]
 
-pub facts_start : (n : ℕ) (offset : ℕ → ℕ) → Facts n offset []
-facts_start n offset = record {
+pub facts_start : (repos : List RepoView) → Facts repos []
+facts_start repos = record {
   bar_there = λ r j key h. cc;
   bar_free = λ r j t key le h. refl;
   guarded = λ r a j hold since owner key m o lt. absurd m;

@@ -8,4 +8,7 @@ pub mod Pasts
 pub mod AtPlaces
 pub mod ThinCauses
 pub mod Checking
+pub mod ThinReads
+pub mod ReadLaws
+pub mod ReadingFacts
 pub mod CheckedFacts

@@ -1,7 +1,14 @@
--- What the checker of safe runs keeps of a run: of a lock it leaves out the end, and of a removal the place of its
--- decision, since what a safe run is doesn't read them (own).
-use Rattle.std.specs.Prelude.{ℕ, Bool, true, false, not, ◌&&◌, ◌||◌, if◌then◌else◌, ◌==◌, nat_le, max, List, [], ◌∷◌, ◌++◌, length, filter, map, take, reverse, count_by, Option, Some, None, option_map, slice_get}
+-- What the checker of safe runs keeps of a run: of a lock it leaves out the end, of a repository that is ignored the
+-- cause, and of a removal the place of its decision, since what a safe run is doesn't read them (own).
+use Rattle.std.specs.Prelude.{ℕ, Bool, true, false, not, ◌&&◌, ◌||◌, if◌then◌else◌, ◌==◌, nat_le, max, List, [], ◌∷◌, ◌++◌, length, filter, map, take, reverse, count_by, Option, Some, None, option_map, slice_get, is_some}
 use Rattle.std.specs.List.{list_any, list_all}
+use Rattle.annex_base.specs.declared.kinds.Level.{Level}
+use Rattle.annex_base.specs.declared.kinds.Level.TheVariants as levels
+use Rattle.log_lines.specs.declared.entry.LogKind.TheVariants as kinds
+use Rattle.log_lines.specs.declared.entry.Topic.TheVariants as topics
+use Rattle.log_lines.specs.declared.entry.Value.{Value}
+use Rattle.log_lines.specs.Newest.{newest_of}
+use Rattle.trust_groups.specs.Settings.{is_present, level_in, value_in}
 use Rattle.drop_proof.specs.declared.evidence.Kind.{Kind}
 use Rattle.drop_proof.specs.declared.evidence.Kind.TheVariants.{Locked, Trusted, Recent}
 use Rattle.drop_proof.specs.declared.evidence.Evidence.{Evidence}
@@ -9,15 +16,20 @@ use Rattle.drop_proof.specs.declared.rule.Need.{Need}
 use Rattle.drop_proof.specs.declared.rule.Side.{Side}
 use Rattle.drop_proof.specs.declared.rule.Side.TheVariants.{Local, Remote}
 use Rattle.run_model.specs.declared.entry.Entry.{Entry}
-use Rattle.run_model.specs.declared.entry.EntryKind.{EntryKind}
-use Rattle.run_model.specs.declared.entry.EntryKind.TheVariants.{Bar, Begin, Crash, End}
-use Rattle.run_model.specs.Past.{Running, present}
-use Rattle.run_model.specs.Frames.{Sent}
-use Rattle.run_model.specs.Drops.{Look, Lock, Vouch}
+use Rattle.run_model.specs.declared.run.RepoView.{RepoView}
+use Rattle.run_model.specs.Past.{present}
+use Rattle.run_model.specs.SetUp.{id_of}
+use Rattle.run_model.specs.Drops.{Claimed, Ignored, Asked, Standing, Look, Lock, Vouch, reply, told_cause}
 use Rattle.run_model.specs.Safety.{Removal, is_gone, removal, smaller}
 use Rattle.race_core.specs.declared.gathering.Given.{Given}
 use Rattle.race_core.specs.declared.gathering.Given.TheVariants.{Lock as given_lock, Claim as given_claim, Answer as given_answer}
+use Rattle.race_core.specs.declared.gathering.Answer.{Answer}
+use Rattle.race_core.specs.declared.gathering.Answer.TheVariants.{Gives, Fails, Waits}
+use Rattle.race_core.specs.declared.gathering.Candidate.{Candidate}
 use Rattle.race_core.specs.declared.gathering.Item.{Item}
+use Rattle.race_core.specs.declared.reading.Standing.{Standing as GivenStanding}
+use Rattle.race_core.specs.declared.reading.Standing.TheVariants.{Claimed as given_claimed, Ignored as given_ignored, Asked as given_asked}
+use Rattle.race_core.specs.declared.reading.Reading.{Reading}
 use Rattle.race_core.specs.declared.removing.KeyDrop.{KeyDrop}
 
 -- what a repository gave, without the end of its lock
@@ -60,37 +72,64 @@ counts_given Remote i = is_full_given i.given
 abbrev pub enough_given : Side → Need → List Item → Bool
 enough_given side need items = nat_le (max need.n need.m) (length items) && nat_le need.m (count_by (counts_given side) items)
 
--- the items with one more, if the repository gave one
-abbrev pub add_given : List Item → ℕ → Option Given → List Item
-add_given items r None = items
-add_given items r (Some g) = items ++ record { repo = r; given = g } ∷ []
+-- how the logs see a repository, without the cause for which they ignore it
+abbrev pub standing_given : Standing → GivenStanding
+standing_given Claimed = given_claimed
+standing_given (Ignored cause) = given_ignored
+standing_given Asked = given_asked
 
--- the candidates are asked in order, one after the other, until the items are enough
-abbrev pub gather_given : Side → Need → (ℕ → Option Given) → List ℕ → List Item → List Item
-gather_given side need ask [] items = items
-gather_given side need ask (c ∷ cs) items = if enough_given side need items then items else gather_given side need ask cs (add_given items c (ask c))
+abbrev pub seen_given : Level → Bool → GivenStanding
+seen_given levels.Trusted true = given_claimed
+seen_given levels.Trusted false = given_asked
+seen_given levels.Semitrusted present = given_asked
+seen_given levels.Untrusted present = given_ignored
+seen_given levels.Dead present = given_ignored
 
--- the numbers of the running jobs after an entry, the newest first
-abbrev pub numbers_after : List ℕ → EntryKind → List ℕ
-numbers_after was (Begin job what) = job ∷ was
-numbers_after was (End job outcome) = filter (λ n. not (n == job)) was
-numbers_after was Crash = []
-numbers_after was _ = was
+-- how far the lines of trust.log trust the repository
+abbrev pub level_said : List (List ℕ) → List ℕ → Level
+level_said lines repo = level_in (value_in (newest_of kinds.Trust lines (topics.Repo repo)))
 
--- the number of the running job that began last
-abbrev pub newest_number : List Running → Option ℕ
-newest_number [] = None
-newest_number (j ∷ js) = Some j.number
+abbrev pub has_present : Option Value → Bool
+has_present None = false
+has_present (Some v) = is_present v
 
--- the need that the job read as it put its bar
-abbrev pub need_by : Option Need → ℕ → EntryKind → Option Need
-need_by was j (Bar job need key) = if job == j then Some need else was
-need_by was j _ = was
+-- the lines of a location log say that the repository has the content
+abbrev pub present_said : List (List ℕ) → List ℕ → Bool
+present_said lines repo = has_present (value_in (newest_of kinds.Location lines (topics.Repo repo)))
 
--- the entry at a place, with the past before it
-abbrev pub sent_at : List Entry → Option ℕ → Option Sent
-sent_at entries None = None
-sent_at entries (Some place) = option_map (λ e. record { entry = e; before = reverse (take place entries) }) (slice_get entries place)
+-- how a job that read these lines sees the repository
+abbrev pub seen_in : Reading → List ℕ → GivenStanding
+seen_in reading repo = seen_given (level_said reading.trust repo) (present_said reading.location repo)
+
+-- what a repository that is asked gives, by the last that the job was told of its copy, and whether it was told a cause
+abbrev pub told_given : Option Given → Bool → Answer
+told_given (Some g) failed = Gives g
+told_given None true = Fails
+told_given None false = Waits
+
+abbrev pub answer_given : GivenStanding → Option Given → Bool → Answer
+answer_given given_claimed told failed = Gives given_claim
+answer_given given_ignored told failed = Fails
+answer_given given_asked told failed = told_given told failed
+
+-- the candidate r of job j of a, which read these lines
+abbrev pub candidate_given : List RepoView → List Entry → Reading → ℕ → ℕ → ℕ → Candidate
+candidate_given repos past reading a j r = record {
+  repo = r;
+  answer = answer_given (seen_in reading (id_of repos r)) (given_by (reply past a j r)) (is_some (told_cause past a j r));
+}
+
+abbrev pub go_on : {X : Type 0} → Answer → (Given → X) → X → X → X
+go_on (Gives g) gives fails waits = gives g
+go_on Fails gives fails waits = fails
+go_on Waits gives fails waits = waits
+
+-- the candidates are asked in order, one after the other, until the items are enough or the next has given no answer
+abbrev pub gather_given : Side → Need → List Candidate → List Item → List Item
+gather_given side need [] items = items
+gather_given side need (c ∷ cs) items =
+    if enough_given side need items then items
+    else go_on c.answer (λ g. gather_given side need cs (items ++ record { repo = c.repo; given = g } ∷ [])) (gather_given side need cs items) items
 
 -- the least mincopies that these drops read
 abbrev pub least_of : List KeyDrop → Option ℕ
@@ -112,9 +151,9 @@ judged_given None = false
 judged_given (Some x) = enough_given x.side x.need x.items
 
 -- the removal of the key that the newest entry is, if it is one
-abbrev pub newest_removal : ℕ → (ℕ → ℕ) → List Entry → List ℕ → Option Removal
-newest_removal n offset [] key = None
-newest_removal n offset (e ∷ past) key = removal n offset past key e
+abbrev pub newest_removal : List RepoView → List Entry → List ℕ → Option Removal
+newest_removal repos [] key = None
+newest_removal repos (e ∷ past) key = removal repos past key e
 
 -- the newest entry, if it takes the key away, is the removal of a drop whose evidence was enough
 abbrev pub owned_given : List Entry → List ℕ → Option KeyDrop → Bool

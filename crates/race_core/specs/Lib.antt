@@ -1,6 +1,8 @@
 pub use Rattle.annex_base.specs.Lists
+pub use Rattle.run_model.specs.SetUp
 pub use Rattle.run_model.specs.Past
 pub use Rattle.run_model.specs.Frames
+pub use Rattle.run_model.specs.Logs
 pub use Rattle.run_model.specs.Drops
 pub use Rattle.run_model.specs.Safety
 pub use Rattle.run_model.specs.Thin
@@ -8,4 +10,6 @@ pub use Rattle.run_model.specs.Contents
 pub use Rattle.run_model.specs.Causes
 pub mod Lawful
 pub mod Places
+pub mod Readings
+pub mod Steps
 pub mod Checked

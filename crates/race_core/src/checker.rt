@@ -7,7 +7,7 @@ ghost use Rattle.run_model.specs.Safety.{is_gone, least_need, smaller, within};
 ghost use Rattle.race_core.specs.Checked.{backed_given, is_claim, judged_given, least_of, owned_given, stands_given, trusts_given};
 ghost use Rattle.race_core.specs.Places.{backed_at, count_at, owned_at, removals_at};
 
-use crate::entries::{before, is_present, repo_count};
+use crate::entries::{before, is_present};
 use crate::gathering::{Given, Item, is_enough};
 use crate::removing::{KeyDrop, last_removal, removals};
 use annex_base::NoMemory;
@@ -24,12 +24,12 @@ pub fn is_safe_at(alloc: Global, run: &Run, key: &Key, place: usize) -> Result<b
         && owned_at run.now key.now place && backed_at run.now key.now place)) }
 {
     let entries = before(run, place);
-    let repos = repo_count(run);
+    let repos = run.repos.as_slice();
     let removed = removals(alloc, entries, repos, key)?;
     let last = last_removal(alloc, entries, repos, key)?;
     let drops = removed.as_slice();
     let least = least_need(drops);
-    let count = count(entries, repos, key, drops);
+    let count = count(entries, repos.len(), key, drops);
     let within = is_within(least, count);
     let owned = is_owned(entries, key, &last);
     let backed = is_backed(entries, key, drops, &last);

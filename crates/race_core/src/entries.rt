@@ -5,7 +5,7 @@ ghost use Rattle.std.specs.List.{list_any};
 ghost use Rattle.run_model.specs.Past.{decided, is_of, present, present_after};
 ghost use Rattle.run_model.specs.Frames.{is_frame, sent_by};
 ghost use Rattle.run_model.specs.Safety.{past_at};
-ghost use Rattle.race_core.specs.Checked.{need_by, sent_at};
+ghost use Rattle.race_core.specs.Steps.{need_by, sent_at};
 
 use annex_key::Key;
 use drop_proof::Need;
@@ -18,13 +18,6 @@ pub(crate) fn before(run: &Run, place: usize) -> &[Entry]
     let entries = run.entries.as_slice();
     let (before, _) = entries.split_at(entries.len().min(place));
     before
-}
-
-/// How many repositories the run has.
-pub(crate) fn repo_count(run: &Run) -> usize
-    ensures { result ≡ length run.now.repos }
-{
-    run.repos.as_slice().len()
 }
 
 /// Whether the entry is one of the repository.

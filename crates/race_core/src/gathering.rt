@@ -1,14 +1,15 @@
 //! What the candidates of a drop gave it, and how much of it the drop gathers.
 
-ghost use Rattle.std.specs.Prelude.{◌≡◌, List, [], ◌∷◌, reverse, IfOk, OnOk, OnErr};
+ghost use Rattle.std.specs.Prelude.{◌≡◌, [], ◌∷◌, map, reverse, is_some, IfOk};
 ghost use Rattle.std.specs.List.{range_with_len};
-ghost use Rattle.run_model.specs.Drops.{but, candidates, reply};
-ghost use Rattle.race_core.specs.Checked.{add_given, counts_given, enough_given, gather_given, given_by, is_full_given};
+ghost use Rattle.run_model.specs.Drops.{but, candidates, evidence, reply, told_cause};
+ghost use Rattle.race_core.specs.Checked.{answer_given, candidate_given, counts_given, enough_given, gather_given, given_by, is_full_given, item_of, told_given};
 
-use crate::vouching::told;
+use crate::reading::{Reading, Standing};
+use crate::vouching::{is_told_cause, told};
 use annex_base::{Items, NoMemory};
 use drop_proof::{Need, Side};
-use run_model::Entry;
+use run_model::{Entry, RepoView};
 use std::alloc::Global;
 
 /// What a repository gave: a lock, a claim that is trusted, or an answer without a lock.
@@ -24,6 +25,21 @@ pub(crate) enum Given {
 pub(crate) struct Item {
     pub(crate) repo: usize,
     pub(crate) given: Given,
+}
+
+/// What a candidate answers: what it gives, or that it gives nothing, or nothing yet.
+#[derive(Clone, Copy)]
+pub(crate) enum Answer {
+    Gives(Given),
+    Fails,
+    Waits,
+}
+
+/// A repository, by its number, that a drop asks, with its answer.
+#[derive(Clone, Copy)]
+pub(crate) struct Candidate {
+    repo: usize,
+    answer: Answer,
 }
 
 fn is_full(given: Given) -> bool
@@ -93,52 +109,104 @@ fn own_first(
     Ok(all)
 }
 
-fn add(items: &mut Items<Item>, repo: usize, given: Option<Given>) -> Result<(), NoMemory>
-    ensures ok { OnOk result (items.new ≡ add_given items.old repo given) }
+/// What the last that a job was told of a repository's copy gives it, where it asks the repository.
+fn told_answer(told: Option<Given>, is_told_cause: bool) -> Answer
+    ensures { result ≡ told_given told is_told_cause }
 {
-    match given {
-        Some(given) => items.push(Item { repo, given }),
-        None => Ok(()),
+    match told {
+        Some(given) => Answer::Gives(given),
+        None if is_told_cause => Answer::Fails,
+        None => Answer::Waits,
     }
+}
+
+/// What the candidate answers the job of the repository, which has read the logs, by the end of the entries.
+fn candidate_answer(
+    alloc: Global,
+    entries: &[Entry],
+    standing: Standing,
+    repo: usize,
+    job: u32,
+    candidate: usize,
+) -> Result<Answer, NoMemory>
+    ensures { IfOk result (λ x. x ≡ answer_given standing
+        (given_by (reply (reverse entries.now) repo job candidate)) (is_some (told_cause (reverse entries.now) repo job candidate))) }
+{
+    match standing {
+        Standing::Claimed => Ok(Answer::Gives(Given::Claim)),
+        Standing::Ignored => Ok(Answer::Fails),
+        Standing::Asked => {
+            let told = told(alloc, entries, repo, job, candidate)?;
+            let failed = is_told_cause(alloc, entries, repo, job, candidate)?;
+            Ok(told_answer(told, failed))
+        }
+    }
+}
+
+/// The candidates of a job of the repository, which read these lines, each with what it answers by the end of the entries.
+fn answers(
+    alloc: Global,
+    entries: &[Entry],
+    repos: &[RepoView],
+    reading: &Reading,
+    repo: usize,
+    job: u32,
+    asked: &[usize],
+) -> Result<Vec<Candidate>, NoMemory>
+    ensures { IfOk result (λ v. v.items ≡ map (candidate_given repos.now (reverse entries.now) reading.now repo job) asked.now) }
+{
+    let mut candidates = Vec::new(alloc);
+    for candidate in asked {
+        let standing = reading.standing(alloc, repos, *candidate)?;
+        let answer = candidate_answer(alloc, entries, standing, repo, job, *candidate)?;
+        candidates.push(Candidate {
+            repo: *candidate,
+            answer,
+        })?;
+    }
+    Ok(candidates)
 }
 
 /// What a job of the repository gathered among its candidates by the end of the entries, in order.
 pub(crate) fn evidence(
     alloc: Global,
     entries: &[Entry],
-    repos: usize,
+    repos: &[RepoView],
     side: Side,
     need: Need,
     repo: usize,
     job: u32,
     target: usize,
 ) -> Result<Items<Item>, NoMemory>
-    ensures { IfOk result (λ v. v ≡ gather_given side need
-        (λ r. given_by (reply (reverse entries.now) repo job r)) (candidates side repos repo target) []) }
+    ensures { IfOk result (λ v. v ≡ map item_of (evidence side repos.now (reverse entries.now) repo job target need)) }
 {
-    let asked = candidates(alloc, side, repos, repo, target)?;
-    gather(alloc, entries, side, need, repo, job, asked.as_slice())
+    let asked = candidates(alloc, side, repos.len(), repo, target)?;
+    let reading = Reading::read(alloc, entries, repo, job)?;
+    let candidates = answers(alloc, entries, repos, &reading, repo, job, asked.as_slice())?;
+    gather(alloc, side, need, candidates.as_slice())
 }
 
 fn gather(
     alloc: Global,
-    entries: &[Entry],
     side: Side,
     need: Need,
-    repo: usize,
-    job: u32,
-    asked: &[usize],
+    candidates: &[Candidate],
 ) -> Result<Items<Item>, NoMemory>
-    ensures { IfOk result (λ v. v ≡ gather_given side need
-        (λ r. given_by (reply (reverse entries.now) repo job r)) asked.now []) }
+    ensures { IfOk result (λ v. v ≡ gather_given side need candidates.now []) }
 {
     let mut items = Items::new(alloc);
-    for candidate in asked {
+    for candidate in candidates {
         if is_enough(side, need, items.as_slice()) {
             return Ok(items);
         }
-        let given = told(alloc, entries, repo, job, *candidate)?;
-        add(&mut items, *candidate, given)?;
+        match candidate.answer {
+            Answer::Gives(given) => items.push(Item {
+                repo: candidate.repo,
+                given,
+            })?,
+            Answer::Fails => {}
+            Answer::Waits => return Ok(items),
+        }
     }
     Ok(items)
 }

@@ -1,6 +1,6 @@
 //! The drops that removed a key.
 
-ghost use Rattle.std.specs.Prelude.{◌≡◌, ℕ, List, ◌∷◌, ◌++◌, map, reverse, option_map, option_to_list, Some, IfOk, OnOk};
+ghost use Rattle.std.specs.Prelude.{◌≡◌, List, ◌∷◌, ◌++◌, map, reverse, option_map, option_to_list, Some, IfOk, OnOk};
 ghost use Rattle.run_model.specs.Past.{decided};
 ghost use Rattle.run_model.specs.Frames.{sent_by};
 ghost use Rattle.run_model.specs.Safety.{local_removal, removal, removals, sent_order};
@@ -11,7 +11,7 @@ use crate::gathering::{Item, evidence};
 use annex_base::{Items, NoMemory};
 use annex_key::Key;
 use drop_proof::{Need, Side};
-use run_model::{By, Entry, EntryKind, FrameView};
+use run_model::{By, Entry, EntryKind, FrameView, RepoView};
 use std::alloc::Global;
 
 /// A drop that removed the key: what it needed, and what it had gathered.
@@ -26,11 +26,11 @@ pub(crate) struct KeyDrop {
 pub(crate) fn removals(
     alloc: Global,
     entries: &[Entry],
-    repos: usize,
+    repos: &[RepoView],
     key: &Key,
 ) -> Result<Vec<KeyDrop>, NoMemory>
-    ensures { (offset : ℕ → ℕ) → IfOk result (λ v. reverse v.items
-        ≡ map drop_of (removals repos offset (reverse entries.now) key.now)) }
+    ensures { IfOk result (λ v. reverse v.items
+        ≡ map drop_of (removals repos.now (reverse entries.now) key.now)) }
 {
     let mut drops = Vec::new(alloc);
     for (at, entry) in entries.iter().enumerate() {
@@ -54,11 +54,11 @@ fn add(drops: &mut Vec<KeyDrop>, removed: Option<KeyDrop>) -> Result<(), NoMemor
 pub(crate) fn last_removal(
     alloc: Global,
     entries: &[Entry],
-    repos: usize,
+    repos: &[RepoView],
     key: &Key,
 ) -> Result<Option<KeyDrop>, NoMemory>
-    ensures { (offset : ℕ → ℕ) → IfOk result (λ o. o
-        ≡ option_map drop_of (newest_removal repos offset (reverse entries.now) key.now)) }
+    ensures { IfOk result (λ o. o
+        ≡ option_map drop_of (newest_removal repos.now (reverse entries.now) key.now)) }
 {
     match entries.split_last() {
         Some((last, earlier)) => removal(alloc, earlier, repos, key, last),
@@ -70,12 +70,12 @@ pub(crate) fn last_removal(
 fn removal(
     alloc: Global,
     earlier: &[Entry],
-    repos: usize,
+    repos: &[RepoView],
     key: &Key,
     entry: &Entry,
 ) -> Result<Option<KeyDrop>, NoMemory>
-    ensures { (offset : ℕ → ℕ) → IfOk result (λ o. o
-        ≡ option_map drop_of (removal repos offset (reverse earlier.now) key.now entry.now)) }
+    ensures { IfOk result (λ o. o
+        ≡ option_map drop_of (removal repos.now (reverse earlier.now) key.now entry.now)) }
 {
     let Some(repo) = entry.repo else {
         return Ok(None);
@@ -110,12 +110,12 @@ fn removal(
 fn own_drop(
     alloc: Global,
     earlier: &[Entry],
-    repos: usize,
+    repos: &[RepoView],
     repo: usize,
     job: u32,
 ) -> Result<Option<KeyDrop>, NoMemory>
-    ensures { (offset : ℕ → ℕ) → IfOk result (λ o. o ≡ option_map drop_of
-        (option_map (local_removal repos offset (reverse earlier.now) repo job) (decided (reverse earlier.now) repo job))) }
+    ensures { IfOk result (λ o. o ≡ option_map drop_of
+        (option_map (local_removal repos.now (reverse earlier.now) repo job) (decided (reverse earlier.now) repo job))) }
 {
     match need_of_bar(earlier, repo, job) {
         Some(need) => {
@@ -134,14 +134,14 @@ fn own_drop(
 fn ordered_drop(
     alloc: Global,
     earlier: &[Entry],
-    repos: usize,
+    repos: &[RepoView],
     key: &Key,
     repo: usize,
     peer: usize,
     frame: &FrameView,
 ) -> Result<Option<KeyDrop>, NoMemory>
-    ensures { (offset : ℕ → ℕ) → IfOk result (λ o. o ≡ option_map drop_of
-        (sent_order repos offset (reverse earlier.now) key.now repo peer
+    ensures { IfOk result (λ o. o ≡ option_map drop_of
+        (sent_order repos.now (reverse earlier.now) key.now repo peer
         (sent_by (reverse earlier.now) frame.now.peer repo frame.now))) }
 {
     match sender(earlier, repo, frame) {
@@ -157,14 +157,14 @@ fn ordered_drop(
 fn drop_of_order(
     alloc: Global,
     before: &[Entry],
-    repos: usize,
+    repos: &[RepoView],
     key: &Key,
     repo: usize,
     peer: usize,
     entry: &Entry,
 ) -> Result<Option<KeyDrop>, NoMemory>
-    ensures { (offset : ℕ → ℕ) (past : List Entry) → IfOk result (λ o. o ≡ option_map drop_of
-        (sent_order repos offset past key.now repo peer
+    ensures { (past : List Entry) → IfOk result (λ o. o ≡ option_map drop_of
+        (sent_order repos.now past key.now repo peer
         (Some (record { entry = entry.now; before = reverse before.now })))) }
 {
     match &entry.kind {

@@ -1,5 +1,7 @@
 use super::*;
-use crate::run_model::{By, Entry, EntryKind, FrameText, FrameView, Job, JobKind, RepoView, Run};
+use crate::run_model::{
+    By, Entry, EntryKind, FrameText, FrameView, Job, JobKind, LogFile, RepoView, Run,
+};
 use annex_base::{Found, Items, RepoId, Text};
 use annex_key::Key;
 use drop_proof::Need;
@@ -13,12 +15,25 @@ enum Step {
     Begin,
     Bar,
     Share(By),
-    Look,
+    Look(Found),
     Remove(By),
     Order,
+    Say(Said),
 }
 
-use Step::{Bar, Begin, Gain, Look, Order, Remove, Share};
+/// What a line of the logs says of the server. What it says later is a second newer than the rest.
+#[derive(Clone, Copy)]
+enum Said {
+    Trusted,
+    Untrusted,
+    Dead,
+    SemitrustedLater,
+    Has,
+    HasNotLater,
+}
+
+use Said::{Dead, Has, HasNotLater, SemitrustedLater, Trusted, Untrusted};
+use Step::{Bar, Begin, Gain, Look, Order, Remove, Say, Share};
 
 const OWN: By = By::Job(1);
 
@@ -55,10 +70,7 @@ fn kind_of(alloc: Global, step: Step) -> Result<EntryKind, Fail> {
             by,
             key,
         },
-        Look => EntryKind::Check {
-            found: Found::Present,
-            key,
-        },
+        Look(found) => EntryKind::Check { found, key },
         Remove(by) => EntryKind::Gone { by, key },
         Order => EntryKind::Order {
             job: 1,
@@ -67,7 +79,36 @@ fn kind_of(alloc: Global, step: Step) -> Result<EntryKind, Fail> {
             need,
             key,
         },
+        Say(said) => EntryKind::Log {
+            file: file_of(alloc, said, key)?,
+        },
     })
+}
+
+fn file_of(alloc: Global, said: Said, key: Key) -> Result<LogFile, Fail> {
+    match said {
+        Has | HasNotLater => Ok(LogFile::Location(key)),
+        _ => Ok(LogFile::Named(Text::new(alloc, b"trust.log")?)),
+    }
+}
+
+fn line_of(said: Said) -> &'static [u8] {
+    match said {
+        Trusted => b"7c1d2e3f-0a1b-4c2d-8e3f-4a5b6c7d8e9f 1 timestamp=1700000000s",
+        Untrusted => b"7c1d2e3f-0a1b-4c2d-8e3f-4a5b6c7d8e9f 0 timestamp=1700000000s",
+        Dead => b"7c1d2e3f-0a1b-4c2d-8e3f-4a5b6c7d8e9f X timestamp=1700000000s",
+        SemitrustedLater => b"7c1d2e3f-0a1b-4c2d-8e3f-4a5b6c7d8e9f ? timestamp=1700000001s",
+        Has => b"1700000000s 1 7c1d2e3f-0a1b-4c2d-8e3f-4a5b6c7d8e9f",
+        HasNotLater => b"1700000001s 0 7c1d2e3f-0a1b-4c2d-8e3f-4a5b6c7d8e9f",
+    }
+}
+
+fn lines_of(alloc: Global, step: Step) -> Result<Items<Text>, Fail> {
+    let mut lines = Items::new(alloc);
+    if let Say(said) = step {
+        lines.push(Text::new(alloc, line_of(said))?)?;
+    }
+    Ok(lines)
 }
 
 /// The fifth frame on the first connection of repository 0 to repository 1, as the one that is not `peer` lists it.
@@ -99,12 +140,12 @@ fn entry(alloc: Global, repo: u32, step: Step, seq: u64) -> Result<Entry, Fail> 
         kind: kind_of(alloc, step)?,
         taken,
         sent,
-        lines: Items::new(alloc),
+        lines: lines_of(alloc, step)?,
     })
 }
 
-fn repo(alloc: Global, name: &[u8]) -> Result<RepoView, Fail> {
-    let id = RepoId::parse(b"3f2f4a3c-8d2c-4b6e-9d0a-5b1c2d3e4f50")?;
+fn repo(alloc: Global, name: &[u8], id: &[u8]) -> Result<RepoView, Fail> {
+    let id = RepoId::parse(id)?;
     let name = Text::new(alloc, name)?;
     Ok(RepoView {
         name,
@@ -115,11 +156,12 @@ fn repo(alloc: Global, name: &[u8]) -> Result<RepoView, Fail> {
     })
 }
 
-/// A run of two repositories, 0 the laptop and 1 the server. A removal that is ordered takes the frame with this number.
+/// A run of three repositories, 0 the laptop, 1 the server and 2 the disk. A removal that is ordered takes the frame with this number.
 fn run(alloc: Global, steps: &[(u32, Step)], seq: u64) -> Result<Run, Fail> {
     let mut repos = Items::new(alloc);
-    repos.push(repo(alloc, b"laptop")?)?;
-    repos.push(repo(alloc, b"server")?)?;
+    repos.push(repo(alloc, b"laptop", b"3f2f4a3c-8d2c-4b6e-9d0a-5b1c2d3e4f50")?)?;
+    repos.push(repo(alloc, b"server", b"7c1d2e3f-0a1b-4c2d-8e3f-4a5b6c7d8e9f")?)?;
+    repos.push(repo(alloc, b"disk", b"9a8b7c6d-5e4f-4a3b-9c2d-1e0f9a8b7c6d")?)?;
     let mut entries = Items::new(alloc);
     for (repo, step) in steps {
         entries.push(entry(alloc, *repo, *step, seq)?)?;
@@ -163,7 +205,7 @@ fn a_run_is_safe_where_evidence_stands_behind_each_removal(rt: HostRuntime) -> R
         (1, Gain),
         (0, Begin),
         (0, Bar),
-        (1, Look),
+        (1, Look(Found::Present)),
         (0, Remove(OWN)),
     ];
     let crossed = [
@@ -199,6 +241,114 @@ fn a_run_is_safe_where_evidence_stands_behind_each_removal(rt: HostRuntime) -> R
         let run = run(alloc, steps, seq)?;
         let key = key(alloc)?;
         assert_eq!(rt; is_safe_at(alloc, &run, &key, place)?, want, "{name}");
+    }
+    Ok(())
+}
+
+/// A trusted server counts by its claim, if the laptop's logs said both before the drop's first step; an untrusted or
+/// dead one never counts, even with a lock. A drop that waits for the server has nothing from the disk.
+#[test]
+fn a_drop_reads_the_logs_at_its_first_step(rt: HostRuntime) -> Result<(), Fail> {
+    let alloc = rt.alloc();
+    let claimed = [
+        (0, Gain),
+        (0, Say(Trusted)),
+        (0, Say(Has)),
+        (0, Begin),
+        (0, Bar),
+        (0, Remove(OWN)),
+    ];
+    let not_trusted = [
+        (0, Gain),
+        (0, Say(Has)),
+        (0, Begin),
+        (0, Bar),
+        (0, Remove(OWN)),
+    ];
+    let not_claimed = [
+        (0, Gain),
+        (0, Say(Trusted)),
+        (0, Say(HasNotLater)),
+        (0, Say(Has)),
+        (0, Begin),
+        (0, Bar),
+        (0, Remove(OWN)),
+    ];
+    let late = [
+        (0, Gain),
+        (0, Say(Has)),
+        (0, Begin),
+        (0, Bar),
+        (0, Say(Trusted)),
+        (0, Remove(OWN)),
+    ];
+    let of_another = [
+        (0, Gain),
+        (1, Say(Trusted)),
+        (1, Say(Has)),
+        (0, Begin),
+        (0, Bar),
+        (0, Remove(OWN)),
+    ];
+    let untrusted = [
+        (0, Gain),
+        (1, Gain),
+        (0, Say(Untrusted)),
+        (0, Begin),
+        (0, Bar),
+        (1, Share(LAPTOP)),
+        (0, Remove(OWN)),
+    ];
+    let trusted_again = [
+        (0, Gain),
+        (1, Gain),
+        (0, Say(SemitrustedLater)),
+        (0, Say(Untrusted)),
+        (0, Begin),
+        (0, Bar),
+        (1, Share(LAPTOP)),
+        (0, Remove(OWN)),
+    ];
+    let dead = [
+        (0, Gain),
+        (0, Say(Dead)),
+        (0, Say(Has)),
+        (0, Begin),
+        (0, Bar),
+        (0, Remove(OWN)),
+    ];
+    let waiting = [
+        (0, Gain),
+        (2, Gain),
+        (0, Begin),
+        (0, Bar),
+        (2, Share(LAPTOP)),
+        (0, Remove(OWN)),
+    ];
+    let told = [
+        (0, Gain),
+        (2, Gain),
+        (0, Begin),
+        (0, Bar),
+        (1, Look(Found::Absent)),
+        (2, Share(LAPTOP)),
+        (0, Remove(OWN)),
+    ];
+    for (name, steps, want) in [
+        ("claimed", claimed.as_slice(), true),
+        ("not trusted", not_trusted.as_slice(), false),
+        ("not claimed any more", not_claimed.as_slice(), false),
+        ("trusted too late", late.as_slice(), false),
+        ("another's logs", of_another.as_slice(), false),
+        ("untrusted", untrusted.as_slice(), false),
+        ("trusted again", trusted_again.as_slice(), true),
+        ("dead", dead.as_slice(), false),
+        ("waiting", waiting.as_slice(), false),
+        ("told", told.as_slice(), true),
+    ] {
+        let run = run(alloc, steps, 0)?;
+        let key = key(alloc)?;
+        assert_eq!(rt; is_safe_at(alloc, &run, &key, usize::MAX)?, want, "{name}");
     }
     Ok(())
 }

@@ -1,13 +1,15 @@
-//! What a repository vouched to a job of another, by holds.
+//! What a repository vouched to a job of another, by holds, and where it told it that it gives nothing.
 
-ghost use Rattle.std.specs.Prelude.{◌≡◌, ◌==◌, not, reverse, map, filter, if◌then◌else◌, IfOk, OnOk};
-ghost use Rattle.run_model.specs.Past.{is_of, jobs, jobs_after};
-ghost use Rattle.run_model.specs.Drops.{reply, vouch};
-ghost use Rattle.race_core.specs.Checked.{first_given, given_by, newest_number, numbers_after};
+ghost use Rattle.std.specs.Prelude.{◌≡◌, ◌==◌, not, reverse, map, filter, if◌then◌else◌, is_some, IfOk, OnOk};
+ghost use Rattle.std.specs.List.{list_any};
+ghost use Rattle.run_model.specs.Past.{is_of, jobs, runs};
+ghost use Rattle.run_model.specs.Drops.{cause_of_kind, reply, tells_cause, told_cause, vouch};
+ghost use Rattle.race_core.specs.Checked.{first_given, given_by};
+ghost use Rattle.race_core.specs.Steps.{newest_number, numbers_after};
 
 use crate::entries::is_of;
 use crate::gathering::Given;
-use annex_base::NoMemory;
+use annex_base::{Found, NoMemory};
 use run_model::{By, Entry, EntryKind};
 use std::alloc::Global;
 
@@ -106,4 +108,65 @@ pub(crate) fn told(
         given = new.or(given);
     }
     Ok(given)
+}
+
+/// Whether the job runs at the repository.
+fn runs(alloc: Global, entries: &[Entry], repo: usize, job: u32) -> Result<bool, NoMemory>
+    ensures { IfOk result (λ b. b ≡ runs (jobs (reverse entries.now) repo) job) }
+{
+    let numbers = job_numbers(alloc, entries, repo)?;
+    Ok(has_number(numbers.as_slice(), job))
+}
+
+fn has_number(numbers: &[u32], job: u32) -> bool
+    ensures { result ≡ list_any (λ n. n == job) numbers.now }
+{
+    numbers.iter().any(|number| *number == job)
+}
+
+/// Whether an entry of this kind is a look that didn't find the content.
+fn is_failed_look(kind: &EntryKind) -> bool
+    ensures { result ≡ is_some (cause_of_kind kind.now) }
+{
+    match kind {
+        EntryKind::Check { found, .. } => *found != Found::Present,
+        _ => false,
+    }
+}
+
+/// Whether the entry, if it is one of `from`, told the job why `from` gives nothing.
+fn tells_cause(
+    alloc: Global,
+    earlier: &[Entry],
+    entry: &Entry,
+    from: usize,
+    repo: usize,
+    job: u32,
+) -> Result<bool, NoMemory>
+    ensures { IfOk result (λ b. b ≡ is_some (tells_cause (reverse earlier.now) entry.now from repo job)) }
+{
+    if is_of(entry, from) && is_failed_look(&entry.kind) {
+        runs(alloc, earlier, repo, job)
+    } else {
+        Ok(false)
+    }
+}
+
+/// Whether the job of `repo` was told why `from` gives nothing, by the end of the entries.
+pub(crate) fn is_told_cause(
+    alloc: Global,
+    entries: &[Entry],
+    repo: usize,
+    job: u32,
+    from: usize,
+) -> Result<bool, NoMemory>
+    ensures { IfOk result (λ b. b ≡ is_some (told_cause (reverse entries.now) repo job from)) }
+{
+    let mut told = false;
+    for (at, entry) in entries.iter().enumerate() {
+        let (earlier, _) = entries.split_at(at);
+        let tells = tells_cause(alloc, earlier, entry, from, repo, job)?;
+        told = tells || told;
+    }
+    Ok(told)
 }

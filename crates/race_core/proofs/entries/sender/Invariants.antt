@@ -1,7 +1,7 @@
 use Rattle.std.proofs.Common.{◌≡◌, ◌<◌, length, take, reverse}
 use Rattle.std.specs.Prelude.{IfSome}
 use Rattle.run_model.specs.Frames.{sent_by}
-use Rattle.race_core.specs.Checked.{sent_at}
+use Rattle.race_core.specs.Steps.{sent_at}
 use Rattle.race_core.proofs.entries.sender.Given as goal
 
 abbrev pub invariant-loop-at : goal.invariant-loop-at

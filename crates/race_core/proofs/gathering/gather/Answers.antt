@@ -1,11 +1,10 @@
-use Rattle.std.proofs.Common.{◌≡◌, true, sym, ap, ◌∙◌, drop, reverse}
-use Rattle.run_model.specs.Drops.{reply}
-use Rattle.race_core.specs.Checked.{enough_given, given_by}
-use Rattle.race_core.proofs.Checking.{gather_enough}
+use Rattle.std.proofs.Common.{◌≡◌, true, sym, ap, ◌∙◌, drop}
+use Rattle.race_core.specs.Checked.{enough_given}
+use Rattle.race_core.proofs.CheckedFacts.{gather_enough}
 use Rattle.race_core.proofs.gathering.gather.Goals as goal
 
 pub returns-then-is_enough : goal.returns-then-is_enough
 returns-then-is_enough c =
     let enough : enough_given c.args.side c.args.need c.loop-candidate.items ≡ true = ap (λ xs. enough_given c.args.side c.args.need xs) (sym c.as_slice.ensures) ∙ sym c.is_enough.ensures ∙ c.if-is_enough.true in
-    sym (gather_enough c.args.side c.args.need (λ r. given_by (reply (reverse c.args.entries.now) c.args.repo c.args.job r)) (drop c.loop-candidate.candidate-index c.args.asked.now) c.loop-candidate.items enough)
+    sym (gather_enough c.args.side c.args.need (drop c.loop-candidate.candidate-index c.args.candidates.now) c.loop-candidate.items enough)
     ∙ c.loop-candidate.invariant

@@ -1,8 +1,6 @@
-use Rattle.std.proofs.Common.{◌≡◌, [], drop, reverse}
-use Rattle.run_model.specs.Drops.{reply}
-use Rattle.race_core.specs.Checked.{gather_given, given_by}
+use Rattle.std.proofs.Common.{◌≡◌, [], drop}
+use Rattle.race_core.specs.Checked.{gather_given}
 use Rattle.race_core.proofs.gathering.gather.Given as goal
 
 abbrev pub invariant-loop-candidate : goal.invariant-loop-candidate
-invariant-loop-candidate l = gather_given l.side l.need (λ r. given_by (reply (reverse l.entries) l.repo l.job r)) (drop l.candidate-index l.asked) l.items
-    ≡ gather_given l.side l.need (λ r. given_by (reply (reverse l.entries) l.repo l.job r)) l.asked []
+invariant-loop-candidate l = gather_given l.side l.need (drop l.candidate-index l.candidates) l.items ≡ gather_given l.side l.need l.candidates []

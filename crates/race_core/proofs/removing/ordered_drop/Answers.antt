@@ -7,8 +7,8 @@ use Rattle.race_core.proofs.CheckedFacts.{sent_here}
 use Rattle.race_core.proofs.removing.ordered_drop.Goals as goal
 
 pub returns-in-Some : goal.returns-in-Some
-returns-in-Some c = λ offset.
-    subst (λ s. IfOk c.drop_of_order.result (λ o. o ≡ option_map drop_of (sent_order c.args.repos offset (reverse c.args.earlier.now) c.args.key.now c.args.repo c.args.peer s)))
+returns-in-Some c =
+    subst (λ s. IfOk c.drop_of_order.result (λ o. o ≡ option_map drop_of (sent_order c.args.repos.now (reverse c.args.earlier.now) c.args.key.now c.args.repo c.args.peer s)))
     (sent_here c.args.earlier.now c.in-Some.place c.index-earlier-place.result c.split_at.result.0.now (sent_by (reverse c.args.earlier.now) c.args.frame.now.peer c.args.repo c.args.frame.now)
     c.in-Some.ensures.within c.index-earlier-place.is c.split_at.ensures.front c.in-Some.ensures.sender)
-    (c.drop_of_order.ensures offset (reverse c.args.earlier.now))
+    (c.drop_of_order.ensures (reverse c.args.earlier.now))

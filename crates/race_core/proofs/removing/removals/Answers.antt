@@ -6,7 +6,7 @@ use Rattle.race_core.proofs.CheckedFacts.{removals_more}
 use Rattle.race_core.proofs.removing.removals.Goals as goal
 
 pub loop-at-preserved : goal.loop-at-preserved
-loop-at-preserved c = λ offset. removals_more c.args.repos offset c.args.entries.now c.loop-at.at c.index-entries-at.result c.args.key.now c.loop-at.drops.items c.add.new.drops.items c.in_ok-removed.removed
-    c.loop-at-test.true c.index-entries-at.is (c.loop-at.invariant offset)
-    (c.in_ok-removed.ensures offset ∙ ap (λ xs. option_map drop_of (removal c.args.repos offset (reverse xs) c.args.key.now c.index-entries-at.result)) c.split_at.ensures.front)
+loop-at-preserved c = removals_more c.args.repos.now c.args.entries.now c.loop-at.at c.index-entries-at.result c.args.key.now c.loop-at.drops.items c.add.new.drops.items c.in_ok-removed.removed
+    c.loop-at-test.true c.index-entries-at.is c.loop-at.invariant
+    (c.in_ok-removed.ensures ∙ ap (λ xs. option_map drop_of (removal c.args.repos.now (reverse xs) c.args.key.now c.index-entries-at.result)) c.split_at.ensures.front)
     c.in_ok-add.ensures

@@ -5,4 +5,4 @@ use Rattle.race_core.specs.Checked.{drop_of}
 use Rattle.race_core.proofs.removing.removals.Given as goal
 
 abbrev pub invariant-loop-at : goal.invariant-loop-at
-invariant-loop-at l = (offset : ℕ → ℕ) → reverse l.drops.items ≡ map drop_of (removals l.repos offset (reverse (take l.at l.entries)) l.key)
+invariant-loop-at l = reverse l.drops.items ≡ map drop_of (removals l.repos (reverse (take l.at l.entries)) l.key)
