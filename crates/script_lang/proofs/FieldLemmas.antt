@@ -1,5 +1,5 @@
 -- What the words of a line say: a number, a repository.
-use Rattle.std.proofs.Common.{◌≡◌, inl, inr, ℕ, zero, suc, ◌+◌, ◌<◌, ◌≤◌, Bool, true, false, cond, ltb, List, [], ◌∷◌, length, get_or, Some, None, position, refl, sym, ap, ◌∙◌, arith}
+use Rattle.std.proofs.Common.{◌≡◌, inl, inr, ℕ, zero, suc, ◌+◌, ◌<◌, ◌≤◌, ◌^◌, Bool, true, false, cond, ltb, List, [], ◌∷◌, length, get_or, Some, None, position, refl, sym, ap, ◌∙◌, arith}
 use Rattle.std.specs.List.{list_any, position_or_len}
 use Rattle.std.specs.Str.{bytes_eq}
 use Rattle.std.specs.Fmt.{decimal}
@@ -19,22 +19,22 @@ some_none x e = cc
 
 -- ---- a number
 
-pub number_reads : (word : List ℕ) (n : ℕ) → Some n ≡ number_of word → n ≤ 999999999 → (n ≤ 999999999) × (word ≡ decimal n)
-number_reads word n e small = (small, (number_some word n (sym e)).0)
+pub number_reads : (word : List ℕ) (n greatest : ℕ) → Some n ≡ number_of word → n ≤ greatest → (n ≤ greatest) × (word ≡ decimal n)
+number_reads word n greatest e small = (small, (number_some word n (sym e)).0)
 
-spelled_number : (word : List ℕ) (n : ℕ) → n ≤ 999999999 → word ≡ decimal n → number_of word ≡ Some n
-spelled_number word n small is = ap number_of is ∙ number_is n (omega arith)
+spelled_number : (word : List ℕ) (n : ℕ) → n < 2 ^ 64 → word ≡ decimal n → number_of word ≡ Some n
+spelled_number word n small is = ap number_of is ∙ number_is n small
 
-pub number_large : (word : List ℕ) (m : ℕ) → Some m ≡ number_of word → 999999999 < m → (n : ℕ) → (n ≤ 999999999) × (word ≡ decimal n) → ⊥
-number_large word m e large n h = let same = some_is m n (e ∙ spelled_number word n h.0 h.1) in omega (arith, same, h.0, large)
+pub number_large : (word : List ℕ) (m greatest : ℕ) → Some m ≡ number_of word → greatest < m → greatest < 2 ^ 64 → (n : ℕ) → (n ≤ greatest) × (word ≡ decimal n) → ⊥
+number_large word m greatest e large fits n h = let same = some_is m n (e ∙ spelled_number word n (omega (arith, h.0, fits)) h.1) in omega (arith, same, h.0, large)
 
-pub number_missing : (word : List ℕ) → None ≡ number_of word → (n : ℕ) → (n ≤ 999999999) × (word ≡ decimal n) → ⊥
-number_missing word e n h = some_none n (sym (spelled_number word n h.0 h.1) ∙ sym e)
+pub number_missing : (word : List ℕ) (greatest : ℕ) → None ≡ number_of word → greatest < 2 ^ 64 → (n : ℕ) → (n ≤ greatest) × (word ≡ decimal n) → ⊥
+number_missing word greatest e fits n h = some_none n (sym (spelled_number word n (omega (arith, h.0, fits)) h.1) ∙ sym e)
 
 -- ---- a repository
 
 blank : Declared
-blank = record { name = []; id = [] }
+blank = record { name = []; id = []; offset = 0 }
 
 pub name_at : (repos : List Declared) (r : ℕ) (d : Declared) → r < length repos → name_of repos r ≡ (get_or repos r d).name
 name_at repos r d within = ap name_in (slice_get-get_or repos r d within)

@@ -12,10 +12,7 @@ front_more f xs i d within = ap (map f) (take_more xs i d within) ∙ map-append
 pub front_length : {X Y : Type 0} (f : X → Y) (xs : List X) (i : ℕ) → i < length xs → length (map f (take i xs)) ≡ i
 front_length f xs i within = length-map (take i xs) f ∙ length-take-le i xs (omega arith)
 
-pub four_are : {X Y : Type 0} (f : X → Y) (xs : List X) (d : X) → length xs ≡ 4 → f (get_or xs 0 d) ∷ f (get_or xs 1 d) ∷ f (get_or xs 2 d) ∷ f (get_or xs 3 d) ∷ [] ≡ map f xs
-four_are f [] d e = absurd (omega arith)
-four_are f (a ∷ []) d e = absurd (omega arith)
-four_are f (a ∷ b ∷ []) d e = absurd (omega arith)
-four_are f (a ∷ b ∷ c ∷ []) d e = absurd (omega arith)
-four_are f (a ∷ b ∷ c ∷ g ∷ []) d e = refl
-four_are f (a ∷ b ∷ c ∷ g ∷ h ∷ rest) d e = absurd (omega arith)
+pub one_is : {X Y : Type 0} (f : X → Y) (xs : List X) (d : X) → length xs ≡ 1 → f (get_or xs 0 d) ∷ [] ≡ map f xs
+one_is f [] d e = absurd (omega arith)
+one_is f (a ∷ []) d e = refl
+one_is f (a ∷ b ∷ rest) d e = absurd (omega arith)

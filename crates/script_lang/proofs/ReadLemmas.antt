@@ -1,11 +1,10 @@
 -- Lines that say commands, one after another.
-use Rattle.std.proofs.Common.{◌≡◌, ◌⊎◌, inl, inr, ℕ, ◌+◌, ◌≤◌, Bool, true, false, not, ◌||◌, List, [], ◌∷◌, ◌++◌, length, refl, sym, ap, subst, ◌∙◌, append_assoc, arith}
+use Rattle.std.proofs.Common.{◌≡◌, ◌⊎◌, inl, inr, ℕ, ◌+◌, ◌≤◌, Bool, true, false, not, ◌||◌, List, [], ◌∷◌, ◌++◌, length, refl, sym, ap, subst, ◌∙◌, append_assoc, add_assoc, add-zero, zero-add, arith}
 use Rattle.std.specs.Str.{IsUtf8}
 use Rattle.std.proofs.lemmas.List.{append-nil, length-append}
 use Rattle.script_lang.specs.declared.command.Command.{Command}
-use Rattle.script_lang.specs.Words.{Spells}
-use Rattle.script_lang.specs.Lines.{Declared, declared_by, declared, words_of, MayStand}
-use Rattle.script_lang.specs.Script.{IsSkipped, is_repo, is_closed, Says, Reads, AllStand, most_repositories}
+use Rattle.script_lang.specs.Lines.{Declared, declared_by, declared, SpellsLine, MayStand}
+use Rattle.script_lang.specs.Script.{IsSkipped, is_repo, is_closed, Says, Reads, AllStand, most_repositories, waited, waited_by, most_time}
 use Rattle.script_lang.specs.Script.Reads.{End, Skip, Line}
 use Rattle.script_lang.specs.declared.fault.ScriptFault.{ScriptFault}
 use Rattle.script_lang.specs.declared.fault.ScriptFault.TheVariants.{BadLine, TooMuch, NoMemory}
@@ -32,22 +31,31 @@ pub closed_one : (before : List Command) (c : Command) → is_closed (before ++ 
 closed_one [] c = or_false (not (is_repo c))
 closed_one (d ∷ ds) c = ap (λ b. not (is_repo d) || b) (closed_one ds c) ∙ or_assoc (not (is_repo d)) (is_closed ds) (not (is_repo c))
 
-pub keeps_more : (before : List Command) (c : Command) (repos : List Declared) (closed : Bool) → Keeps before repos closed → length (declared_by c) + length repos ≤ 8
-    → (after : List Command) → after ≡ before ++ c ∷ [] → (more : List Declared) → more ≡ repos ++ declared_by c → (shut : Bool) → shut ≡ (closed || not (is_repo c)) → Keeps after more shut
-keeps_more before c repos closed k room after after_is more more_are shut shut_is = record {
-  repos_are = more_are ∙ ap (λ ds. ds ++ declared_by c) k.repos_are ∙ sym (declared_one before c) ∙ ap declared (sym after_is);
-  closed_is = shut_is ∙ ap (λ b. b || not (is_repo c)) k.closed_is ∙ sym (closed_one before c) ∙ ap is_closed (sym after_is);
-  few = subst (λ ds. length ds ≤ 8) (sym more_are) (omega (arith, length-append repos (declared_by c), room));
-}
+pub waited-append : (before after : List Command) → waited (before ++ after) ≡ waited before + waited after
+waited-append [] after = sym (zero-add (waited after))
+waited-append (c ∷ cs) after = ap (λ n. waited_by c + n) (waited-append cs after) ∙ sym (add_assoc (waited_by c) (waited cs) (waited after))
 
--- what the line says by what is kept, it says after the commands
-pub says_kept : (before : List Command) (repos : List Declared) (closed : Bool) → Keeps before repos closed → (line : List ℕ) (c : Command) → IsUtf8 line
-    → Spells line (words_of repos c) × MayStand repos closed c → Says before line c
-says_kept before repos closed k line c utf8 said = record {
-  utf8 = utf8;
-  words = subst (λ ds. Spells line (words_of ds c)) k.repos_are said.0;
-  stands = subst (λ ds. MayStand ds (is_closed before) c) k.repos_are (subst (λ b. MayStand repos b c) k.closed_is said.1);
-}
+waited_one : (before : List Command) (c : Command) → waited (before ++ c ∷ []) ≡ waited before + waited_by c
+waited_one before c = waited-append before (c ∷ []) ∙ ap (λ n. waited before + n) (add-zero (waited_by c))
+
+module _ (before : List Command) (c : Command) (repos : List Declared) (closed : Bool) (time : ℕ) (k : Keeps before repos closed time) where
+  pub keeps_more : length (declared_by c) + length repos ≤ 8 → time + waited_by c ≤ most_time → (after : List Command) → after ≡ before ++ c ∷ []
+      → (more : List Declared) → more ≡ repos ++ declared_by c → (shut : Bool) → shut ≡ (closed || not (is_repo c)) → (later : ℕ) → later ≡ time + waited_by c → Keeps after more shut later
+  keeps_more room early after after_is more more_are shut shut_is later later_is = record {
+    repos_are = more_are ∙ ap (λ ds. ds ++ declared_by c) k.repos_are ∙ sym (declared_one before c) ∙ ap declared (sym after_is);
+    closed_is = shut_is ∙ ap (λ b. b || not (is_repo c)) k.closed_is ∙ sym (closed_one before c) ∙ ap is_closed (sym after_is);
+    time_is = later_is ∙ ap (λ n. n + waited_by c) k.time_is ∙ sym (waited_one before c) ∙ ap waited (sym after_is);
+    few = subst (λ ds. length ds ≤ 8) (sym more_are) (omega (arith, length-append repos (declared_by c), room));
+    in_time = omega (arith, later_is, early);
+  }
+
+  -- what the line says by what is kept, it says after the commands
+  pub says_kept : (line : List ℕ) → IsUtf8 line → SpellsLine repos line c × MayStand repos closed c → Says before line c
+  says_kept line utf8 said = record {
+    utf8 = utf8;
+    words = subst (λ ds. SpellsLine ds line c) k.repos_are said.0;
+    stands = subst (λ ds. MayStand ds (is_closed before) c) k.repos_are (subst (λ b. MayStand repos b c) k.closed_is said.1);
+  }
 
 -- ---- one more line
 
@@ -79,20 +87,20 @@ reads_stand (Line before first d lines commands says r) = (says.stands, reads_st
 -- ---- the first fault
 
 pub fault_at : (all front rest : List (List ℕ)) (line : List ℕ) (number : ℕ) (before : List Command) (e : ScriptFault) → all ≡ front ++ line ∷ rest → number ≡ length front + 1
-    → Reads [] front before → length (declared before) ≤ most_repositories → LineFault before line number e → Faults all e
-fault_at all front rest line number before NoMemory all_are number_is reads few fault = tt
-fault_at all front rest line number before (BadLine at byte) all_are number_is reads few fault = record {
+    → Reads [] front before → length (declared before) ≤ most_repositories → waited before ≤ most_time → LineFault before line number e → Faults all e
+fault_at all front rest line number before NoMemory all_are number_is reads few early fault = tt
+fault_at all front rest line number before (BadLine at byte) all_are number_is reads few early fault = record {
   line = line;
   number = number;
   before = before;
-  up_to = record { lines = front; rest = rest; all_are = all_are; number_is = number_is; reads = reads; few = few };
+  up_to = record { lines = front; rest = rest; all_are = all_are; number_is = number_is; reads = reads; few = few; in_time = early };
   is = fault;
 }
-fault_at all front rest line number before (TooMuch q) all_are number_is reads few fault = record {
+fault_at all front rest line number before (TooMuch q) all_are number_is reads few early fault = record {
   line = line;
   number = number;
   before = before;
-  up_to = record { lines = front; rest = rest; all_are = all_are; number_is = number_is; reads = reads; few = few };
+  up_to = record { lines = front; rest = rest; all_are = all_are; number_is = number_is; reads = reads; few = few; in_time = early };
   is = fault;
 }
 

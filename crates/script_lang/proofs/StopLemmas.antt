@@ -1,19 +1,24 @@
--- A text is a script, or has one first line that is bad, or one that declares a repository too many.
+-- A text is a script, or has one first line that is bad, or one that declares a repository too many or waits too long.
 use Rattle.std.proofs.Common.{◌≡◌, inl, inr, ℕ, suc, ◌+◌, ◌<◌, ◌≤◌, List, [], ◌∷◌, ◌++◌, length, refl, sym, ap, subst, ◌∙◌, arith}
 use Rattle.std.proofs.lemmas.Bool.{cases_order}
 use Rattle.std.proofs.lemmas.List.{append-nil, length-append}
 use Rattle.std.specs.Str.{IsUtf8}
 use Rattle.script_lang.specs.declared.command.Command.{Command}
-use Rattle.script_lang.specs.declared.command.Command.TheVariants.{Repo}
+use Rattle.script_lang.specs.declared.command.Command.TheVariants.{Repo, Wait}
 use Rattle.script_lang.specs.Lines.{declared}
-use Rattle.script_lang.specs.Script.{IsSkipped, Says, Reads, IsScript, ReadsUpTo, IsBadLine, IsCrowded}
-use Rattle.script_lang.proofs.ReadLemmas.{declared-append, First, first_of, Parts, parts_of}
+use Rattle.script_lang.specs.Script.{IsSkipped, Says, Reads, IsScript, ReadsUpTo, IsBadLine, IsCrowded, IsLate, waited, most_time}
+use Rattle.script_lang.proofs.ReadLemmas.{declared-append, waited-append, First, first_of, Parts, parts_of}
 use Rattle.script_lang.proofs.OneLemmas.{says_one, skips_or_says, reads_one, reads_distinct, start_distinct}
 use Rattle.script_lang.proofs.OneLemmas as one
 
+-- the commands pass no limit
+pub record IsWithin (commands : List Command) : Type 0 where
+  pub few : length (declared commands) ≤ 8
+  pub in_time : waited commands ≤ most_time
+
 -- no script goes on with this line
 pub record IsStuck (before : List Command) (line : List ℕ) : Type 0 where
-  pub stuck : (lines : List (List ℕ)) (commands : List Command) → Reads before (line ∷ lines) commands → length (declared (before ++ commands)) ≤ 8 → ⊥
+  pub stuck : (lines : List (List ℕ)) (commands : List Command) → Reads before (line ∷ lines) commands → IsWithin (before ++ commands) → ⊥
 
 silent_at : (before : List Command) (line : List ℕ) → (IsUtf8 line → IsSkipped line → ⊥) → ((c : Command) → Says before line c → ⊥) → (lines : List (List ℕ)) (commands : List Command) → First before line lines commands → ⊥
 silent_at before line kept silent lines commands (inl skip) = kept skip.0 skip.1
@@ -22,25 +27,37 @@ silent_at before line kept silent lines commands (inr t) = silent t.first t.says
 pub silent_stuck : (before : List Command) (line : List ℕ) → (IsUtf8 line → IsSkipped line → ⊥) → ((c : Command) → Says before line c → ⊥) → IsStuck before line
 silent_stuck before line kept silent = record { stuck = λ lines commands r few. silent_at before line kept silent lines commands (first_of r line lines refl) }
 
-full_at : (before : List Command) (line : List ℕ) (name id : List ℕ) → one.AreDistinct (declared before) → length (declared before) ≡ 8 → Says before line (Repo name id)
-    → (lines : List (List ℕ)) (commands : List Command) → First before line lines commands → length (declared (before ++ commands)) ≤ 8 → ⊥
-full_at before line name id distinct full says lines commands (inl skip) few = skips_or_says before line (Repo name id) skip.1 says
-full_at before line name id distinct full says lines commands (inr t) few =
-    let first : t.first ≡ Repo name id = says_one before line t.first (Repo name id) distinct t.says says in
-    let are : commands ≡ Repo name id ∷ t.rest = t.all_are ∙ ap (λ c. c ∷ t.rest) first in
+full_at : (before : List Command) (line : List ℕ) (name id : List ℕ) (offset : ℕ) → one.AreDistinct (declared before) → length (declared before) ≡ 8 → Says before line (Repo name id offset)
+    → (lines : List (List ℕ)) (commands : List Command) → First before line lines commands → IsWithin (before ++ commands) → ⊥
+full_at before line name id offset distinct full says lines commands (inl skip) few = skips_or_says before line (Repo name id offset) skip.1 says
+full_at before line name id offset distinct full says lines commands (inr t) few =
+    let first : t.first ≡ Repo name id offset = says_one before line t.first (Repo name id offset) distinct t.says says in
+    let are : commands ≡ Repo name id offset ∷ t.rest = t.all_are ∙ ap (λ c. c ∷ t.rest) first in
     let long : length (declared (before ++ commands)) ≡ length (declared before) + suc (length (declared t.rest)) =
     ap length (declared-append before commands) ∙ length-append (declared before) (declared commands) ∙ ap (λ cs. length (declared before) + length (declared cs)) are in
-    omega (arith, long, full, few)
+    omega (arith, long, full, few.few)
 
-pub crowds_stuck : (before : List Command) (line : List ℕ) (name id : List ℕ) → one.AreDistinct (declared before) → length (declared before) ≡ 8 → Says before line (Repo name id) → IsStuck before line
-crowds_stuck before line name id distinct full says = record { stuck = λ lines commands r few. full_at before line name id distinct full says lines commands (first_of r line lines refl) few }
+pub crowds_stuck : (before : List Command) (line : List ℕ) (name id : List ℕ) (offset : ℕ) → one.AreDistinct (declared before) → length (declared before) ≡ 8 → Says before line (Repo name id offset) → IsStuck before line
+crowds_stuck before line name id offset distinct full says = record { stuck = λ lines commands r few. full_at before line name id offset distinct full says lines commands (first_of r line lines refl) few }
+
+late_at : (before : List Command) (line : List ℕ) (n : ℕ) → one.AreDistinct (declared before) → most_time < waited before + n → Says before line (Wait n)
+    → (lines : List (List ℕ)) (commands : List Command) → First before line lines commands → IsWithin (before ++ commands) → ⊥
+late_at before line n distinct late says lines commands (inl skip) fits = skips_or_says before line (Wait n) skip.1 says
+late_at before line n distinct late says lines commands (inr t) fits =
+    let first : t.first ≡ Wait n = says_one before line t.first (Wait n) distinct t.says says in
+    let are : commands ≡ Wait n ∷ t.rest = t.all_are ∙ ap (λ c. c ∷ t.rest) first in
+    let long : waited (before ++ commands) ≡ waited before + (n + waited t.rest) = waited-append before commands ∙ ap (λ cs. waited before + waited cs) are in
+    omega (arith, long, late, fits.in_time)
+
+pub delays_stuck : (before : List Command) (line : List ℕ) (n : ℕ) → one.AreDistinct (declared before) → most_time < waited before + n → Says before line (Wait n) → IsStuck before line
+delays_stuck before line n distinct late says = record { stuck = λ lines commands r fits. late_at before line n distinct late says lines commands (first_of r line lines refl) fits }
 
 -- a reading of lines that go on past a stuck line passes a limit
-past_stuck : (lines more : List (List ℕ)) (line : List ℕ) (before commands : List Command) → Reads [] lines before → IsStuck before line → Reads [] (lines ++ line ∷ more) commands → length (declared commands) ≤ 8 → ⊥
+past_stuck : (lines more : List (List ℕ)) (line : List ℕ) (before commands : List Command) → Reads [] lines before → IsStuck before line → Reads [] (lines ++ line ∷ more) commands → IsWithin commands → ⊥
 past_stuck lines more line before commands r s all few =
     let p : Parts [] lines (line ∷ more) commands = parts_of lines (line ∷ more) [] commands all in
     let same : p.front ≡ before = reads_one p.reads_front one.distinct_none before r in
-    s.stuck more p.back (subst (λ b. Reads b (line ∷ more) p.back) same p.reads_back) (subst (λ cs. length (declared cs) ≤ 8) (p.all_are ∙ ap (λ b. b ++ p.back) same) few)
+    s.stuck more p.back (subst (λ b. Reads b (line ∷ more) p.back) same p.reads_back) (subst (λ cs. IsWithin cs) (p.all_are ∙ ap (λ b. b ++ p.back) same) few)
 
 -- ---- two ways to part a list
 
@@ -63,14 +80,14 @@ between (x ∷ xs) ys (u ∷ us) vs e low =
     record { middle = b.middle; longer = ap (λ l. l ∷ us) (sym (cons_first x u (xs ++ ys) (us ++ vs) e)) ∙ ap (λ l. x ∷ l) b.longer; shorter = b.shorter }
 
 middle_stuck : (lines rest more middle : List (List ℕ)) (line other : List ℕ) (before commands : List Command) → line ∷ rest ≡ middle ++ other ∷ more → 0 < length middle
-    → Reads [] lines before → IsStuck before line → Reads [] (lines ++ middle) commands → length (declared commands) ≤ 8 → ⊥
+    → Reads [] lines before → IsStuck before line → Reads [] (lines ++ middle) commands → IsWithin commands → ⊥
 middle_stuck lines rest more [] line other before commands e some r s all few = omega arith
 middle_stuck lines rest more (m ∷ ms) line other before commands e some r s all few =
     past_stuck lines ms line before commands r s (subst (λ x. Reads [] (lines ++ x ∷ ms) commands) (sym (cons_first line m rest (ms ++ other ∷ more) e)) all) few
 
 -- the lines before a stuck line are no front of others that are read
 shorter_stuck : (lines rest others more : List (List ℕ)) (line other : List ℕ) (before commands : List Command) → lines ++ line ∷ rest ≡ others ++ other ∷ more → length lines < length others
-    → Reads [] lines before → IsStuck before line → Reads [] others commands → length (declared commands) ≤ 8 → ⊥
+    → Reads [] lines before → IsStuck before line → Reads [] others commands → IsWithin commands → ⊥
 shorter_stuck lines rest others more line other before commands e low r s all few =
     let b = between lines (line ∷ rest) others (other ∷ more) e (omega arith) in
     middle_stuck lines rest more b.middle line other before commands b.shorter (omega (arith, ap length b.longer, length-append lines b.middle)) r s
@@ -91,11 +108,14 @@ pub bad_stops : (text : List ℕ) (number : ℕ) → (b : IsBadLine text number)
 bad_stops text number b = record { up_to = b.up_to; stuck = silent_stuck b.before b.line b.kept b.silent }
 
 pub crowded_stops : (text : List ℕ) → (c : IsCrowded text) → Stops text c.line c.number c.before
-crowded_stops text c = record { up_to = c.up_to; stuck = crowds_stuck c.before c.line c.name c.id (start_distinct c.up_to.reads) c.full c.says }
+crowded_stops text c = record { up_to = c.up_to; stuck = crowds_stuck c.before c.line c.name c.id c.offset (start_distinct c.up_to.reads) c.full c.says }
+
+pub late_stops : (text : List ℕ) → (l : IsLate text) → Stops text l.line l.number l.before
+late_stops text l = record { up_to = l.up_to; stuck = delays_stuck l.before l.line l.milliseconds (start_distinct l.up_to.reads) l.late l.says }
 
 pub script_stops : (text line : List ℕ) (number : ℕ) (before commands : List Command) → IsScript text commands → Stops text line number before → ⊥
 script_stops text line number before commands s t =
-    past_stuck t.up_to.lines t.up_to.rest line before commands t.up_to.reads t.stuck (subst (λ ls. Reads [] ls commands) t.up_to.lines_are s.reads) s.few
+    past_stuck t.up_to.lines t.up_to.rest line before commands t.up_to.reads t.stuck (subst (λ ls. Reads [] ls commands) t.up_to.lines_are s.reads) (record { few = s.few; in_time = s.in_time })
 
 -- two stops are one
 pub record Same (line other : List ℕ) (m n : ℕ) (before after : List Command) : Type 0 where
@@ -123,8 +143,8 @@ one_stop text line other m n before after t u =
     elim (cases_order (length t.up_to.lines) (length u.up_to.lines)) [
       | inl e ↦ same_lines text line other m n before after t u e
       | inr apart ↦ elim apart [
-        | inl low ↦ absurd (shorter_stuck t.up_to.lines t.up_to.rest u.up_to.lines u.up_to.rest line other before after whole low t.up_to.reads t.stuck u.up_to.reads u.up_to.few)
-        | inr high ↦ absurd (shorter_stuck u.up_to.lines u.up_to.rest t.up_to.lines t.up_to.rest other line after before (sym whole) high u.up_to.reads u.stuck t.up_to.reads t.up_to.few)
+        | inl low ↦ absurd (shorter_stuck t.up_to.lines t.up_to.rest u.up_to.lines u.up_to.rest line other before after whole low t.up_to.reads t.stuck u.up_to.reads (record { few = u.up_to.few; in_time = u.up_to.in_time }))
+        | inr high ↦ absurd (shorter_stuck u.up_to.lines u.up_to.rest t.up_to.lines t.up_to.rest other line after before (sym whole) high u.up_to.reads u.stuck t.up_to.reads (record { few = t.up_to.few; in_time = t.up_to.in_time }))
       ]
     ]
 
@@ -142,7 +162,26 @@ script_or_crowded text commands s c = script_stops text c.line c.number c.before
 pub one_bad : (text : List ℕ) (m n : ℕ) → IsBadLine text m → IsBadLine text n → m ≡ n
 one_bad text m n b d = (one_stop text b.line d.line m n b.before d.before (bad_stops text m b) (bad_stops text n d)).same_number
 
+-- two stops say the same of their line
+says_along : {before after : List Command} {line other : List ℕ} {m n : ℕ} → Same line other m n before after → (c : Command) → Says before line c → Says after other c
+says_along {before = before} {after = after} {line = line} {other = other} same c says = subst (λ l. Says after l c) same.same_line (subst (λ cs. Says cs line c) same.same_commands says)
+
 pub bad_or_crowded : (text : List ℕ) (number : ℕ) → IsBadLine text number → IsCrowded text → ⊥
 bad_or_crowded text number b c =
-    let same = one_stop text c.line b.line c.number number c.before b.before (crowded_stops text c) (bad_stops text number b) in
-    b.silent (Repo c.name c.id) (subst (λ l. Says b.before l (Repo c.name c.id)) same.same_line (subst (λ cs. Says cs c.line (Repo c.name c.id)) same.same_commands c.says))
+    b.silent (Repo c.name c.id c.offset) (says_along (one_stop text c.line b.line c.number number c.before b.before (crowded_stops text c) (bad_stops text number b)) (Repo c.name c.id c.offset) c.says)
+
+pub script_or_late : (text : List ℕ) (commands : List Command) → IsScript text commands → IsLate text → ⊥
+script_or_late text commands s l = script_stops text l.line l.number l.before commands s (late_stops text l)
+
+pub bad_or_late : (text : List ℕ) (number : ℕ) → IsBadLine text number → IsLate text → ⊥
+bad_or_late text number b l =
+    b.silent (Wait l.milliseconds) (says_along (one_stop text l.line b.line l.number number l.before b.before (late_stops text l) (bad_stops text number b)) (Wait l.milliseconds) l.says)
+
+repo_wait : (name id : List ℕ) (offset n : ℕ) → Repo name id offset ≡ Wait n → ⊥
+repo_wait name id offset n e = cc
+
+pub crowded_or_late : (text : List ℕ) → IsCrowded text → IsLate text → ⊥
+crowded_or_late text c l =
+    let same = one_stop text c.line l.line c.number l.number c.before l.before (crowded_stops text c) (late_stops text l) in
+    repo_wait c.name c.id c.offset l.milliseconds
+    (says_one l.before l.line (Repo c.name c.id c.offset) (Wait l.milliseconds) (start_distinct l.up_to.reads) (says_along same (Repo c.name c.id c.offset) c.says) l.says)

@@ -3,9 +3,10 @@ use Rattle.std.proofs.Common.{◌≡◌, ◌≢◌, inl, inr, ℕ, suc, ◌+◌,
 use Rattle.std.specs.List.{prefix_len, list_all}
 use Rattle.std.proofs.lemmas.Bool.{cond_both, and_parts, and_from, cases_Bool, eqb-true, eqb-false, eq-eqb, ne_eqb, not-false, not-true}
 use Rattle.std.proofs.lemmas.List.{take-append-drop, take_at, drop_at, length-drop, length-append}
-use Rattle.script_lang.specs.Words.{space, quote, IsBreak, IsPlain, Spells}
+use Rattle.script_lang.specs.Words.{space, quote, IsBreak, IsPlain, Spells, Begins}
 use Rattle.script_lang.specs.Words.Spells.{Nothing, Space, Plain, Quoted}
-use Rattle.script_lang.specs.Reading.{is_space, is_not_space, is_not_quote, begins, after_spaces, is_break, closed_by, quoted_at, word_at}
+use Rattle.script_lang.specs.Words.Begins.{AfterSpace, WithPlain, WithQuoted}
+use Rattle.script_lang.specs.Reading.{is_space, is_not_space, is_not_quote, begins, after_spaces, is_break, closed_by, quoted_at, word_at, word_in, first_at}
 
 one_add : (n : ℕ) → 1 + n ≡ suc n
 one_add n = omega arith
@@ -131,23 +132,32 @@ plain_is b bs other unquoted =
       no_space = front_passes is_not_space (b ∷ bs);
     }
 
-pub word_spells : (line : List ℕ) (x : List ℕ × List ℕ) (words : List (List ℕ)) → word_at line ≡ Some x → begins space line ≡ false → line ≢ [] → Spells x.1 words → Spells line (x.0 ∷ words)
+-- a word that was found begins the line
+pub word_begins : (line : List ℕ) (x : List ℕ × List ℕ) → word_at line ≡ Some x → begins space line ≡ false → line ≢ [] → Begins line x.0 x.1
 unfolding word_at Quoted_is
-word_spells [] x words e no_space some s = absurd (some refl)
-word_spells (b ∷ bs) x words e no_space some s =
+word_begins [] x e no_space some = absurd (some refl)
+word_begins (b ∷ bs) x e no_space some =
     elim (cases_Bool (eqb b quote)) [
       | inl quoted ↦
           let is = quoted_is bs x (rw quoted at e) in
-          rw (eqb-true b quote quoted, is.0) (Quoted x.0 x.1 words is.1 is.2 s)
+          rw (eqb-true b quote quoted, is.0) (WithQuoted x.0 x.1 is.1 is.2)
       | inr unquoted ↦
           let n = prefix_len is_not_space (b ∷ bs) in
           let is : (take n (b ∷ bs), drop n (b ∷ bs)) ≡ x = some_is _ x (rw unquoted at e) in
           let at_space = eqb-false b space no_space in
-          subst (λ l. Spells l (x.0 ∷ words)) (take-append-drop n (b ∷ bs))
-          (subst (λ y. Spells (take n (b ∷ bs) ++ drop n (b ∷ bs)) (y.0 ∷ words)) is
-          (Plain (take n (b ∷ bs)) (drop n (b ∷ bs)) words (plain_is b bs at_space (eqb-false b quote unquoted)) (break_from _ (rest_stops is_not_space (b ∷ bs)))
-          (subst (λ y. Spells y.1 words) (sym is) s)))
+          subst (λ l. Begins l x.0 x.1) (take-append-drop n (b ∷ bs))
+          (subst (λ y. Begins (take n (b ∷ bs) ++ drop n (b ∷ bs)) y.0 y.1) is
+          (WithPlain (take n (b ∷ bs)) (drop n (b ∷ bs)) (plain_is b bs at_space (eqb-false b quote unquoted)) (break_from _ (rest_stops is_not_space (b ∷ bs)))))
     ]
+
+-- the words of a line are its first one and those of the rest
+pub begins_spells : {line word rest : List ℕ} → Begins line word rest → (words : List (List ℕ)) → Spells rest words → Spells line (word ∷ words)
+begins_spells (AfterSpace line word rest b) words s = Space line (word ∷ words) (begins_spells b words s)
+begins_spells (WithPlain word rest is br) words s = Plain word rest words is br s
+begins_spells (WithQuoted word rest all br) words s = Quoted word rest words all br s
+
+pub word_spells : (line : List ℕ) (x : List ℕ × List ℕ) (words : List (List ℕ)) → word_at line ≡ Some x → begins space line ≡ false → line ≢ [] → Spells x.1 words → Spells line (x.0 ∷ words)
+word_spells line x words e no_space some s = begins_spells (word_begins line x e no_space some) words s
 
 quoted_shorter : (b : ℕ) (bs : List ℕ) (x : List ℕ × List ℕ) → quoted_at bs ≡ Some x → length x.1 < length (b ∷ bs)
 unfolding Quoted_is
@@ -257,3 +267,56 @@ spells_one (Plain word line words is br t) all s =
     same_first (word ++ line) word line words all (plain_found word line is br) (first_word s (plain_begins word line is) (plain_some word line is)) (λ more m. spells_one t more m)
 spells_one (Quoted word line words q br t) all s =
     same_first (quote ∷ word ++ quote ∷ line) word line words all (quoted_found word line q br) (first_word s refl (λ e. absurd cc)) (λ more m. spells_one t more m)
+
+-- ---- the first word of a line
+
+-- a line whose words are these begins with the first
+pub record FirstPart (line word : List ℕ) (words : List (List ℕ)) : Type 0 where
+  pub rest : List ℕ
+  pub begins : Begins line word rest
+  pub spells : Spells rest words
+
+pub first_part : {line word : List ℕ} {words : List (List ℕ)} → Spells line (word ∷ words) → FirstPart line word words
+first_part (Space line (word ∷ words) s) =
+    let f = first_part s in record { rest = f.rest; begins = AfterSpace line word f.rest f.begins; spells = f.spells }
+first_part (Plain word line words is br s) = record { rest = line; begins = WithPlain word line is br; spells = s }
+first_part (Quoted word line words all br s) = record { rest = line; begins = WithQuoted word line all br; spells = s }
+
+after_space : (line : List ℕ) → after_spaces (space ∷ line) ≡ after_spaces line
+after_space line = rw (one_add (prefix_len is_space line)) refl
+
+after_other : (b : ℕ) (bs : List ℕ) → eqb b space ≡ false → after_spaces (b ∷ bs) ≡ b ∷ bs
+after_other b bs other = rw other refl
+
+plain_first : (word rest : List ℕ) → IsPlain word → IsBreak rest → first_at (word ++ rest) ≡ Some (word, rest)
+unfolding first_at
+plain_first [] rest is br = absurd (is.some refl)
+plain_first (b ∷ bs) rest is br = rw (after_other b (bs ++ rest) (not_space_is b bs is.no_space)) (plain_found (b ∷ bs) rest is br)
+
+quoted_first : (word rest : List ℕ) → list_all is_not_quote word ≡ true → IsBreak rest → first_at (quote ∷ word ++ quote ∷ rest) ≡ Some (word, rest)
+unfolding first_at
+quoted_first word rest all br = quoted_found word rest all br
+
+-- how a line begins is found
+pub first_found : {line word rest : List ℕ} → Begins line word rest → first_at line ≡ Some (word, rest)
+unfolding first_at
+first_found (AfterSpace line word rest b) = ap word_in (after_space line) ∙ first_found b
+first_found (WithPlain word rest is br) = plain_first word rest is br
+first_found (WithQuoted word rest all br) = quoted_first word rest all br
+
+none_some : {A : Type 0} (x : A) → None ≡ Some x → ⊥
+none_some x e = cc
+
+-- what is found begins the line
+pub found_first : (line : List ℕ) (x : List ℕ × List ℕ) → first_at line ≡ Some x → Begins line x.0 x.1
+unfolding first_at
+found_first [] x e = absurd (none_some x e)
+found_first (b ∷ bs) x e =
+    elim (cases_Bool (eqb b space)) [
+      | inl is ↦
+          let skipped : word_in (after_spaces bs) ≡ Some x = sym (ap (λ c. word_in (after_spaces (c ∷ bs))) (eqb-true b space is) ∙ ap word_in (after_space bs)) ∙ e in
+          rw (eqb-true b space is) (AfterSpace bs x.0 x.1 (found_first bs x skipped))
+      | inr other ↦
+          let same : word_at (b ∷ bs) ≡ Some x = sym (ap word_in (after_other b bs other)) ∙ e in
+          word_begins (b ∷ bs) x same other (λ none. absurd cc)
+    ]

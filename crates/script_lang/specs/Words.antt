@@ -26,3 +26,14 @@ pub data Spells : List ℕ → List (List ℕ) → Type 0 where
   Plain : (word line : List ℕ) (words : List (List ℕ)) → IsPlain word → IsBreak line → Spells line words → Spells (word ++ line) (word ∷ words)
   Quoted : (word line : List ℕ) (words : List (List ℕ)) → list_all (λ b. not (b == quote)) word ≡ true → IsBreak line → Spells line words
       → Spells (quote ∷ word ++ quote ∷ line) (word ∷ words)
+
+-- the first word of the line, and the rest behind it, which is raw
+pub data Begins : List ℕ → List ℕ → List ℕ → Type 0 where
+  AfterSpace : (line word rest : List ℕ) → Begins line word rest → Begins (space ∷ line) word rest
+  WithPlain : (word rest : List ℕ) → IsPlain word → IsBreak rest → Begins (word ++ rest) word rest
+  WithQuoted : (word rest : List ℕ) → list_all (λ b. not (b == quote)) word ≡ true → IsBreak rest → Begins (quote ∷ word ++ quote ∷ rest) word rest
+
+-- the first words of the line, and the rest behind the last of them, which is raw
+abbrev pub SpellsFront : List ℕ → List (List ℕ) → List ℕ → Type 0
+SpellsFront line [] rest = line ≡ rest
+SpellsFront line (word ∷ words) rest = (after : List ℕ) × Begins line word after × SpellsFront after words rest

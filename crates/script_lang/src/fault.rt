@@ -1,5 +1,5 @@
-ghost use Rattle.std.specs.Prelude.{◌≡◌, codes};
-ghost use Rattle.script_lang.specs.Script.{most_repositories};
+ghost use Rattle.std.specs.Prelude.{◌≡◌};
+ghost use Rattle.script_lang.specs.Script.{quantity_name, limit_of};
 
 use annex_base::NoMemory;
 use std::alloc::AllocError;
@@ -23,24 +23,28 @@ pub enum ScriptFault {
 pub enum Quantity {
     /// `repo` lines, at most 8
     Repositories,
+    /// The milliseconds of all `wait` lines together, at most 1,000,000,000,000
+    Time,
 }
 
 impl Quantity {
     /// Its name, as a report says it.
     pub fn name(self) -> &'static str
-        ensures { result.now ≡ codes "repositories" }
+        ensures { result.now ≡ quantity_name self }
     {
         match self {
             Quantity::Repositories => "repositories",
+            Quantity::Time => "time",
         }
     }
 
     /// The most that there may be.
     pub fn limit(self) -> u64
-        ensures { result ≡ most_repositories }
+        ensures { result ≡ limit_of self }
     {
         match self {
             Quantity::Repositories => 8,
+            Quantity::Time => 1_000_000_000_000,
         }
     }
 }

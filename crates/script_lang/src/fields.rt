@@ -1,14 +1,26 @@
-ghost use Rattle.std.specs.Prelude.{◌≡◌, ◌≤◌, ◌++◌, codes, length};
+ghost use Rattle.std.specs.Prelude.{◌≡◌, ◌<◌, ◌≤◌, ◌^◌, ◌++◌, ◌↔◌, IsTrue, codes};
 ghost use Rattle.std.specs.Fmt.{decimal};
+ghost use Rattle.std.specs.Str.{bytes_eq};
 ghost use Rattle.std.specs.List.{list_all};
-ghost use Rattle.script_lang.specs.Lines.{IsPlainKey, is_content, is_name, is_name_byte};
+ghost use Rattle.script_lang.specs.Lines.{IsPlainKey, IsNamedFile, is_content, is_name, is_name_byte, is_log_name, level_word};
 ghost use Rattle.script_lang.specs.Reading.{Found, Finds};
 
-use annex_base::{NoMemory, parse_decimal};
+use annex_base::{Level, NoMemory, Text, parse_decimal};
 use annex_key::{Key, KeyFault};
+use run_model::LogFile;
 use std::alloc::Global;
 
 const GREATEST_NUMBER: u64 = 999_999_999;
+
+const GREATEST_OFFSET: u64 = 100_000_000_000;
+
+/// Whether the word is this one.
+pub fn is_word(word: &[u8], other: &[u8]) -> bool
+    ensures test { result ≡ bytes_eq other.now word.now }
+    ensures same { IsTrue result ↔ (word.now ≡ other.now) }
+{
+    other == word
+}
 
 fn is_name_char(b: u8) -> bool
     ensures { result ≡ is_name_byte b }
@@ -51,17 +63,98 @@ pub fn read_key(alloc: Global, word: &[u8]) -> Result<Option<Key>, NoMemory>
     }
 }
 
-/// The number that the word spells, at most 999,999,999.
-pub fn read_number(word: &[u8]) -> Option<u32>
-    ensures { Found (λ n. n) (λ n. (n ≤ 999999999) × (word.now ≡ decimal n)) result }
+/// The number that the word spells, at most this one.
+fn read_up_to(word: &[u8], greatest: u64) -> Option<u64>
+    ensures { Found (λ n. n) (λ n. (n ≤ greatest) × (word.now ≡ decimal n)) result }
 {
     let Some(number) = parse_decimal(word) else {
         return None;
     };
-    if number <= GREATEST_NUMBER {
-        Some(number as u32)
+    if number <= greatest {
+        Some(number)
     } else {
         None
+    }
+}
+
+/// The number that the word spells, at most 999,999,999.
+pub fn read_number(word: &[u8]) -> Option<u32>
+    ensures { Found (λ n. n) (λ n. (n ≤ 999999999) × (word.now ≡ decimal n)) result }
+{
+    let Some(number) = read_up_to(word, GREATEST_NUMBER) else {
+        return None;
+    };
+    Some(number as u32)
+}
+
+/// The milliseconds that the word spells.
+pub fn read_milliseconds(word: &[u8]) -> Option<u64>
+    ensures { Found (λ n. n) (λ n. (n < 2 ^ 64) × (word.now ≡ decimal n)) result }
+{
+    let Some(milliseconds) = read_up_to(word, u64::MAX) else {
+        return None;
+    };
+    Some(milliseconds)
+}
+
+/// The bytes after `offset=`.
+fn offset_word(option: &[u8]) -> Option<&[u8]>
+    ensures { Found (λ w. w.now) (λ w. option.now ≡ codes "offset=" ++ w) result }
+{
+    option.strip_prefix(b"offset=")
+}
+
+/// The milliseconds that an option `offset=MS` spells, at most 100,000,000,000.
+pub fn read_offset(option: &[u8]) -> Option<u64>
+    ensures { Found (λ n. n) (λ n. (n ≤ 100000000000) × (option.now ≡ codes "offset=" ++ decimal n)) result }
+{
+    let Some(word) = offset_word(option) else {
+        return None;
+    };
+    let Some(offset) = read_up_to(word, GREATEST_OFFSET) else {
+        return None;
+    };
+    Some(offset)
+}
+
+/// The level that the word names.
+pub fn read_level(word: &[u8]) -> Option<Level>
+    ensures { Found (λ l. l) (λ l. word.now ≡ level_word l) result }
+{
+    if is_word(word, b"trusted") {
+        return Some(Level::Trusted);
+    }
+    if is_word(word, b"semitrusted") {
+        return Some(Level::Semitrusted);
+    }
+    if is_word(word, b"untrusted") {
+        return Some(Level::Untrusted);
+    }
+    if is_word(word, b"dead") {
+        return Some(Level::Dead);
+    }
+    None
+}
+
+/// Whether the word is the name of a log file that a line may name.
+fn is_log_file_name(word: &[u8]) -> bool
+    ensures { result ≡ is_log_name word.now }
+{
+    is_word(word, b"trust.log")
+        || is_word(word, b"uuid.log")
+        || is_word(word, b"group.log")
+        || is_word(word, b"numcopies.log")
+        || is_word(word, b"mincopies.log")
+}
+
+/// The log file that the word names.
+pub fn read_log_file(alloc: Global, word: &[u8]) -> Result<Option<LogFile>, NoMemory>
+    ensures { Finds (λ f. f) (λ f. (f ≡ LogFile.Named word.now) × IsNamedFile f) result }
+{
+    if is_log_file_name(word) {
+        Ok(Some(LogFile::Named(Text::new(alloc, word)?)))
+    } else {
+        Ok(None)
     }
 }
 

@@ -1,14 +1,19 @@
 //! The language of scripts: what each line says.
 #![tactic(auto)]
 
+mod actions;
 mod command;
+mod declare;
 mod fault;
 mod fields;
 mod laws;
 mod lines;
+mod log_files;
 mod reader;
 mod repository;
 mod script;
+mod settings;
+mod shows;
 mod verb;
 mod words;
 
@@ -29,6 +34,8 @@ fn cross_threads() {
     is_sync::<Script>();
     is_send::<ScriptFault>();
     is_sync::<ScriptFault>();
+    is_send::<Quantity>();
+    is_sync::<Quantity>();
 }
 
 #[cfg(test)]

@@ -1,147 +1,41 @@
-ghost use Rattle.std.specs.Prelude.{Bool, ◌≡◌, ◌≤◌, ◌∷◌, [], codes, length, map};
-ghost use Rattle.script_lang.specs.Words.{Spells};
-ghost use Rattle.script_lang.specs.Lines.{words_of, MayStand};
-ghost use Rattle.script_lang.specs.Reading.{Found, Finds, Means};
+//! What a line says.
 
+ghost use Rattle.std.specs.Prelude.{Bool, ◌≡◌, ◌≤◌, ◌∷◌, [], length, map};
+ghost use Rattle.script_lang.specs.Verbs.{rest_word};
+ghost use Rattle.script_lang.specs.Lines.{SpellsLine, MayStand};
+ghost use Rattle.script_lang.specs.Reading.{Found, Finds, Means, Opens};
+
+use crate::actions::{read_compact, read_drop, read_have, read_merge, read_wait};
 use crate::command::Command;
-use crate::fields::{is_content_of, is_name_word, read_key, read_number, read_text};
-use crate::repository::{Repository, find_repository, has_id, has_name};
-use crate::verb::{Verb, verb_of};
-use crate::words::split_words;
-use annex_base::{NoMemory, RepoId, Text};
-use run_model::{Job, JobKind};
+use crate::declare::{read_repo, read_repo_with_offset};
+use crate::log_files::read_log;
+use crate::repository::Repository;
+use crate::settings::{read_describe, read_group, read_mincopies, read_numcopies, read_trust};
+use crate::shows::{read_quadruple_show, read_triple_show};
+use crate::verb::{
+    PairVerb, QuadrupleVerb, RestVerb, TripleVerb, pair_verb_of, quadruple_verb_of, rest_verb_of,
+    triple_verb_of,
+};
+use crate::words::{first_word, split_words};
+use annex_base::NoMemory;
 use std::alloc::Global;
 
-/// `repo NAME UUID`
-fn read_repo(
-    alloc: Global,
-    repos: &[Repository],
-    closed: bool,
-    name: &[u8],
-    id: &[u8],
-) -> Result<Option<Command>, NoMemory>
-    ensures { Finds (λ c. c) (Means repos.now closed (codes "repo" ∷ name.now ∷ id.now ∷ [])) result }
-{
-    if closed || !is_name_word(name) || has_name(repos, name) {
-        return Ok(None);
-    }
-    let Ok(id) = RepoId::parse(id) else {
-        return Ok(None);
-    };
-    if has_id(repos, &id) {
-        return Ok(None);
-    }
-    Ok(Some(Command::Repo {
-        name: Text::new(alloc, name)?,
-        id,
-    }))
-}
-
-/// `have REPO KEY text:BYTES`
-fn read_have(
-    alloc: Global,
-    repos: &[Repository],
-    name: &[u8],
-    key: &[u8],
-    content: &[u8],
-) -> Result<Option<Command>, NoMemory>
+/// The command that two words say.
+fn read_pair(repos: &[Repository], verb: &[u8], word: &[u8]) -> Option<Command>
     requires { length repos.now ≤ 8 }
-    ensures { (closed : Bool) → Finds (λ c. c) (Means repos.now closed (codes "have" ∷ name.now ∷ key.now ∷ content.now ∷ [])) result }
+    ensures { (closed : Bool) → Found (λ c. c) (Means repos.now closed (verb.now ∷ word.now ∷ [])) result }
 {
-    let Some(repo) = find_repository(repos, name) else {
-        return Ok(None);
-    };
-    let Some(key) = read_key(alloc, key)? else {
-        return Ok(None);
-    };
-    let Some(content) = read_text(content) else {
-        return Ok(None);
-    };
-    if !is_content_of(&key, content) {
-        return Ok(None);
-    }
-    Ok(Some(Command::Have {
-        repo,
-        key,
-        content: Text::new(alloc, content)?,
-    }))
-}
-
-/// `numcopies REPO N`
-fn read_numcopies(repos: &[Repository], name: &[u8], number: &[u8]) -> Option<Command>
-    requires { length repos.now ≤ 8 }
-    ensures { (closed : Bool) → Found (λ c. c) (Means repos.now closed (codes "numcopies" ∷ name.now ∷ number.now ∷ [])) result }
-{
-    let Some(repo) = find_repository(repos, name) else {
+    let Some(verb) = pair_verb_of(verb) else {
         return None;
     };
-    let Some(number) = read_number(number) else {
-        return None;
-    };
-    Some(Command::Numcopies { repo, number })
-}
-
-/// `mincopies REPO N`
-fn read_mincopies(repos: &[Repository], name: &[u8], number: &[u8]) -> Option<Command>
-    requires { length repos.now ≤ 8 }
-    ensures { (closed : Bool) → Found (λ c. c) (Means repos.now closed (codes "mincopies" ∷ name.now ∷ number.now ∷ [])) result }
-{
-    let Some(repo) = find_repository(repos, name) else {
-        return None;
-    };
-    let Some(number) = read_number(number) else {
-        return None;
-    };
-    Some(Command::Mincopies { repo, number })
-}
-
-/// `drop REPO KEY`
-fn read_drop(
-    alloc: Global,
-    repos: &[Repository],
-    name: &[u8],
-    key: &[u8],
-) -> Result<Option<Command>, NoMemory>
-    requires { length repos.now ≤ 8 }
-    ensures { (closed : Bool) → Finds (λ c. c) (Means repos.now closed (codes "drop" ∷ name.now ∷ key.now ∷ [])) result }
-{
-    let Some(repo) = find_repository(repos, name) else {
-        return Ok(None);
-    };
-    let Some(key) = read_key(alloc, key)? else {
-        return Ok(None);
-    };
-    Ok(Some(Command::Run {
-        repo,
-        job: Job {
-            kind: JobKind::Drop,
-            key,
-            path: None,
-            peer: None,
-        },
-    }))
-}
-
-/// `show presence KEY`
-fn read_show(
-    alloc: Global,
-    repos: &[Repository],
-    what: &[u8],
-    key: &[u8],
-) -> Result<Option<Command>, NoMemory>
-    ensures { (closed : Bool) → Finds (λ c. c) (Means repos.now closed (codes "show" ∷ what.now ∷ key.now ∷ [])) result }
-{
-    if what != b"presence".as_slice() {
-        return Ok(None);
+    match verb {
+        PairVerb::Compact => read_compact(repos, word),
+        PairVerb::Wait => read_wait(word),
     }
-    let Some(key) = read_key(alloc, key)? else {
-        return Ok(None);
-    };
-    Ok(Some(Command::ShowPresence { key }))
 }
 
-/// The command that three words say: each form but `have`.
-fn read_three(
+/// The command that three words say.
+fn read_triple(
     alloc: Global,
     repos: &[Repository],
     closed: bool,
@@ -152,52 +46,102 @@ fn read_three(
     requires { length repos.now ≤ 8 }
     ensures { Finds (λ c. c) (Means repos.now closed (verb.now ∷ first.now ∷ second.now ∷ [])) result }
 {
-    let Some(verb) = verb_of(verb) else {
+    let Some(verb) = triple_verb_of(verb) else {
         return Ok(None);
     };
     match verb {
-        Verb::Repo => read_repo(alloc, repos, closed, first, second),
-        Verb::Have => Ok(None),
-        Verb::Numcopies => Ok(read_numcopies(repos, first, second)),
-        Verb::Mincopies => Ok(read_mincopies(repos, first, second)),
-        Verb::Drop => read_drop(alloc, repos, first, second),
-        Verb::Show => read_show(alloc, repos, first, second),
+        TripleVerb::Repo => read_repo(alloc, repos, closed, first, second),
+        TripleVerb::Numcopies => Ok(read_numcopies(repos, first, second)),
+        TripleVerb::Mincopies => Ok(read_mincopies(repos, first, second)),
+        TripleVerb::Drop => read_drop(alloc, repos, first, second),
+        TripleVerb::Merge => Ok(read_merge(repos, first, second)),
+        TripleVerb::Show => read_triple_show(alloc, repos, first, second),
     }
 }
 
-/// The command that four words say: `have` alone.
-fn read_four(
+/// The command that four words say.
+fn read_quadruple(
     alloc: Global,
     repos: &[Repository],
+    closed: bool,
     verb: &[u8],
-    name: &[u8],
-    key: &[u8],
-    content: &[u8],
+    first: &[u8],
+    second: &[u8],
+    third: &[u8],
 ) -> Result<Option<Command>, NoMemory>
     requires { length repos.now ≤ 8 }
-    ensures { (closed : Bool) → Finds (λ c. c) (Means repos.now closed (verb.now ∷ name.now ∷ key.now ∷ content.now ∷ [])) result }
+    ensures { Finds (λ c. c) (Means repos.now closed (verb.now ∷ first.now ∷ second.now ∷ third.now ∷ [])) result }
 {
-    if verb == b"have".as_slice() {
-        read_have(alloc, repos, name, key, content)
-    } else {
-        Ok(None)
+    let Some(verb) = quadruple_verb_of(verb) else {
+        return Ok(None);
+    };
+    match verb {
+        QuadrupleVerb::Repo => read_repo_with_offset(alloc, repos, closed, first, second, third),
+        QuadrupleVerb::Have => read_have(alloc, repos, first, second, third),
+        QuadrupleVerb::Trust => Ok(read_trust(repos, first, second, third)),
+        QuadrupleVerb::Show => read_quadruple_show(alloc, repos, first, second, third),
     }
 }
 
-/// The command that the words say.
+/// The command that a verb and the words after it say.
 fn read_words(
     alloc: Global,
     repos: &[Repository],
     closed: bool,
+    verb: &[u8],
     words: &[&[u8]],
 ) -> Result<Option<Command>, NoMemory>
     requires { length repos.now ≤ 8 }
-    ensures { Finds (λ c. c) (Means repos.now closed (map (λ w. w.now) words.now)) result }
+    ensures { Finds (λ c. c) (Means repos.now closed (verb.now ∷ map (λ w. w.now) words.now)) result }
 {
     match words {
-        [verb, first, second] => read_three(alloc, repos, closed, verb, first, second),
-        [verb, name, key, content] => { read_four(alloc, repos, verb, name, key, content) }
+        [word] => Ok(read_pair(repos, verb, word)),
+        [first, second] => read_triple(alloc, repos, closed, verb, first, second),
+        [first, second, third] => {
+            read_quadruple(alloc, repos, closed, verb, first, second, third)
+        }
         _ => Ok(None),
+    }
+}
+
+/// The command that a line with this verb says, which is read as words to its end.
+fn read_closed(
+    alloc: Global,
+    repos: &[Repository],
+    closed: bool,
+    verb: &[u8],
+    after: &[u8],
+) -> Result<Option<Command>, NoMemory>
+    requires few { length repos.now ≤ 8 }
+    requires verb { (v : RestVerb) → verb.now ≡ rest_word v → ⊥ }
+    ensures { Finds (λ c. c) (Opens repos.now closed (verb.now ∷ []) after.now) result }
+{
+    let Some(words) = split_words(alloc, after)? else {
+        return Ok(None);
+    };
+    read_words(alloc, repos, closed, verb, &words)
+}
+
+/// The command that a line with this verb says, which isn't read as words to its end.
+fn read_open(
+    alloc: Global,
+    repos: &[Repository],
+    verb: RestVerb,
+    after: &[u8],
+) -> Result<Option<Command>, NoMemory>
+    requires { length repos.now ≤ 8 }
+    ensures { (closed : Bool) → Finds (λ c. c) (Opens repos.now closed (rest_word verb ∷ []) after.now) result }
+{
+    let Some((name, after)) = first_word(after) else {
+        return Ok(None);
+    };
+    let Some((word, after)) = first_word(after) else {
+        return Ok(None);
+    };
+    match verb {
+        RestVerb::Describe => read_describe(alloc, repos, name, word, after),
+        RestVerb::Group => read_group(alloc, repos, name, word, after),
+        RestVerb::Log => read_log(alloc, repos, name, word, after),
     }
 }
 
@@ -209,10 +153,13 @@ pub fn read_line(
     line: &[u8],
 ) -> Result<Option<Command>, NoMemory>
     requires { length repos.now ≤ 8 }
-    ensures { Finds (λ c. c) (λ c. Spells line.now (words_of repos.now c) × MayStand repos.now closed c) result }
+    ensures { Finds (λ c. c) (λ c. SpellsLine repos.now line.now c × MayStand repos.now closed c) result }
 {
-    let Some(words) = split_words(alloc, line)? else {
+    let Some((verb, after)) = first_word(line) else {
         return Ok(None);
     };
-    read_words(alloc, repos, closed, &words)
+    match rest_verb_of(verb) {
+        Some(verb) => read_open(alloc, repos, verb, after),
+        None => read_closed(alloc, repos, closed, verb, after),
+    }
 }

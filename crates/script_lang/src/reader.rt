@@ -1,8 +1,8 @@
 ghost use Rattle.std.specs.Prelude.{◌≡◌, ◌≤◌, ◌+◌, ◌<◌, ◌^◌, ◌∷◌, ◌++◌, [], ◌&&◌, ◌||◌, not, nat_le, length, map, OnOk, MatchResult, IsTrue, ◌↔◌};
 ghost use Rattle.std.specs.Str.{IsUtf8};
 ghost use Rattle.script_lang.specs.Lines.{declared, declared_by};
-ghost use Rattle.script_lang.specs.Script.{IsSkipped, is_repo, Reads};
-ghost use Rattle.script_lang.specs.Steps.{Keeps, Steps, LineFault, Faults};
+ghost use Rattle.script_lang.specs.Script.{IsSkipped, is_repo, Reads, waited, waited_by, most_time};
+ghost use Rattle.script_lang.specs.Steps.{Keeps, Steps, LineFault, Faults, PassesBy};
 
 use crate::command::Command;
 use crate::fault::{Quantity, ScriptFault};
@@ -18,6 +18,8 @@ struct Reader {
     repos: Vec<Repository>,
     /// Whether a line other than a declaration came.
     closed: bool,
+    /// The milliseconds of all waits.
+    waited: u64,
 }
 
 fn is_text(line: &[u8]) -> bool
@@ -60,43 +62,78 @@ fn declare(repos: &mut Vec<Repository>, command: &Command) -> Result<(), NoMemor
     ensures { OnOk result (repos.new.items ≡ repos.old.items ++ declared_by command.now) }
 {
     match command {
-        Command::Repo { name, id } => {
-            repos.push(Repository::new(name.clone()?, *id))?;
+        Command::Repo { name, id, offset } => {
+            repos.push(Repository::new(name.clone()?, *id, *offset))?;
             Ok(())
         }
         _ => Ok(()),
     }
 }
 
+/// The milliseconds that the command waits.
+fn wait_of(command: &Command) -> u64
+    ensures { result ≡ waited_by command.now }
+{
+    match command {
+        Command::Wait { milliseconds } => *milliseconds,
+        _ => 0,
+    }
+}
+
+/// Whether the command waits too long after so many milliseconds of waits.
+fn delays(waited: u64, command: &Command) -> bool
+    requires { waited ≤ most_time }
+    ensures { IsTrue result ↔ (most_time < waited + waited_by command.now) }
+{
+    wait_of(command) > Quantity::Time.limit() - waited
+}
+
+/// The quantity whose limit the command passes.
+fn passed(repos: &[Repository], waited: u64, command: &Command) -> Option<Quantity>
+    requires { waited ≤ most_time }
+    ensures { PassesBy (length repos.now) waited command.now result }
+{
+    if crowds(repos, command) {
+        return Some(Quantity::Repositories);
+    }
+    if delays(waited, command) {
+        return Some(Quantity::Time);
+    }
+    None
+}
+
 impl Reader {
     fn new(alloc: Global) -> Reader
         ensures none { result.commands.items ≡ [] }
-        ensures keeps { Keeps result.commands.items result.repos.items result.closed }
+        ensures keeps { Keeps result.commands.items result.repos.items result.closed result.waited }
     {
         Reader {
             commands: Vec::new(alloc),
             repos: Vec::new(alloc),
             closed: false,
+            waited: 0,
         }
     }
 
     fn add(&mut self, command: Command) -> Result<(), NoMemory>
-        requires keeps { Keeps self.old.commands.items self.old.repos.items self.old.closed }
+        requires keeps { Keeps self.old.commands.items self.old.repos.items self.old.closed self.old.waited }
         requires room { length (declared_by command) + length self.old.repos.items ≤ 8 }
+        requires time { self.old.waited + waited_by command ≤ most_time }
         ensures commands { OnOk result (self.new.commands.items ≡ self.old.commands.items ++ command ∷ []) }
-        ensures keeps { OnOk result (Keeps self.new.commands.items self.new.repos.items self.new.closed) }
+        ensures keeps { OnOk result (Keeps self.new.commands.items self.new.repos.items self.new.closed self.new.waited) }
     {
         declare(&mut self.repos, &command)?;
         self.closed = closes(self.closed, &command);
+        self.waited += wait_of(&command);
         self.commands.push(command)?;
         Ok(())
     }
 
     /// Takes the line of this number.
     fn take_line(&mut self, alloc: Global, line: &[u8], number: u64) -> Result<(), ScriptFault>
-        requires { Keeps self.old.commands.items self.old.repos.items self.old.closed }
+        requires { Keeps self.old.commands.items self.old.repos.items self.old.closed self.old.waited }
         ensures step { MatchResult result (λ _. Steps self.old.commands.items line.now self.new.commands.items) (λ e. LineFault self.old.commands.items line.now number e) }
-        ensures keeps { OnOk result (Keeps self.new.commands.items self.new.repos.items self.new.closed) }
+        ensures keeps { OnOk result (Keeps self.new.commands.items self.new.repos.items self.new.closed self.new.waited) }
     {
         if !is_text(line) {
             return Err(ScriptFault::BadLine {
@@ -113,10 +150,8 @@ impl Reader {
                 byte: 0,
             });
         };
-        if crowds(&self.repos, &command) {
-            return Err(ScriptFault::TooMuch {
-                quantity: Quantity::Repositories,
-            });
+        if let Some(quantity) = passed(&self.repos, self.waited, &command) {
+            return Err(ScriptFault::TooMuch { quantity });
         }
         self.add(command)?;
         Ok(())
@@ -126,7 +161,7 @@ impl Reader {
 /// The commands that the lines say, or the first fault.
 pub fn read_lines(alloc: Global, lines: &[&[u8]]) -> Result<Vec<Command>, ScriptFault>
     requires { length lines.now < 2 ^ 63 }
-    ensures { MatchResult result (λ v. Reads [] (map (λ w. w.now) lines.now) v.items × (length (declared v.items) ≤ 8)) (λ e. Faults (map (λ w. w.now) lines.now) e) }
+    ensures { MatchResult result (λ v. Reads [] (map (λ w. w.now) lines.now) v.items × (length (declared v.items) ≤ 8) × (waited v.items ≤ most_time)) (λ e. Faults (map (λ w. w.now) lines.now) e) }
 {
     let mut reader = Reader::new(alloc);
     for (i, line) in lines.iter().enumerate() {

@@ -1,8 +1,7 @@
-ghost use Rattle.std.specs.Prelude.{◌≡◌, ◌≤◌, ◌<◌, length, position};
+ghost use Rattle.std.specs.Prelude.{◌≡◌, ◌≤◌, length, position};
 ghost use Rattle.std.specs.Str.{bytes_eq};
 ghost use Rattle.std.specs.List.{list_any};
-ghost use Rattle.script_lang.specs.Lines.{name_of};
-ghost use Rattle.script_lang.specs.Reading.{Found};
+ghost use Rattle.script_lang.specs.Reading.{Found, IsNamed, AreNamed};
 
 use annex_base::{RepoId, Text};
 use std::marker::Model;
@@ -12,6 +11,7 @@ use std::marker::Model;
 pub struct Repository {
     name: Text,
     id: RepoId,
+    offset: u64,
 }
 
 impl Model for Repository {
@@ -19,14 +19,14 @@ impl Model for Repository {
 
     ghost Value = { Declared };
 
-    ghost view = { λ r. record { name = r.name; id = r.id } };
+    ghost view = { λ r. record { name = r.name; id = r.id; offset = r.offset } };
 }
 
 impl Repository {
-    pub fn new(name: Text, id: RepoId) -> Repository
-        ensures { result ≡ record { name = name; id = id } }
+    pub fn new(name: Text, id: RepoId, offset: u64) -> Repository
+        ensures { result ≡ record { name = name; id = id; offset = offset } }
     {
-        Repository { name, id }
+        Repository { name, id, offset }
     }
 
     fn is_named(&self, name: &[u8]) -> bool
@@ -65,10 +65,24 @@ fn position_of(repos: &[Repository], name: &[u8]) -> Option<usize>
 /// The number of the repository of this name.
 pub fn find_repository(repos: &[Repository], name: &[u8]) -> Option<u32>
     requires { length repos.now ≤ 8 }
-    ensures { Found (λ r. r) (λ r. (r < length repos.now) × (name_of repos.now r ≡ name.now)) result }
+    ensures { Found (λ r. r) (IsNamed repos.now name.now) result }
 {
     match position_of(repos, name) {
         Some(at) => Some(at as u32),
         None => None,
     }
+}
+
+/// The numbers of the repositories of these two names.
+pub fn find_two(repos: &[Repository], name: &[u8], other: &[u8]) -> Option<(u32, u32)>
+    requires { length repos.now ≤ 8 }
+    ensures { Found (λ x. x) (AreNamed repos.now name.now other.now) result }
+{
+    let Some(first) = find_repository(repos, name) else {
+        return None;
+    };
+    let Some(second) = find_repository(repos, other) else {
+        return None;
+    };
+    Some((first, second))
 }

@@ -1,8 +1,8 @@
 ghost use Rattle.std.specs.Prelude.{◌≡◌, ◌⊎◌, List, ℕ, IfOk, MatchResult, map};
 ghost use Rattle.script_lang.specs.declared.command.Command.{Command};
 ghost use Rattle.script_lang.specs.declared.fault.ScriptFault.TheVariants as faults;
-ghost use Rattle.script_lang.specs.declared.fault.Quantity.TheVariants.{Repositories};
-ghost use Rattle.script_lang.specs.Script.{IsScript, IsProgram, IsBadLine, IsCrowded, lines_of};
+ghost use Rattle.script_lang.specs.declared.fault.Quantity.TheVariants.{Repositories, Time};
+ghost use Rattle.script_lang.specs.Script.{IsScript, IsProgram, IsBadLine, IsCrowded, IsLate, lines_of};
 ghost use Rattle.script_lang.specs.Steps.{Faults};
 
 use crate::command::Command;
@@ -51,11 +51,13 @@ impl Script {
         ensures program { IfOk result (λ s. IsProgram s) }
         ensures bad { (line byte : ℕ) → result ≡ Err (faults.BadLine line byte) → (byte ≡ 0) × IsBadLine bytes.now line }
         ensures crowded { result ≡ Err (faults.TooMuch Repositories) → IsCrowded bytes.now }
+        ensures late { result ≡ Err (faults.TooMuch Time) → IsLate bytes.now }
 
         // Each answer comes wherever it may, unless memory runs out.
         ensures ok_only { (commands : List Command) → IsScript bytes.now commands → MatchResult result (λ s. s ≡ commands) (λ e. e ≡ faults.NoMemory) }
         ensures bad_only { (line : ℕ) → IsBadLine bytes.now line → MatchResult result (λ s. ⊥) (λ e. (e ≡ faults.BadLine line 0) ⊎ (e ≡ faults.NoMemory)) }
         ensures crowded_only { IsCrowded bytes.now → MatchResult result (λ s. ⊥) (λ e. (e ≡ faults.TooMuch Repositories) ⊎ (e ≡ faults.NoMemory)) }
+        ensures late_only { IsLate bytes.now → MatchResult result (λ s. ⊥) (λ e. (e ≡ faults.TooMuch Time) ⊎ (e ≡ faults.NoMemory)) }
     {
         let commands = read_commands(alloc, bytes)?;
         Ok(Script { commands })

@@ -1,3 +1,7 @@
+mod forms;
+mod limits;
+mod refused;
+
 use super::*;
 use std::alloc::Global;
 use std::test::Fail;
@@ -11,6 +15,8 @@ enum Want {
     Bad(u64),
     /// A repository too many.
     TooMany,
+    /// Waits past the limit of time.
+    TooLate,
     Nothing,
 }
 
@@ -18,7 +24,10 @@ fn told(alloc: Global, text: &[u8]) -> Want {
     match Script::parse(alloc, text) {
         Ok(script) => Want::Commands(script.lines().len()),
         Err(ScriptFault::BadLine { line, byte: 0 }) => Want::Bad(line),
-        Err(ScriptFault::TooMuch { quantity: _ }) => Want::TooMany,
+        Err(ScriptFault::TooMuch { quantity }) => match quantity {
+            Quantity::Repositories => Want::TooMany,
+            Quantity::Time => Want::TooLate,
+        },
         Err(_) => Want::Nothing,
     }
 }
@@ -173,38 +182,7 @@ fn eight_repositories_are_the_most(rt: HostRuntime) -> Result<(), Fail> {
     }
     assert_eq!(rt; Quantity::Repositories.name(), "repositories");
     assert_eq!(rt; Quantity::Repositories.limit(), 8);
-    Ok(())
-}
-
-#[test]
-fn a_command_says_what_its_line_says(rt: HostRuntime) -> Result<(), Fail> {
-    let text = joined(
-        rt.alloc(),
-        TWO,
-        b"have b \"WORM-s3--a c\" \"text:x y\"\nmincopies b 20\nnumcopies a 3\ndrop b WORM--k\nshow presence WORM--k\n",
-    )?;
-    let script = Script::parse(rt.alloc(), &text)?;
-    let mut seen: u32 = 0;
-    for line in script.lines() {
-        match line.copy()? {
-            Command::Repo { name, id: _ } => {
-                assert!(rt; name.bytes() == b"a".as_slice() || name.bytes() == b"b".as_slice());
-            }
-            Command::Have { repo, key, content } => {
-                assert_eq!(rt; repo, 1);
-                assert_eq!(rt; key.text(), b"WORM-s3--a c".as_slice());
-                assert_eq!(rt; content.bytes(), b"x y".as_slice());
-            }
-            Command::Numcopies { repo, number } => assert_eq!(rt; (repo, number), (0, 3)),
-            Command::Mincopies { repo, number } => assert_eq!(rt; (repo, number), (1, 20)),
-            Command::Run { repo, job } => {
-                assert_eq!(rt; repo, 1);
-                assert_eq!(rt; job.key.text(), b"WORM--k".as_slice());
-            }
-            Command::ShowPresence { key } => assert_eq!(rt; key.text(), b"WORM--k".as_slice()),
-        }
-        seen = seen.saturating_add(1);
-    }
-    assert_eq!(rt; seen, 7);
+    assert_eq!(rt; Quantity::Time.name(), "time");
+    assert_eq!(rt; Quantity::Time.limit(), 1_000_000_000_000);
     Ok(())
 }

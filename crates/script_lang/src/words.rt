@@ -1,8 +1,8 @@
-ghost use Rattle.std.specs.Prelude.{◌≡◌, map};
+ghost use Rattle.std.specs.Prelude.{◌≡◌, ◌∷◌, map};
 ghost use Rattle.std.specs.List.{prefix_len};
 ghost use Rattle.std.specs.Option.{option_map};
-ghost use Rattle.script_lang.specs.Words.{Spells};
-ghost use Rattle.script_lang.specs.Reading.{Finds, is_space, is_not_space, is_not_quote, after_spaces, is_break, quoted_at, plain_at, word_at};
+ghost use Rattle.script_lang.specs.Words.{space, Spells};
+ghost use Rattle.script_lang.specs.Reading.{Found, Finds, is_space, is_not_space, is_not_quote, after_spaces, is_break, quoted_at, plain_at, word_at, first_at};
 
 use annex_base::NoMemory;
 use std::alloc::Global;
@@ -77,6 +77,29 @@ fn next_word(bytes: &[u8]) -> Option<(&[u8], &[u8])>
     match bytes {
         [b'"', quoted @ ..] => quoted_word(quoted),
         _ => Some(plain_word(bytes)),
+    }
+}
+
+/// The first word of a line, and what follows it.
+#[tactic(auto, unfolding(crate::specs::Reading::first_at))]
+pub fn first_word(line: &[u8]) -> Option<(&[u8], &[u8])>
+    ensures { option_map (λ x. (x.0.now, x.1.now)) result ≡ first_at line.now }
+{
+    let front = skip_spaces(line);
+    if front.is_empty() {
+        None
+    } else {
+        next_word(front)
+    }
+}
+
+/// The raw text behind the one space that follows a word.
+pub fn raw_text(after: &[u8]) -> Option<&[u8]>
+    ensures { Found (λ t. t.now) (λ t. after.now ≡ space ∷ t) result }
+{
+    match after {
+        [b' ', text @ ..] => Some(text),
+        _ => None,
     }
 }
 

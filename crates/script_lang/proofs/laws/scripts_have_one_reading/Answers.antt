@@ -1,4 +1,4 @@
-use Rattle.script_lang.proofs.StopLemmas.{one_script, one_bad, script_or_bad, script_or_crowded, bad_or_crowded}
+use Rattle.script_lang.proofs.StopLemmas.{one_script, one_bad, script_or_bad, script_or_crowded, bad_or_crowded, script_or_late, bad_or_late, crowded_or_late}
 use Rattle.script_lang.proofs.laws.scripts_have_one_reading.Goals as goal
 
 pub returns : goal.returns
@@ -8,4 +8,7 @@ returns c = record {
   script_or_bad = script_or_bad;
   script_or_crowded = script_or_crowded;
   bad_or_crowded = bad_or_crowded;
+  script_or_late = script_or_late;
+  bad_or_late = bad_or_late;
+  crowded_or_late = crowded_or_late;
 }

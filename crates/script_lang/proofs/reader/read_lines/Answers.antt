@@ -1,7 +1,7 @@
 use Rattle.std.proofs.Common.{◌+◌, ◌≤◌, [], length, map, take, drop, sym, ap, subst}
 use Rattle.std.proofs.lemmas.Result.{err_from_is_err_and}
 use Rattle.script_lang.specs.Lines.{declared}
-use Rattle.script_lang.specs.Script.{Reads}
+use Rattle.script_lang.specs.Script.{Reads, waited, most_time}
 use Rattle.script_lang.specs.Script.Reads.{End}
 use Rattle.script_lang.proofs.ReadLemmas.{fault_at, reads_more}
 use Rattle.script_lang.proofs.IndexLemmas.{parted_at, front_more, front_length}
@@ -18,8 +18,9 @@ returns-in_err-take_line c =
     let p = err_from_is_err_and c.from_residual.result c.from_residual.ensures.1 in
     let lines = c.args.lines.now in
     let few : length (declared c.loop-i.reader.commands.items) ≤ 8 = subst (λ ds. length ds ≤ 8) c.loop-i.invariant.keeps.repos_are c.loop-i.invariant.keeps.few in
+    let early : waited c.loop-i.reader.commands.items ≤ most_time = subst (λ n. n ≤ most_time) c.loop-i.invariant.keeps.time_is c.loop-i.invariant.keeps.in_time in
     rw (p.1, p.2) (fault_at (map (λ w. w.now) lines) (map (λ w. w.now) (take c.loop-i.i lines)) (map (λ w. w.now) (drop (c.loop-i.i + 1) lines)) _ (c.loop-i.i + 1) c.loop-i.reader.commands.items _
-    (parted_at (λ w. w.now) lines c.loop-i.i _ c.loop-i-test.true) (ap (λ n. n + 1) (sym (front_length (λ w. w.now) lines c.loop-i.i c.loop-i-test.true))) c.loop-i.invariant.reads few c.in_err-take_line.ensures.step)
+    (parted_at (λ w. w.now) lines c.loop-i.i _ c.loop-i-test.true) (ap (λ n. n + 1) (sym (front_length (λ w. w.now) lines c.loop-i.i c.loop-i-test.true))) c.loop-i.invariant.reads few early c.in_err-take_line.ensures.step)
 
 pub loop-i-preserved : goal.loop-i-preserved
 loop-i-preserved c = record {

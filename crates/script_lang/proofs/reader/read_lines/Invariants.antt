@@ -5,6 +5,6 @@ use Rattle.script_lang.proofs.reader.read_lines.Given as goal
 
 abbrev pub invariant-loop-i : goal.invariant-loop-i
 invariant-loop-i l = record {
-  keeps : Keeps l.reader.commands.items l.reader.repos.items l.reader.closed;
+  keeps : Keeps l.reader.commands.items l.reader.repos.items l.reader.closed l.reader.waited;
   reads : Reads [] (map (λ w. w.now) (take l.i l.lines)) l.reader.commands.items;
 }
