@@ -1,4 +1,4 @@
--- How a drop ends, and its holds are let go.
+-- How a drop is decided, ends, and its holds are let go.
 use Rattle.std.proofs.Common.{◌≡◌, ◌≢◌, ℕ, suc, ◌+◌, ◌-◌, ◌<◌, ◌≤◌, true, false, List, [], ◌∷◌, length, None, inl, inr, refl, sym, ap, ◌∙◌, subst, arith}
 use Rattle.std.specs.List.{range_with_len}
 use Rattle.std.proofs.lemmas.List.{get_or_past}
@@ -8,46 +8,49 @@ use Rattle.drop_proof.specs.declared.rule.Need.{Need}
 use Rattle.drop_proof.specs.declared.rule.Side.TheVariants.{Local}
 use Rattle.drop_proof.specs.declared.evidence.Evidence.{Evidence}
 use Rattle.drop_proof.specs.Judging.{is_enough}
+use Rattle.log_lines.specs.declared.entry.Value.TheVariants as values
 use Rattle.run_model.specs.declared.entry.Entry.{Entry}
-use Rattle.run_model.specs.declared.entry.EntryKind.TheVariants.{Gone, End}
+use Rattle.run_model.specs.declared.entry.EntryKind.TheVariants.{Begin, Bar, Gone, End}
 use Rattle.run_model.specs.declared.entry.By.TheVariants.{Job as by_job}
 use Rattle.run_model.specs.declared.job.CandidateCause.{CandidateCause}
-use Rattle.run_model.specs.declared.job.DropRefusal.TheVariants.{Lacking}
+use Rattle.run_model.specs.declared.job.DropRefusal.TheVariants.{Lacking, NotPresent}
+use Rattle.run_model.specs.declared.job.Job.{Job}
 use Rattle.run_model.specs.declared.job.Outcome.TheVariants.{Dropped, Refused}
 use Rattle.run_model.specs.declared.job.Proof.{Proof}
 use Rattle.run_model.specs.declared.run.RepoView.{RepoView}
-use Rattle.run_model.specs.Past.{holds}
-use Rattle.run_model.specs.Drops.{causes, proof_of}
-use Rattle.run_model.specs.Safety.{offset_of}
+use Rattle.run_model.specs.Past.{begun, holds, present}
+use Rattle.run_model.specs.Drops.{candidates, causes, proof_of}
 use Rattle.thin_driver.specs.declared.driver.Driver.{Driver}
-use Rattle.thin_driver.specs.Driver.{added, decide, items, release, release_at}
-use Rattle.thin_driver.specs.State.{KeepsRun, Releases, Rests, hold_of}
-use Rattle.run_model.specs.declared.entry.EntryKind.TheVariants.{Begin, Bar}
-use Rattle.run_model.specs.declared.job.DropRefusal.TheVariants.{NotPresent}
-use Rattle.run_model.specs.declared.job.Job.{Job}
-use Rattle.run_model.specs.Past.{begun, present}
-use Rattle.run_model.specs.Drops.{candidates, reply}
-use Rattle.thin_driver.specs.Asking.{HasAsked}
-use Rattle.thin_driver.specs.Driver.{ask, drop_by}
-use Rattle.thin_driver.specs.State.{Drops}
-use Rattle.thin_driver.proofs.Changes.{reply_kept, holds_kept}
+use Rattle.thin_driver.specs.declared.reading.Reading.{Reading}
+use Rattle.thin_driver.specs.Driver.{added, ask, decide, drop_by, drop_there, items, log_status, release, release_at}
+use Rattle.thin_driver.specs.State.{Drops, KeepsRun, Releases, Rests, hold_of}
+use Rattle.thin_driver.specs.Reading.{HasRead}
+use Rattle.thin_driver.specs.Asking.{HasAsked, HasBarred, HasBegun}
+use Rattle.thin_driver.proofs.Changes.{reply_kept, told_kept, holds_kept, step_kept, begun_job_begun, decided_barred, standing_barred}
 use Rattle.thin_driver.proofs.AskLoop.{KeepsRun-trans}
 use Rattle.thin_driver.proofs.Steps.{Rests-released}
 
+-- ---- the decision
+
 pub decide_enough : (repos : List RepoView) (need : Need) (a j : ℕ) (key : List ℕ) (past : List Entry) (evidence : List Evidence) (proof : Proof)
     → evidence ≡ items repos past a j need → is_enough Local need evidence ≡ true → proof ≡ proof_of (length repos) need evidence
-    → added (added past a (Gone (by_job j) key)) a (End j (Dropped proof)) ≡ decide repos need a j key past
+    → added (log_status repos (added past a (Gone (by_job j) key) []) a key values.Absent) a (End j (Dropped proof)) [] ≡ decide repos need a j key past
 decide_enough repos need a j key past evidence proof are enough is =
     let all : is_enough Local need (items repos past a j need) ≡ true = subst (λ (l : List Evidence). is_enough Local need l ≡ true) are enough in
-    rw (all, is, are) refl
+    ap (λ (p : Proof). added (log_status repos (added past a (Gone (by_job j) key) []) a key values.Absent) a (End j (Dropped p)) [])
+    (is ∙ ap (λ (l : List Evidence). proof_of (length repos) need l) are) ∙ rw all refl
 
 pub decide_lacking : (repos : List RepoView) (need : Need) (a j : ℕ) (key : List ℕ) (past : List Entry) (evidence : List Evidence) (proof : Proof) (reasons : List CandidateCause)
     → evidence ≡ items repos past a j need → is_enough Local need evidence ≡ false → proof ≡ proof_of (length repos) need evidence
-    → reasons ≡ causes Local (length repos) (offset_of repos) past a j a
-    → added past a (End j (Refused (Lacking proof reasons))) ≡ decide repos need a j key past
+    → reasons ≡ causes Local repos past a j a
+    → added past a (End j (Refused (Lacking proof reasons))) [] ≡ decide repos need a j key past
 decide_lacking repos need a j key past evidence proof reasons are few is told =
     let all : is_enough Local need (items repos past a j need) ≡ false = subst (λ (l : List Evidence). is_enough Local need l ≡ false) are few in
-    rw (all, is, are, told) refl
+    ap (λ (p : Proof). added past a (End j (Refused (Lacking p reasons))) []) (is ∙ ap (λ (l : List Evidence). proof_of (length repos) need l) are)
+    ∙ ap (λ (cs : List CandidateCause). added past a (End j (Refused (Lacking (proof_of (length repos) need (items repos past a j need)) cs))) []) told
+    ∙ rw all refl
+
+-- ---- the holds
 
 -- the holds of some first repositories were let go
 pub record Left (now : Driver) (key : List ℕ) (start : List Entry) (n i : ℕ) : Type 0 where
@@ -64,7 +67,7 @@ pub ReleaseLoop-start : (old : Driver) (key : List ℕ) → ReleaseLoop old old 
 ReleaseLoop-start old key = record {
   left = λ start releases. record { past = start; releases = releases; there = ap (λ (k : ℕ). release (range_with_len 0 k) start) (let e : length old.run.repos ≡ length old.run.repos - 0 = omega arith in e) };
   free = λ r below. absurd (omega arith);
-  kept = record { repos = refl; tree = refl; marks = refl; needs = refl };
+  kept = record { repos = refl; tree = refl; marks = refl; time = refl };
 }
 
 range_next : (i n : ℕ) → i < n → range_with_len i (n - i) ≡ i ∷ range_with_len (i + 1) (n - (i + 1))
@@ -100,34 +103,58 @@ ReleaseLoop-all old now key i loop last past releases =
 
 -- ---- a whole drop
 
+-- a job that has just begun
+pub HasBegun-begun : (driver : Driver) (past : List Entry) (a j : ℕ) (what : Job) → Rests driver past → j ≡ begun past a + 1 → HasBegun (added past a (Begin j what) []) a j what.key
+HasBegun-begun driver past a j what rests is = record {
+  silent = λ c. reply_kept past a (Begin j what) [] a j c refl ∙ rests.fresh.silent a j c later;
+  untold = λ c. told_kept past a (Begin j what) [] a j c refl ∙ rests.fresh.untold a j c later;
+  unheld = λ c. holds_kept past a (Begin j what) [] c refl ∙ rests.unheld c;
+  unmade = step_kept past a (Begin j what) [] a j refl ∙ rests.fresh.unmade a j later;
+  key_is = begun_job_begun past a j what;
+}
+  where
+    later : begun past a < j
+    later = omega arith
+
+-- it puts its bar
+pub HasBarred-barred : (repos : List RepoView) (past : List Entry) (a j : ℕ) (key : List ℕ) (reading : Reading) (need : Need) → HasBegun past a j key → HasRead repos past a j reading
+    → HasBarred repos reading.standings.items (added past a (Bar j need key) []) a j
+HasBarred-barred repos past a j key reading need begins read =
+    let d = decided_barred past a j need key in
+    record {
+      silent = λ c. reply_kept past a (Bar j need key) [] a j c refl ∙ begins.silent c;
+      untold = λ c. told_kept past a (Bar j need key) [] a j c refl ∙ begins.untold c;
+      unheld = λ c. holds_kept past a (Bar j need key) [] c refl ∙ begins.unheld c;
+      decision = d.0;
+      barred = d.1;
+      seen_are = λ c below. read.seen_are c below ∙ sym (standing_barred repos past a j need key c);
+    }
+
 -- what is barred, asked, decided and released is the definition's drop
-pub Rests-dropped : (first barred asking decided released : Driver) (need : Need) (a j : ℕ) (key : List ℕ) (past : List Entry) (evidence : List Evidence) (reasons : List CandidateCause)
+pub Rests-dropped : (first barred asking decided released : Driver) (reading : Reading) (a j : ℕ) (key : List ℕ) (past : List Entry) (evidence : List Evidence) (reasons : List CandidateCause)
     → KeepsRun first barred → KeepsRun barred asking → KeepsRun asking decided
-    → HasAsked barred.run.repos asking need a j key past evidence reasons
-    → ((p : List Entry) → Drops asking a j key p → evidence ≡ items asking.run.repos p a j need
-    → (is_enough Local need evidence ≡ false → reasons ≡ causes Local (length asking.run.repos) (offset_of asking.run.repos) p a j a) → Releases decided key (decide asking.run.repos need a j key p))
+    → HasBegun past a j key → HasRead first.run.repos past a j reading → Drops barred a j key (added past a (Bar j reading.need key) [])
+    → ((p : List Entry) → Drops barred a j key p → HasBarred barred.run.repos reading.standings.items p a j → HasAsked barred.run.repos asking reading.need a j key p evidence reasons)
+    → ((p : List Entry) → Drops asking a j key p → evidence ≡ items asking.run.repos p a j reading.need
+    → (is_enough Local reading.need evidence ≡ false → reasons ≡ causes Local asking.run.repos p a j a) → Releases decided key (decide asking.run.repos reading.need a j key p))
     → ((p : List Entry) → Releases decided key p → Rests released (release (range_with_len 0 (length decided.run.repos)) p))
-    → Rests released (release (range_with_len 0 (length first.run.repos)) (decide first.run.repos need a j key (ask first.run.repos need a j key (candidates Local (length first.run.repos) a a) past)))
-Rests-dropped first barred asking decided released need a j key past evidence reasons one two three asked decides releases =
-    let after = ask first.run.repos need a j key (candidates Local (length first.run.repos) a a) past in
-    let x = subst (λ (rs : List RepoView). HasAsked rs asking need a j key past evidence reasons) one.repos asked in
-    let d = subst (λ (rs : List RepoView). (p : List Entry) → Drops asking a j key p → evidence ≡ items rs p a j need
-    → (is_enough Local need evidence ≡ false → reasons ≡ causes Local (length rs) (offset_of rs) p a j a) → Releases decided key (decide rs need a j key p)) (two.repos ∙ one.repos) decides in
-    subst (λ (rs : List RepoView). (p : List Entry) → Releases decided key p → Rests released (release (range_with_len 0 (length rs)) p)) (three.repos ∙ two.repos ∙ one.repos) releases
-    (decide first.run.repos need a j key after) (d after x.drops x.evidence_is x.causes_are)
+    → Rests released (drop_there first.run.repos a j key past)
+Rests-dropped first barred asking decided released reading a j key past evidence reasons one two three begins read drops asks decides releases =
+    let repos = first.run.repos in
+    let start = added past a (Bar j reading.need key) [] in
+    let after = ask repos reading.need a j key (candidates Local (length repos) a a) start in
+    let has = subst (λ (rs : List RepoView). HasBarred rs reading.standings.items start a j) (sym one.repos) (HasBarred-barred repos past a j key reading reading.need begins read) in
+    let x = subst (λ (rs : List RepoView). HasAsked rs asking reading.need a j key start evidence reasons) one.repos (asks start drops has) in
+    let d = subst (λ (rs : List RepoView). (p : List Entry) → Drops asking a j key p → evidence ≡ items rs p a j reading.need
+    → (is_enough Local reading.need evidence ≡ false → reasons ≡ causes Local rs p a j a) → Releases decided key (decide rs reading.need a j key p)) (two.repos ∙ one.repos) decides in
+    subst (λ (n : Need). Rests released (release (range_with_len 0 (length repos)) (decide repos n a j key (ask repos n a j key (candidates Local (length repos) a a) (added past a (Bar j n key) []))))) read.need_is
+    (subst (λ (rs : List RepoView). (p : List Entry) → Releases decided key p → Rests released (release (range_with_len 0 (length rs)) p)) (three.repos ∙ two.repos ∙ one.repos) releases
+    (decide repos reading.need a j key after) (d after x.drops x.evidence_is x.causes_are))
 
-pub drop_by_there : (repos : List RepoView) (need : Need) (a j : ℕ) (job : Job) (past : List Entry) → present past a job.key ≡ true
-    → release (range_with_len 0 (length repos)) (decide repos need a j job.key (ask repos need a j job.key (candidates Local (length repos) a a) (added (added past a (Begin j job)) a (Bar j need job.key))))
-    ≡ drop_by repos need a j job past
-drop_by_there repos need a j job past there = rw there refl
+pub drop_by_there : (repos : List RepoView) (a j : ℕ) (job : Job) (past : List Entry) → present past a job.key ≡ true
+    → drop_there repos a j job.key (added past a (Begin j job) []) ≡ drop_by repos a j job past
+drop_by_there repos a j job past there = rw there refl
 
-pub drop_by_absent : (repos : List RepoView) (need : Need) (a j : ℕ) (job : Job) (past : List Entry) → present past a job.key ≡ false
-    → added (added past a (Begin j job)) a (End j (Refused NotPresent)) ≡ drop_by repos need a j job past
-drop_by_absent repos need a j job past absent = rw absent refl
-
--- nothing was vouched to a job that has just begun, and there is no hold
-pub begun_silent : (driver : Driver) (past : List Entry) (r j : ℕ) (what : Job) → Rests driver past → j ≡ begun past r + 1 → (c : ℕ) → reply (added past r (Begin j what)) r j c ≡ None
-begun_silent driver past r j what rests is c = reply_kept past r (Begin j what) r j c refl ∙ rests.fresh r j c (omega arith)
-
-pub begun_unheld : (driver : Driver) (past : List Entry) (r j : ℕ) (what : Job) → Rests driver past → (c : ℕ) → holds (added past r (Begin j what)) c ≡ []
-begun_unheld driver past r j what rests c = holds_kept past r (Begin j what) c refl ∙ rests.unheld c
+pub drop_by_absent : (repos : List RepoView) (a j : ℕ) (job : Job) (past : List Entry) → present past a job.key ≡ false
+    → added (added past a (Begin j job) []) a (End j (Refused NotPresent)) [] ≡ drop_by repos a j job past
+drop_by_absent repos a j job past absent = rw absent refl

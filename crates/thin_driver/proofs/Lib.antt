@@ -1,16 +1,26 @@
-mod Tables
-mod Changes
-mod Evidence
-mod Steps
-mod Asked
 mod AskLoop
+mod Asked
+mod Changes
 mod Deciding
+mod Gathering
+mod Logging
+pub mod Paths
+mod Readings
 mod Scripts
-pub mod ThinLists
+mod SetUps
+mod Steps
+mod Tables
 pub mod ThinAdded
-pub mod ThinPasts
 pub mod ThinAsking
+pub mod ThinBranches
 pub mod ThinDeciding
-pub mod ThinReleasing
 pub mod ThinDropping
+pub mod ThinLines
+pub mod ThinLists
+pub mod ThinLogging
+pub mod ThinPasts
+pub mod ThinPrograms
+pub mod ThinReleasing
 pub mod ThinScripts
+pub mod ThinSets
+mod Walks

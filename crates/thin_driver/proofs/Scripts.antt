@@ -1,27 +1,27 @@
 -- The lines of a script, one after the other.
-use Rattle.std.proofs.Common.{◌≡◌, ℕ, zero, suc, ◌+◌, ◌<◌, ◌≤◌, ◌^◌, Bool, true, false, List, [], ◌∷◌, ◌++◌, length, length-append, map, take, drop, get_or, reverse, refl, sym, ap, ◌∙◌, subst, arith, append_assoc}
-use Rattle.std.specs.Prelude.{if◌then◌else◌}
-use Rattle.std.proofs.lemmas.List.{take_more, drop_more, take-append-drop, append-nil, reverse-append, length-reverse, map-append, length-map}
+use Rattle.std.proofs.Common.{◌≡◌, ℕ, ◌+◌, ◌<◌, ◌≤◌, ◌^◌, true, false, List, [], ◌∷◌, ◌++◌, length, map, take, drop, get_or, replicate, reverse, Option, None, inl, inr, refl, sym, ap, ◌∙◌, subst, arith}
+use Rattle.std.proofs.lemmas.Bool.{cases_lt}
+use Rattle.std.proofs.lemmas.List.{get_or-replicate, get_or_past, length-replicate, take_more, drop_more, take-append-drop, append-nil, reverse-append, length-reverse, map-append, length-map}
 use Rattle.std.proofs.Math.ListN.{drop_of_length-le}
 use Rattle.annex_base.specs.Lists.{Each}
 use Rattle.run_model.specs.declared.entry.Entry.{Entry}
 use Rattle.run_model.specs.declared.entry.EntryKind.TheVariants.{Gain}
 use Rattle.run_model.specs.declared.entry.By.TheVariants.{Script}
-use Rattle.run_model.specs.declared.job.Job.{Job}
 use Rattle.run_model.specs.declared.run.RepoView.{RepoView}
 use Rattle.run_model.specs.declared.run.Run.{Run}
 use Rattle.run_model.specs.declared.run.TreeMark.{TreeMark}
-use Rattle.run_model.specs.Past.{present, begun}
-use Rattle.run_model.specs.Safety.{offset_of}
+use Rattle.run_model.specs.Past.{present}
+use Rattle.run_model.specs.Contents.{Tracks}
+use Rattle.run_model.specs.Branches.{HasBranches}
+use Rattle.log_lines.specs.declared.entry.Value.TheVariants as values
 use Rattle.script_lang.specs.declared.command.Command.{Command}
-use Rattle.script_lang.specs.declared.command.Command.TheVariants.{Repo, Have, Numcopies, Mincopies, Run as run_job, ShowPresence}
-use Rattle.script_lang.specs.Lines.{Declared, declared, declared_by, MayStand}
-use Rattle.script_lang.specs.Script.{AllStand, IsProgram, is_closed}
+use Rattle.script_lang.specs.Lines.{declared, declared_by}
 use Rattle.thin_driver.specs.declared.driver.Driver.{Driver}
-use Rattle.thin_driver.specs.Driver.{added, drop_by, entries_of, marks_of, repos_of, run_of, view_of}
-use Rattle.thin_driver.specs.State.{KeepsRun, Rests, need_for}
-use Rattle.thin_driver.specs.Standing.{Names, Stands}
-use Rattle.thin_driver.proofs.Evidence.{Each-middle}
+use Rattle.thin_driver.specs.Driver.{added, done, entries_of, have, log_status, marks_of, repos_of, run_of, view_of}
+use Rattle.thin_driver.specs.declared.tally.Tally.{Tally}
+use Rattle.thin_driver.specs.State.{Rests, Stands, no_tally, tally_of}
+use Rattle.thin_driver.proofs.Gathering.{Each-middle}
+use Rattle.thin_driver.proofs.ThinPrograms.{declared-append}
 
 -- ---- lists
 
@@ -37,11 +37,13 @@ take_next xs i x within is = take_more xs i x within ∙ ap (λ y. take i xs ++ 
 pub reverse_next : {X : Type 0} (xs : List X) (i : ℕ) (x : X) → i < length xs → x ≡ get_or xs i x → reverse (take (i + 1) xs) ≡ x ∷ reverse (take i xs)
 reverse_next xs i x within is = ap reverse (take_next xs i x within is) ∙ reverse-append (take i xs) (x ∷ [])
 
--- ---- repositories
+same_everywhere : {X : Type 0} (n i : ℕ) (x : X) → get_or (replicate n x) i x ≡ x
+same_everywhere n i x = elim (cases_lt i n) [
+  | inl below ↦ get_or-replicate n i x x below
+  | inr past ↦ get_or_past (replicate n x) i x (let few : length (replicate n x) ≤ i = omega (arith, length-replicate n x, past) in few)
+]
 
-declared-append : (xs ys : List Command) → declared (xs ++ ys) ≡ declared xs ++ declared ys
-declared-append [] ys = refl
-declared-append (x ∷ xs) ys = ap (λ l. declared_by x ++ l) (declared-append xs ys) ∙ sym (append_assoc (declared_by x) (declared xs) (declared ys))
+-- ---- repositories
 
 pub repos_next : (xs : List Command) (i : ℕ) (x : Command) → i < length xs → x ≡ get_or xs i x → repos_of (take (i + 1) xs) ≡ repos_of (take i xs) ++ map view_of (declared_by x)
 repos_next xs i x within is =
@@ -49,60 +51,50 @@ repos_next xs i x within is =
     ∙ ap (λ l. map view_of l) (declared-append (take i xs) (x ∷ []) ∙ ap (λ l. declared (take i xs) ++ l) (append-nil (declared_by x)))
     ∙ map-append view_of (declared (take i xs)) (declared_by x)
 
-pub level_of : (ds : List Declared) (r : ℕ) → offset_of (map view_of ds) r ≡ 0
-level_of [] r = refl
-level_of (d ∷ ds) zero = refl
-level_of (d ∷ ds) (suc r) = level_of ds r
-
 pub length-repos_of : (script : List Command) → length (repos_of script) ≡ length (declared script)
 length-repos_of script = length-map (declared script) view_of
 
-may_name : (before : List Declared) (closed : Bool) (c : Command) → MayStand before closed c → Names (length before) c
-may_name before closed (Repo name id) may = tt
-may_name before closed (Have r key content) may = may.0
-may_name before closed (Numcopies r n) may = may.0
-may_name before closed (Mincopies r n) may = may.0
-may_name before closed (run_job r job) may = may.0
-may_name before closed (ShowPresence key) may = tt
-
-names_more : (m n : ℕ) (c : Command) → m ≤ n → Names m c → Names n c
-names_more m n (Repo name id) le names = tt
-names_more m n (Have r key content) le names = omega arith
-names_more m n (Numcopies r number) le names = omega arith
-names_more m n (Mincopies r number) le names = omega arith
-names_more m n (run_job r job) le names = omega arith
-names_more m n (ShowPresence key) le names = tt
-
-names_all : (before cs : List Command) → AllStand before cs → Each (λ c. Names (length (declared (before ++ cs))) c) cs
-names_all before [] stand = tt
-names_all before (c ∷ cs) stand = (
-  names_more (length (declared before)) (length (declared (before ++ c ∷ cs))) c
-      (omega (arith, ap length (declared-append before (c ∷ cs)), length-append (declared before) (declared (c ∷ cs))))
-      (may_name (declared before) (is_closed before) c stand.0),
-  subst (λ l. Each (λ x. Names (length (declared l)) x) cs) (append_assoc before (c ∷ []) cs) (names_all (before ++ c ∷ []) cs stand.1),
-)
-
--- each line of a program names one of its repositories
-pub program_names : (script : List Command) → IsProgram script → Each (Names (length (declared script))) script
-program_names script program = names_all [] script program.stand
-
 -- ---- lines
 
-pub had_there : (past : List Entry) (r size : ℕ) (key : List ℕ) → present past r key ≡ true → past ≡ (if present past r key then past else added past r (Gain Script size key))
-had_there past r size key there = rw there refl
-
-pub had_absent : (past : List Entry) (r size : ℕ) (key : List ℕ) → present past r key ≡ false → added past r (Gain Script size key) ≡ (if present past r key then past else added past r (Gain Script size key))
-had_absent past r size key absent = rw absent refl
-
-pub Stands-dropped : (old new : Driver) (repos : List RepoView) (before : List Command) (r : ℕ) (job : Job) → r < length old.run.repos → Stands old repos before → KeepsRun old new
-    → ((past : List Entry) → Rests old past → Rests new (drop_by old.run.repos (need_for old r) r (begun past r + 1) job past))
-    → Stands new repos (run_job r job ∷ before)
-Stands-dropped old new repos before r job below stands kept dropped = record {
-  repos_are = kept.repos ∙ stands.repos_are;
-  rests = subst (λ n. Rests new (drop_by repos n r (begun (entries_of repos before) r + 1) job (entries_of repos before))) (stands.needs_are r (subst (λ rs. r < length rs) stands.repos_are below))
-      (subst (λ rs. Rests new (drop_by rs (need_for old r) r (begun (entries_of repos before) r + 1) job (entries_of repos before))) stands.repos_are (dropped (entries_of repos before) stands.rests));
-  needs_are = λ q within. ap (λ v. get_or v.items q (record { n = 1; m = 1 })) kept.needs ∙ stands.needs_are q within;
+-- before the first line
+pub Stands-start : (driver : Driver) (repos : List RepoView) → driver.run.repos ≡ repos → driver.run.entries ≡ [] → driver.time ≡ 0
+    → Tracks driver.contents (length driver.run.repos) [] → HasBranches driver.branches (length driver.run.repos) []
+    → driver.tallies.items ≡ replicate (length driver.run.repos) no_tally → driver.holds.items ≡ replicate (length driver.run.repos) None → Stands driver repos []
+Stands-start driver repos are entries time tracks branches tallies holds = record {
+  repos_are = are;
+  rests = record {
+    at = record {
+      entries_are = entries;
+      count_is = refl;
+      time_is = time;
+      contents = tracks;
+      branches = branches;
+      begun_are = λ r below. ap (λ (t : Tally). t.begun) (at_first r);
+      made_are = λ r below. ap (λ (t : Tally). t.made) (at_first r);
+    };
+    quiet = λ a. refl;
+    fresh = record { silent = λ a j r later. refl; untold = λ a j r later. refl; unmade = λ a j later. refl };
+    free = λ r. ap (λ (hs : List (Option ℕ)). get_or hs r None) holds ∙ same_everywhere (length driver.run.repos) r None;
+    unheld = λ r. refl;
+  };
 }
+  where
+    at_first : (r : ℕ) → tally_of driver r ≡ no_tally
+    at_first r = ap (λ (ts : List Tally). get_or ts r no_tally) tallies ∙ same_everywhere (length driver.run.repos) r no_tally
+
+pub Stands-done : (old new : Driver) (repos : List RepoView) (before : List Command) (c : Command) → Stands old repos before → new.run.repos ≡ old.run.repos
+    → ((past : List Entry) → Rests old past → Rests new (done old.run.repos c past)) → Stands new repos (c ∷ before)
+Stands-done old new repos before c stands kept does = record {
+  repos_are = kept ∙ stands.repos_are;
+  rests = subst (λ rs. Rests new (done rs c (entries_of repos before))) stands.repos_are (does (entries_of repos before) stands.rests);
+}
+
+pub have_there : (repos : List RepoView) (past : List Entry) (r : ℕ) (key : List ℕ) (size : ℕ) → present past r key ≡ true → past ≡ have repos past r key size
+have_there repos past r key size there = rw there refl
+
+pub have_absent : (repos : List RepoView) (past : List Entry) (r : ℕ) (key : List ℕ) (size : ℕ) → present past r key ≡ false
+    → log_status repos (added past r (Gain Script size key) []) r key values.Present ≡ have repos past r key size
+have_absent repos past r key size absent = rw absent refl
 
 -- ---- the whole script
 

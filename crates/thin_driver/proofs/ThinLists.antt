@@ -1,7 +1,7 @@
 -- Lemmas on tests and lists.
-use Rattle.std.proofs.Common.{◌≡◌, ℕ, zero, suc, ◌+◌, ◌<◌, ◌≤◌, Bool, true, false, not, cond, List, [], ◌∷◌, ◌++◌, length, Some, None, ◌⊎◌, inl, inr, refl, sym, subst, arith}
-use Rattle.std.specs.Prelude.{if◌then◌else◌, ◌==◌, filter, nat_lt, reverse, slice_get, bytes_eq}
-use Rattle.std.specs.List.{range_with_len}
+use Rattle.std.proofs.Common.{◌≡◌, ℕ, zero, suc, ◌+◌, ◌<◌, ◌≤◌, Bool, true, false, not, cond, List, [], ◌∷◌, ◌++◌, Some, None, ◌⊎◌, inl, inr, refl, sym, subst, arith}
+use Rattle.std.specs.Prelude.{if◌then◌else◌, ◌==◌, filter, nat_lt, reverse, bytes_eq}
+use Rattle.std.specs.List.{range_with_len, find}
 use Rattle.std.specs.Cmp.Lexicographic.{bytes_decides}
 use Rattle.std.proofs.lemmas.Bool.Decides.{nat_tests}
 use Rattle.std.proofs.lemmas.List.{reverse-append}
@@ -75,38 +75,18 @@ pub Each-reverse : {X : Type 0} (P : X → Type 0) (xs : List X) → Each P xs �
 Each-reverse P [] h = tt
 Each-reverse P (x ∷ xs) h = subst (λ ys. Each P ys) (sym (reverse-append (x ∷ []) xs)) (Each-append P (reverse xs) (x ∷ []) (Each-reverse P xs h.1) (h.0, tt))
 
--- ---- lists in which no number stands twice
-
-abbrev pub Distinct : List ℕ → Type 0
-Distinct [] = Unit {0}
-Distinct (x ∷ xs) = Each (λ y. (x == y) ≡ false) xs × Distinct xs
-
-pub Distinct-filter : (p : ℕ → Bool) (xs : List ℕ) → Distinct xs → Distinct (filter p xs)
-Distinct-filter p [] h = tt
-Distinct-filter p (x ∷ xs) h = go (Distinct-filter p xs h.1) (p x)
-  where
-    go : Distinct (filter p xs) → (b : Bool) → Distinct (cond b (x ∷ filter p xs) (filter p xs))
-    go ih true = (Each-filter (λ y. (x == y) ≡ false) p xs h.0, ih)
-    go ih false = ih
-
-pub range_above : (a n : ℕ) → Each (λ x. a ≤ x) (range_with_len a n)
-range_above a zero = tt
-range_above a (suc n) = (omega arith, Each-weaker (λ x. a + 1 ≤ x) (λ x. a ≤ x) (λ x h. omega (arith, h)) (range_with_len (a + 1) n) (range_above (a + 1) n))
+-- ---- numbers in order
 
 pub range_below : (a n b : ℕ) → a + n ≡ b → Each (λ x. x < b) (range_with_len a n)
 range_below a zero b e = tt
 range_below a (suc n) b e = (omega (arith, e), range_below (a + 1) n b (omega (arith, e)))
 
-pub range_distinct : (a n : ℕ) → Distinct (range_with_len a n)
-range_distinct a zero = tt
-range_distinct a (suc n) = (Each-weaker (λ x. a + 1 ≤ x) (λ x. (a == x) ≡ false) (λ x h. eqb_less a x (omega (arith, h))) (range_with_len (a + 1) n) (range_above (a + 1) n), range_distinct (a + 1) n)
+-- ---- the first that passes
 
--- ---- the place after the front part
+pub find_after : {X : Type 0} (p : X → Bool) (front : List X) (x : X) (xs : List X) → Each (λ y. p y ≡ false) front → p x ≡ true → find p (front ++ x ∷ xs) ≡ Some x
+find_after p [] x xs none is = rw is refl
+find_after p (y ∷ front) x xs none is = rw none.0 (find_after p front x xs none.1 is)
 
-pub slice_get-front : {X : Type 0} (front : List X) (x : X) (xs : List X) → slice_get (front ++ x ∷ xs) (length front) ≡ Some x
-slice_get-front [] x xs = refl
-slice_get-front (y ∷ front) x xs = slice_get-front front x xs
-
-pub slice_get-end : {X : Type 0} (front : List X) → slice_get (front ++ []) (length front) ≡ None
-slice_get-end [] = refl
-slice_get-end (y ∷ front) = slice_get-end front
+pub find_none : {X : Type 0} (p : X → Bool) (xs : List X) → Each (λ y. p y ≡ false) xs → find p xs ≡ None
+find_none p [] none = refl
+find_none p (x ∷ xs) none = rw none.0 (find_none p xs none.1)

@@ -1,125 +1,135 @@
 -- The run of a script is a thin one.
-use Rattle.std.proofs.Common.{◌≡◌, ℕ, ◌<◌, ◌≤◌, ◌^◌, Bool, true, false, List, [], ◌∷◌, ◌++◌, length, refl, sym, ap, ◌∙◌, subst, arith, append_assoc, length-append}
-use Rattle.std.specs.Prelude.{if◌then◌else◌, ◌==◌, max, map, reverse}
-use Rattle.std.proofs.lemmas.List.{reverse-reverse, length-reverse, length-map}
+use Rattle.std.proofs.Common.{◌≡◌, ◌≢◌, ℕ, ◌+◌, ◌<◌, ◌≤◌, ◌^◌, Bool, true, false, List, [], ◌∷◌, ◌++◌, length, None, refl, sym, ap, ◌∙◌, subst, arith}
+use Rattle.std.specs.Prelude.{if◌then◌else◌, map, reverse}
+use Rattle.std.proofs.lemmas.List.{reverse-append, reverse-reverse, length-reverse}
+use Rattle.annex_base.specs.Lists.{Each}
+use Rattle.annex_key.specs.View.{size_part}
+use Rattle.log_lines.specs.declared.entry.LogKind.TheVariants as kinds
+use Rattle.log_lines.specs.declared.entry.Topic.TheVariants as topics
+use Rattle.log_lines.specs.declared.entry.Value.TheVariants as values
+use Rattle.log_lines.proofs.FormLemmas.{single_all}
+use Rattle.trust_groups.specs.Settings.{file_name}
 use Rattle.run_model.specs.declared.run.RepoView.{RepoView}
 use Rattle.run_model.specs.declared.entry.Entry.{Entry}
 use Rattle.run_model.specs.declared.entry.By.TheVariants.{Script}
-use Rattle.run_model.specs.declared.entry.EntryKind.{EntryKind}
-use Rattle.run_model.specs.declared.entry.EntryKind.TheVariants.{Gain}
-use Rattle.annex_base.specs.Lists.{Each}
+use Rattle.run_model.specs.declared.entry.EntryKind.TheVariants.{Gain, Log}
+use Rattle.run_model.specs.declared.entry.LogFile.TheVariants.{Location, Named}
+use Rattle.run_model.specs.SetUp.{id_of}
 use Rattle.run_model.specs.Past.{present}
-use Rattle.run_model.specs.Safety.{offset_of}
+use Rattle.run_model.specs.Logs.{branch, kind_of}
 use Rattle.run_model.specs.Thin.{IsSetUp, IsThinRun, ThinPast, MayGain, fits_size}
-use Rattle.annex_key.specs.View.{size_part}
 use Rattle.script_lang.specs.declared.command.Command.{Command}
-use Rattle.script_lang.specs.declared.command.Command.TheVariants.{Have, Numcopies, Mincopies, Run as run_job}
-use Rattle.script_lang.specs.Lines.{Declared, declared, declared_by, is_content, IsLocalDrop, MayStand}
-use Rattle.script_lang.specs.Script.{AllStand, IsProgram, is_closed}
-use Rattle.thin_driver.specs.Driver.{view_of, repos_of, added, done, need_of, numcopies, mincopies, entries_of, run_of, IsShort, AreShort}
-use Rattle.thin_driver.proofs.ThinLists.{Each-reverse}
-use Rattle.thin_driver.proofs.ThinAdded.{jobs-kept, holds-kept, bar-kept, decided-kept, begun-kept}
-use Rattle.thin_driver.proofs.ThinPasts.{good_added, IsResting, resting_start, resting_idle}
+use Rattle.script_lang.specs.declared.command.Command.TheVariants as commands
+use Rattle.script_lang.specs.Lines.{declared}
+use Rattle.script_lang.specs.Script.{waited, waited_by}
+use Rattle.thin_driver.specs.Driver.{view_of, repos_of, added, written, unknown, log_status, have, done, entries_of, run_of, IsShort, AreShort}
+use Rattle.thin_driver.specs.Standing.{CanRun, IsOneLine}
+use Rattle.thin_driver.proofs.ThinLists.{Each-reverse, Each-weaker}
+use Rattle.thin_driver.proofs.ThinSets.{one_set}
+use Rattle.thin_driver.proofs.ThinLines.{IsSingle, line_is}
+use Rattle.thin_driver.proofs.ThinPasts.{IsResting, IsQuiet, resting_start, resting_idle, resting_added, resting_waited}
+use Rattle.thin_driver.proofs.ThinLogging.{log_quiet, status_may, lines_resting, set_resting, files_resting, compacted_resting}
 use Rattle.thin_driver.proofs.ThinDropping.{dropped_resting}
 
 -- ---- one line
 
--- the content comes to r
-gained : (n : ℕ) (offset : ℕ → ℕ) (past : List Entry) (r size : ℕ) (key : List ℕ) → IsResting n offset past → r < n → size < 2 ^ 62 → fits_size (size_part key) size ≡ true → present past r key ≡ false → IsResting n offset (added past r (Gain Script size key))
-gained n offset past r size key w l small fits absent = record {
-  good = good_added n offset past r kind w.good l may;
-  no_job = λ b. jobs-kept past r kind (λ js. refl) b ∙ w.no_job b;
-  no_hold = λ q. holds-kept past r kind (λ hs. refl) q ∙ w.no_hold q;
-  no_bar = λ q k. bar-kept past r kind (λ x was. refl) q k ∙ w.no_bar q k;
-  fresh = λ b i h. decided-kept past r kind (λ place j was. refl) b i ∙ w.fresh b i (subst (λ m. m < i) (begun-kept past r kind refl b) h);
-}
+gain_quiet : (size : ℕ) (key : List ℕ) → IsQuiet (Gain Script size key)
+gain_quiet size key = record { jobs = λ js. refl; bars = λ k was. refl; decisions = λ place j was. refl; begins = refl }
+
+-- the content comes to r, and the log says so
+gained : (repos : List RepoView) (time : ℕ) (past : List Entry) (r size : ℕ) (key : List ℕ) → IsResting repos time past → r < length repos → size < 2 ^ 62 → fits_size (size_part key) size ≡ true → present past r key ≡ false
+    → IsResting repos time (log_status repos (added past r (Gain Script size key) []) r key values.Present)
+gained repos time past r size key w l small fits absent =
+    resting_added repos time gain r (Log (Location key)) (unknown gain r (Location key) (written repos gain r (Location key) kinds.Location (topics.Repo (id_of repos r)) values.Present ∷ []))
+    (resting_added repos time past r (Gain Script size key) [] w l (gain_quiet size key) (λ hs. refl) refl may) l (log_quiet (Location key)) (λ hs. refl) tt (status_may repos gain r key values.Present tt)
   where
-    kind : EntryKind
-    kind = Gain Script size key
+    gain : List Entry
+    gain = added past r (Gain Script size key) []
 
     may : MayGain past r size key
-    may = record { idle = resting_idle n offset past w; absent = absent; fits = fits; small = small }
+    may = record { idle = resting_idle repos time past w; absent = absent; fits = fits; small = small }
 
--- a line that the driver can run
-abbrev pub IsFit : ℕ → Command → Type 0
-IsFit n (Have r key content) = (r < n) × (length content < 2 ^ 62) × (is_content key content ≡ true)
-IsFit n (run_job r job) = (r < n) × IsLocalDrop job
-IsFit n _ = Unit {0}
-
-one_or_more : (n : ℕ) → 1 ≤ max n 1
-one_or_more n = omega arith
-
-numcopies_some : (before : List Command) (r : ℕ) → 1 ≤ numcopies before r
-numcopies_some [] r = omega arith
-numcopies_some (Numcopies q n ∷ before) r = go (q == r) (numcopies_some before r)
+have_resting : (repos : List RepoView) (time : ℕ) (past : List Entry) (r size : ℕ) (key : List ℕ) → IsResting repos time past → r < length repos → size < 2 ^ 62 → fits_size (size_part key) size ≡ true
+    → IsResting repos time (have repos past r key size)
+have_resting repos time past r size key w l small fits = go (present past r key) refl
   where
-    go : (b : Bool) → 1 ≤ numcopies before r → 1 ≤ (if b then max n 1 else numcopies before r)
-    go true h = one_or_more n
-    go false h = h
-numcopies_some (c ∷ before) r = numcopies_some before r
-
-mincopies_some : (before : List Command) (r : ℕ) → 1 ≤ mincopies before r
-mincopies_some [] r = omega arith
-mincopies_some (Mincopies q n ∷ before) r = go (q == r) (mincopies_some before r)
-  where
-    go : (b : Bool) → 1 ≤ mincopies before r → 1 ≤ (if b then max n 1 else mincopies before r)
-    go true h = one_or_more n
-    go false h = h
-mincopies_some (c ∷ before) r = mincopies_some before r
-
-one_done : (repos : List RepoView) (before : List Command) (c : Command) (past : List Entry) → IsFit (length repos) c → IsResting (length repos) (offset_of repos) past → IsResting (length repos) (offset_of repos) (done repos before c past)
-one_done repos before (Have r key content) past f w = go (present past r key) refl
-  where
-    go : (b : Bool) → present past r key ≡ b → IsResting (length repos) (offset_of repos) (if b then past else added past r (Gain Script (length content) key))
+    go : (b : Bool) → present past r key ≡ b → IsResting repos time (if b then past else log_status repos (added past r (Gain Script size key) []) r key values.Present)
     go true e = w
-    go false e = gained (length repos) (offset_of repos) past r (length content) key w f.0 f.1 f.2 e
-one_done repos before (run_job r job) past f w = dropped_resting repos (need_of before r) r job past w f.0 f.1 (record { n = numcopies_some before r; m = mincopies_some before r })
-one_done repos before _ past f w = w
+    go false e = gained repos time past r size key w l small fits e
+
+numcopies_known : kind_of (Named (file_name kinds.Numcopies)) ≢ None
+numcopies_known e = cc
+
+mincopies_known : kind_of (Named (file_name kinds.Mincopies)) ≢ None
+mincopies_known e = cc
+
+trust_known : kind_of (Named (file_name kinds.Trust)) ≢ None
+trust_known e = cc
+
+uuid_known : kind_of (Named (file_name kinds.Uuid)) ≢ None
+uuid_known e = cc
+
+group_known : kind_of (Named (file_name kinds.Group)) ≢ None
+group_known e = cc
+
+-- without a wait the time stays
+keeps_time : (repos : List RepoView) (time : ℕ) (past : List Entry) → IsResting repos time past → IsResting repos (time + 0) past
+keeps_time repos time past w = let same : time ≡ time + 0 = omega arith in subst (λ t. IsResting repos t past) same w
+
+one_done : (repos : List RepoView) (time : ℕ) (c : Command) (past : List Entry) → CanRun repos c → IsShort c → IsResting repos time past → time + waited_by c ≤ 1000000000000 → IsResting repos (time + waited_by c) (done repos c past)
+one_done repos time (commands.Have r key content) past f s w early = keeps_time repos time _ (have_resting repos time past r (length content) key w f.0 s f.1)
+one_done repos time (commands.Numcopies r n) past f s w early = keeps_time repos time _ (set_resting repos time past r kinds.Numcopies topics.Whole (values.Number n) w f numcopies_known tt tt)
+one_done repos time (commands.Mincopies r n) past f s w early = keeps_time repos time _ (set_resting repos time past r kinds.Mincopies topics.Whole (values.Number n) w f mincopies_known tt tt)
+one_done repos time (commands.Trust r target l) past f s w early = keeps_time repos time _ (set_resting repos time past r kinds.Trust (topics.Repo (id_of repos target)) (values.Level l) w f.0 trust_known tt tt)
+one_done repos time (commands.Describe r target text) past f s w early =
+    keeps_time repos time _ (set_resting repos time past r kinds.Uuid (topics.Repo (id_of repos target)) (values.Text text) w f.0 uuid_known tt (single_all text f.2))
+one_done repos time (commands.Group r target groups) past f s w early =
+    keeps_time repos time _ (set_resting repos time past r kinds.Group (topics.Repo (id_of repos target)) (values.Groups groups) w f.0 group_known tt (Each-weaker IsOneLine IsSingle (λ g h. single_all g h) groups f.2))
+one_done repos time (commands.Log r file line) past f s w early = keeps_time repos time _ (lines_resting repos time past r file (line ∷ []) w f.0 f.1 (one_set line (line_is line (single_all line f.3) f.2)))
+one_done repos time (commands.Merge r other) past f s w early = keeps_time repos time _ (files_resting repos time r (branch past other) past w f.0 (w.good.has_files other))
+one_done repos time (commands.Compact r) past f s w early = keeps_time repos time _ (compacted_resting repos time r (branch past r) past w f)
+one_done repos time (commands.Wait milliseconds) past f s w early = resting_waited repos time past milliseconds w early
+one_done repos time (commands.Run r job) past f s w early = keeps_time repos time _ (dropped_resting repos time r job past w f.0 f.1)
+one_done repos time _ past f s w early = keeps_time repos time past w
 
 -- ---- the lines
 
-all_done : (repos : List RepoView) (before : List Command) → Each (IsFit (length repos)) before → IsResting (length repos) (offset_of repos) (entries_of repos before)
-all_done repos [] h = resting_start (length repos) (offset_of repos)
-all_done repos (c ∷ before) h = one_done repos before c (entries_of repos before) h.0 (all_done repos before h.1)
+all_done : (repos : List RepoView) (before : List Command) → Each (CanRun repos) before → AreShort before → waited before ≤ 1000000000000 → IsResting repos (waited before) (entries_of repos before)
+all_done repos [] can short early = resting_start repos
+all_done repos (c ∷ before) can short early =
+    let time = waited before in
+    let same : time + waited_by c ≡ waited_by c + time = omega arith in
+    subst (λ t. IsResting repos t (entries_of repos (c ∷ before))) same
+    (one_done repos time c (entries_of repos before) can.0 short.0 (all_done repos before can.1 short.1 (omega (arith, early))) (omega (arith, early)))
 
-declared-append : (xs ys : List Command) → declared (xs ++ ys) ≡ declared xs ++ declared ys
-declared-append [] ys = refl
-declared-append (x ∷ xs) ys = ap (λ ds. declared_by x ++ ds) (declared-append xs ys) ∙ sym (append_assoc (declared_by x) (declared xs) (declared ys))
+waited-append : (xs ys : List Command) → waited (xs ++ ys) ≡ waited xs + waited ys
+waited-append [] ys = omega arith
+waited-append (c ∷ xs) ys = let more : waited (xs ++ ys) ≡ waited xs + waited ys = waited-append xs ys in omega (arith, more)
 
--- a line that may stand after fewer declarations, and whose content is short, is fit
-one_fit : (repos : List Declared) (closed : Bool) (c : Command) (n : ℕ) → length repos ≤ n → MayStand repos closed c → IsShort c → IsFit n c
-one_fit repos closed (Have r key content) n l s h = (omega (arith, l, s.0), h, s.2)
-one_fit repos closed (run_job r job) n l s h = (omega (arith, l, s.0), s.2)
-one_fit repos closed _ n l s h = tt
+waited-reverse : (cs : List Command) → waited (reverse cs) ≡ waited cs
+waited-reverse [] = refl
+waited-reverse (c ∷ cs) =
+    let more : waited (reverse cs) ≡ waited cs = waited-reverse cs in
+    let both : waited (reverse cs ++ c ∷ []) ≡ waited (reverse cs) + waited (c ∷ []) = waited-append (reverse cs) (c ∷ []) in
+    ap waited (reverse-append (c ∷ []) cs) ∙ omega (arith, more, both)
 
-all_fit : (before script : List Command) (n : ℕ) → length (declared (before ++ script)) ≤ n → AllStand before script → AreShort script → Each (IsFit n) script
-all_fit before [] n l s h = tt
-all_fit before (c ∷ script) n l s h = (one_fit (declared before) (is_closed before) c n few s.0 h.0, all_fit (before ++ c ∷ []) script n (subst (λ xs. length (declared xs) ≤ n) (sym (append_assoc before (c ∷ []) script)) l) s.1 h.1)
-  where
-    few : length (declared before) ≤ n
-    few = omega (arith, l, ap length (declared-append before (c ∷ script)), length-append (declared before) (declared (c ∷ script)))
+-- each repository is set up within its bounds
+set_up : (repos : List RepoView) (script : List Command) → Each (CanRun repos) script → Each IsSetUp (map view_of (declared script))
+set_up repos [] can = tt
+set_up repos (commands.Repo name id offset ∷ script) can = (record { offset = can.0; oldest = omega arith; newest = omega arith }, set_up repos script can.1)
+set_up repos (c ∷ script) can = set_up repos script can.1
 
-set_up : (ds : List Declared) → Each IsSetUp (map view_of ds)
-set_up [] = tt
-set_up (d ∷ ds) = (record { offset = omega arith; oldest = omega arith; newest = omega arith }, set_up ds)
-
-pub thin_script : (script : List Command) → IsProgram script → AreShort script → length (run_of script).entries < 2 ^ 62 → IsThinRun (run_of script)
-thin_script script program short small = record {
-  repos = set_up (declared script);
-  steps = subst (ThinPast n (offset_of repos)) (sym (reverse-reverse entries)) (resting.good.thin (omega (arith, small, length-reverse entries)));
+pub thin_lines : (script : List Command) → Each (CanRun (repos_of script)) script → AreShort script → waited script ≤ 1000000000000 → length (run_of script).entries < 2 ^ 62 → IsThinRun (run_of script)
+thin_lines script can short early small = record {
+  repos = set_up repos script can;
+  steps = subst (ThinPast repos) (sym (reverse-reverse entries)) (resting.good.thin (omega (arith, small, length-reverse entries)));
 }
   where
     repos : List RepoView
     repos = repos_of script
 
-    n : ℕ
-    n = length repos
-
     entries : List Entry
     entries = entries_of repos (reverse script)
 
-    fit : Each (IsFit n) script
-    fit = all_fit [] script n (omega (arith, length-map (declared script) view_of)) program.stand short
-
-    resting : IsResting n (offset_of repos) entries
-    resting = all_done repos (reverse script) (Each-reverse (IsFit n) script fit)
+    resting : IsResting repos (waited (reverse script)) entries
+    resting = all_done repos (reverse script) (Each-reverse (CanRun repos) script can) (Each-reverse IsShort script short) (omega (arith, early, waited-reverse script))

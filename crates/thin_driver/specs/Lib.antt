@@ -1,4 +1,6 @@
-pub mod Driver
-pub mod State
 pub mod Asking
+pub mod Driver
+pub mod Reading
+pub mod Setting
 pub mod Standing
+pub mod State

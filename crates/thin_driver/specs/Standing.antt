@@ -1,22 +1,32 @@
--- Where the driver stands between two lines of a script (own).
-use Rattle.std.specs.Prelude.{◌≡◌, ℕ, ◌<◌, List, length}
+-- Which lines of a script the driver can run (own).
+use Rattle.std.specs.Prelude.{◌≡◌, ◌≢◌, ℕ, ◌<◌, ◌≤◌, true, List, [], length, None, Contains}
+use Rattle.annex_base.specs.Lists.{Each}
+use Rattle.annex_key.specs.View.{size_part}
+use Rattle.log_lines.specs.LineText.{newline}
 use Rattle.run_model.specs.declared.run.RepoView.{RepoView}
+use Rattle.run_model.specs.Logs.{kind_of}
+use Rattle.run_model.specs.Thin.{fits_size}
 use Rattle.script_lang.specs.declared.command.Command.{Command}
-use Rattle.script_lang.specs.declared.command.Command.TheVariants.{Have, Numcopies, Mincopies, Run as run_job}
-use Rattle.thin_driver.specs.declared.driver.Driver.{Driver}
-use Rattle.thin_driver.specs.Driver.{entries_of, need_of}
-use Rattle.thin_driver.specs.State.{Rests, need_for}
+use Rattle.script_lang.specs.declared.command.Command.TheVariants as commands
+use Rattle.script_lang.specs.Lines.{IsLocalDrop}
 
--- the line names one of so many repositories, if it names one
-abbrev pub Names : ℕ → Command → Type 0
-Names n (Have r key content) = r < n
-Names n (Numcopies r number) = r < n
-Names n (Mincopies r number) = r < n
-Names n (run_job r job) = r < n
-Names n _ = Unit {0}
+-- the text stands on one line
+abbrev pub IsOneLine : List ℕ → Type 0
+IsOneLine text = ¬ Contains text newline
 
--- the driver has done these lines, of which the newest stands first
-pub record Stands (driver : Driver) (repos : List RepoView) (before : List Command) : Type 0 where
-  pub repos_are : driver.run.repos ≡ repos
-  pub rests : Rests driver (entries_of repos before)
-  pub needs_are : (r : ℕ) → r < length repos → need_for driver r ≡ need_of before r
+-- The line is one that the driver can run: the repositories that it names are those of the run; an offset is at most
+-- 100,000,000,000; a content has its key's size; a text and the names of groups have no newline; a line, which isn't empty and has none either, is added
+-- to a file of a known kind.
+abbrev pub CanRun : List RepoView → Command → Type 0
+CanRun repos (commands.Repo name id offset) = offset ≤ 100000000000
+CanRun repos (commands.Have r key content) = (r < length repos) × (fits_size (size_part key) (length content) ≡ true)
+CanRun repos (commands.Numcopies r n) = r < length repos
+CanRun repos (commands.Mincopies r n) = r < length repos
+CanRun repos (commands.Trust r target l) = (r < length repos) × (target < length repos)
+CanRun repos (commands.Describe r target text) = (r < length repos) × (target < length repos) × IsOneLine text
+CanRun repos (commands.Group r target groups) = (r < length repos) × (target < length repos) × Each IsOneLine groups
+CanRun repos (commands.Log r file line) = (r < length repos) × (kind_of file ≢ None) × (line ≢ []) × IsOneLine line
+CanRun repos (commands.Merge r other) = (r < length repos) × (other < length repos)
+CanRun repos (commands.Compact r) = r < length repos
+CanRun repos (commands.Run r job) = (r < length repos) × IsLocalDrop job
+CanRun repos _ = Unit {0}

@@ -1,15 +1,17 @@
 -- What the driver's tables say of the entries so far (own). Entries stand with the newest first.
 use Rattle.std.specs.Prelude.{◌≡◌, ◌≢◌, ℕ, ◌<◌, List, [], ◌∷◌, length, reverse, Option, Some, None}
 use Rattle.std.specs.List.{slice_index_or}
-use Rattle.drop_proof.specs.declared.rule.Need.{Need}
 use Rattle.run_model.specs.declared.entry.Entry.{Entry}
 use Rattle.run_model.specs.Contents.{Tracks}
-use Rattle.run_model.specs.Past.{Hold, Running, begun, made, jobs, holds}
-use Rattle.run_model.specs.Drops.{reply}
-use Rattle.run_model.specs.Safety.{offset_of}
+use Rattle.run_model.specs.Branches.{HasBranches}
+use Rattle.run_model.specs.Past.{Hold, Running, begun, made, now, jobs, holds}
+use Rattle.run_model.specs.Logs.{before_step}
+use Rattle.run_model.specs.Drops.{reply, told_cause}
 use Rattle.thin_driver.specs.declared.driver.Driver.{Driver}
 use Rattle.thin_driver.specs.declared.tally.Tally.{Tally}
-use Rattle.thin_driver.specs.Driver.{newest_count}
+use Rattle.script_lang.specs.declared.command.Command.{Command}
+use Rattle.run_model.specs.declared.run.RepoView.{RepoView}
+use Rattle.thin_driver.specs.Driver.{entries_of, newest_count}
 
 abbrev pub no_tally : Tally
 no_tally = record { begun = 0; made = 0 }
@@ -22,17 +24,24 @@ tally_of driver r = slice_index_or driver.tallies.items r no_tally
 pub record IsAt (driver : Driver) (past : List Entry) : Type 0 where
   pub entries_are : driver.run.entries ≡ reverse past
   pub count_is : newest_count past ≡ length past
+  pub time_is : driver.time ≡ now past
   pub contents : Tracks driver.contents (length driver.run.repos) past
+  pub branches : HasBranches driver.branches (length driver.run.repos) past
   pub begun_are : (r : ℕ) → r < length driver.run.repos → (tally_of driver r).begun ≡ begun past r
   pub made_are : (r : ℕ) → r < length driver.run.repos → (tally_of driver r).made ≡ made past r
-  pub level : (r : ℕ) → offset_of driver.run.repos r ≡ 0
 
--- the run's other parts, and what drops need, stay
+-- the run's other parts stay
+pub record KeepsParts (old new : Driver) : Type 0 where
+  pub repos : new.run.repos ≡ old.run.repos
+  pub tree : new.run.tree ≡ old.run.tree
+  pub marks : new.run.marks ≡ old.run.marks
+
+-- so does the time
 pub record KeepsRun (old new : Driver) : Type 0 where
   pub repos : new.run.repos ≡ old.run.repos
   pub tree : new.run.tree ≡ old.run.tree
   pub marks : new.run.marks ≡ old.run.marks
-  pub needs : new.needs ≡ old.needs
+  pub time : new.time ≡ old.time
 
 -- the open hold of a repository, as the driver's table has it
 abbrev pub hold_of : Driver → ℕ → Option ℕ
@@ -43,9 +52,11 @@ abbrev pub Held : Option ℕ → List ℕ → List Hold → Type 0
 Held None key hs = hs ≡ []
 Held (Some number) key hs = (h : Hold) × (hs ≡ h ∷ []) × (h.number ≡ number) × (h.key ≡ key)
 
--- nothing was vouched to a job that is still to begin
-abbrev pub IsFresh : List Entry → Type 0
-IsFresh past = (a j r : ℕ) → begun past a < j → reply past a j r ≡ None
+-- a job that is still to begin was told nothing, and has made no step
+pub record IsFresh (past : List Entry) : Type 0 where
+  pub silent : (a j r : ℕ) → begun past a < j → reply past a j r ≡ None
+  pub untold : (a j r : ℕ) → begun past a < j → told_cause past a j r ≡ None
+  pub unmade : (a j : ℕ) → begun past a < j → before_step past a j ≡ None
 
 -- no job runs, and the holds are those of the table, all on the key
 pub record Releases (driver : Driver) (key : List ℕ) (past : List Entry) : Type 0 where
@@ -74,12 +85,7 @@ pub record Drops (driver : Driver) (a j : ℕ) (key : List ℕ) (past : List Ent
   pub held : (r : ℕ) → Held (hold_of driver r) key (holds past r)
   pub own : hold_of driver a ≡ None
 
--- what the drops of a repository need, by the driver's table
-abbrev pub need_for : Driver → ℕ → Need
-need_for driver r = slice_index_or driver.needs.items r (record { n = 1; m = 1 })
-
--- the run's other parts stay
-pub record KeepsParts (old new : Driver) : Type 0 where
-  pub repos : new.run.repos ≡ old.run.repos
-  pub tree : new.run.tree ≡ old.run.tree
-  pub marks : new.run.marks ≡ old.run.marks
+-- the driver has done these lines, of which the newest stands first
+pub record Stands (driver : Driver) (repos : List RepoView) (before : List Command) : Type 0 where
+  pub repos_are : driver.run.repos ≡ repos
+  pub rests : Rests driver (entries_of repos before)

@@ -1,9 +1,8 @@
 ghost use Rattle.std.specs.Prelude.{◌≡◌, ◌<◌, ◌^◌, length, []};
 
 use crate::tally::Tally;
-use annex_base::{Items, NoMemory};
-use drop_proof::Need;
-use run_model::{Contents, Entry, EntryKind, Run};
+use annex_base::{Items, Line, NoMemory, RepoId};
+use run_model::{Branches, Contents, Entry, EntryKind, Run};
 use std::alloc::Global;
 
 /// The run of a script so far, and tables of what its entries say, so that no line looks through them.
@@ -11,24 +10,29 @@ use std::alloc::Global;
 pub struct Driver {
     pub alloc: Global,
     pub run: Run,
+    /// The time of the script, in milliseconds.
+    pub time: u64,
     pub contents: Contents,
+    pub branches: Branches,
     /// For each repository.
     pub tallies: Vec<Tally>,
-    /// For each repository, what its drops need by the lines so far.
-    pub needs: Vec<Need>,
     /// For each repository, the number of its hold on the key that is being dropped.
     pub holds: Vec<Option<u64>>,
     ghost few: { length run.repos < 2 ^ 32 },
     ghost all_tallied: { length tallies.items ≡ length run.repos },
-    ghost all_needs: { length needs.items ≡ length run.repos },
     ghost all_holds: { length holds.items ≡ length run.repos },
 }
 
 impl Driver {
-    ghost use Rattle.std.specs.Prelude.{List, OnOk};
+    ghost use Rattle.std.specs.Prelude.{List, ℕ, ◌∷◌, ◌++◌, ◌+◌, IfOk, OnOk};
     ghost use Rattle.run_model.specs.declared.entry.Entry.{Entry};
-    ghost use Rattle.thin_driver.specs.Driver.{added};
-    ghost use Rattle.thin_driver.specs.State.{IsAt, KeepsRun, need_for, tally_of};
+    ghost use Rattle.annex_base.specs.Lists.{Each};
+    ghost use Rattle.union_merge.specs.LineSet.{IsLine};
+    ghost use Rattle.run_model.specs.Branches.{HasBranches, LogsToPath};
+    ghost use Rattle.run_model.specs.Contents.{Tracks};
+    ghost use Rattle.run_model.specs.SetUp.{id_of, offset_of};
+    ghost use Rattle.thin_driver.specs.Driver.{added, waited};
+    ghost use Rattle.thin_driver.specs.State.{IsAt, KeepsParts, KeepsRun, Rests, tally_of};
 
     /// How many repositories there are.
     pub fn count(&self) -> u32
@@ -45,42 +49,109 @@ impl Driver {
         self.tallies[repo as usize]
     }
 
-    /// What the drops of the repository need by the lines so far.
-    pub fn need(&self, repo: u32) -> Need
+    /// The clock of the repository, in milliseconds.
+    pub fn clock(&self, repo: u32) -> Result<u64, NoMemory>
         requires { repo < length self.now.run.repos }
-        ensures { result ≡ need_for self.now repo }
+        ensures { IfOk result (λ clock. clock ≡ self.now.time + offset_of self.now.run.repos repo) }
     {
-        self.needs[repo as usize]
+        self.later(self.offset(repo))
     }
 
-    /// Adds an entry of the repository, and takes note of it in the tables.
-    pub fn add(&mut self, repo: u32, kind: EntryKind) -> Result<(), NoMemory>
-        requires { repo < length self.old.run.repos }
-        ensures at { OnOk result ((past : List Entry) → IsAt self.old past → IsAt self.new (added past repo kind)) }
+    /// The identifier of the repository.
+    pub fn id(&self, repo: u32) -> RepoId
+        requires { repo < length self.now.run.repos }
+        ensures { result ≡ id_of self.now.run.repos repo }
+    {
+        self.run.repos.as_slice()[repo as usize].id
+    }
+
+    /// So many milliseconds later.
+    fn later(&self, milliseconds: u64) -> Result<u64, NoMemory>
+        ensures { IfOk result (λ time. time ≡ self.now.time + milliseconds) }
+    {
+        self.time.checked_add(milliseconds).ok_or(NoMemory)
+    }
+
+    /// How far the clock of the repository is ahead of the script's time.
+    fn offset(&self, repo: u32) -> u64
+        requires { repo < length self.now.run.repos }
+        ensures { result ≡ offset_of self.now.run.repos repo }
+    {
+        self.run.repos.as_slice()[repo as usize].offset
+    }
+
+    /// Adds an entry of the repository without lines, and takes note of it in the tables.
+    pub fn note(&mut self, repo: u32, kind: EntryKind) -> Result<(), NoMemory>
+        requires repo { repo < length self.old.run.repos }
+        requires path { LogsToPath kind }
+        ensures at { OnOk result ((past : List Entry) → IsAt self.old past → IsAt self.new (added past repo kind [])) }
+        ensures kept { KeepsRun self.old self.new }
+        ensures holds { self.new.holds ≡ self.old.holds }
+    {
+        let lines = Items::new(self.alloc);
+        self.add(repo, kind, lines)?;
+        Ok(())
+    }
+
+    /// Adds an entry of the repository, with the lines that it adds if it is a log entry, and takes note of it in the
+    /// tables.
+    pub fn add(&mut self, repo: u32, kind: EntryKind, lines: Items<Line>) -> Result<(), NoMemory>
+        requires repo { repo < length self.old.run.repos }
+        requires path { LogsToPath kind }
+        requires lines { Each IsLine lines }
+        ensures at { OnOk result ((past : List Entry) → IsAt self.old past → IsAt self.new (added past repo kind lines)) }
         ensures kept { KeepsRun self.old self.new }
         ensures holds { self.new.holds ≡ self.old.holds }
     {
         let tally = self.tally(repo).after(&kind)?;
-        let count = self.run.entries.as_slice().len() as u64 + 1;
-        let entry = entry_of(self.alloc, count, repo, kind);
-        self.contents.add(&entry)?;
+        let entry = self.entry(self.time, Some(repo), kind, lines);
+        self.push(entry)?;
         self.tallies[repo as usize] = tally;
-        self.run.entries.push(entry)?;
         Ok(())
     }
-}
 
-/// An entry at the script's one time, without frames and lines.
-fn entry_of(alloc: Global, count: u64, repo: u32, kind: EntryKind) -> Entry
-    ensures { result ≡ record { time = 0; count = count; repo = Some repo; kind = kind; taken = None; sent = []; lines = [] } }
-{
-    Entry {
-        time: 0,
-        count,
-        repo: Some(repo),
-        kind,
-        taken: None,
-        sent: Items::new(alloc),
-        lines: Items::new(alloc),
+    /// The time of the script rises.
+    pub fn wait(&mut self, milliseconds: u64) -> Result<(), NoMemory>
+        ensures waited { OnOk result ((past : List Entry) → Rests self.old past → Rests self.new (waited past milliseconds)) }
+        ensures kept { KeepsParts self.old self.new }
+    {
+        let time = self.later(milliseconds)?;
+        let lines = Items::new(self.alloc);
+        let entry = self.entry(time, None, EntryKind::Wait(milliseconds), lines);
+        self.push(entry)?;
+        self.time = time;
+        Ok(())
+    }
+
+    /// The next entry, without frames.
+    fn entry(&self, time: u64, repo: Option<u32>, kind: EntryKind, lines: Items<Line>) -> Entry
+        ensures { result ≡ record { time = time; count = length self.now.run.entries + 1; repo = repo; kind = kind; taken = None; sent = []; lines = lines } }
+    {
+        Entry {
+            time,
+            count: self.run.entries.as_slice().len() as u64 + 1,
+            repo,
+            kind,
+            taken: None,
+            sent: Items::new(self.alloc),
+            lines,
+        }
+    }
+
+    /// Adds an entry, and takes note of it in the tables of contents and branches.
+    fn push(&mut self, entry: Entry) -> Result<(), NoMemory>
+        requires path { LogsToPath entry.kind }
+        requires lines { Each IsLine entry.lines }
+        ensures entries { OnOk result (self.new.run.entries ≡ self.old.run.entries ++ entry ∷ []) }
+        ensures contents { OnOk result ((n : ℕ) (past : List Entry) → Tracks self.old.contents n past → Tracks self.new.contents n (entry ∷ past)) }
+        ensures branches { OnOk result ((n : ℕ) (past : List Entry) → HasBranches self.old.branches n past → HasBranches self.new.branches n (entry ∷ past)) }
+        ensures kept { KeepsRun self.old self.new }
+        ensures tallies { self.new.tallies ≡ self.old.tallies }
+        ensures holds { self.new.holds ≡ self.old.holds }
+    {
+        self.contents.add(&entry)?;
+        self.branches.add(&entry)?;
+        self.run.entries.push(entry)?;
+        Ok(())
     }
 }

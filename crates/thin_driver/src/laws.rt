@@ -7,8 +7,10 @@ ghost use Rattle.script_lang.specs.Script.{IsProgram};
 ghost use Rattle.thin_driver.specs.Driver.{run_of, AreShort};
 
 /// The run of a script is made step by step as the model of runs without messages allows: each drop begins, puts its
-/// bar, asks the other repositories in order of number until its evidence is enough, removes the content only then,
-/// ends with its evidence or with the reason of each refusal, and at last its holds are released (own).
+/// bar with the numbers of copies that its logs give, asks the other repositories for which it waits in order of number
+/// until its evidence is enough, removes the content only then and says so in its log, ends with its evidence or with
+/// the reason of each refusal, and at last its holds are released; lines that are added to a log are a set of new ones;
+/// and the time rises only by waits between drops (own).
 ///
 /// The contents of the script's `have` lines are shorter than 2^62 bytes, and the run has fewer than 2^62 entries.
 pub fn script_runs_are_thin()

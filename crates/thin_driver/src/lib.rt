@@ -1,11 +1,17 @@
-//! Runs a script's repositories without messages: content from the script, and local drops one after the other.
+//! Runs a script's repositories without messages: content from the script, lines of logs, and local drops one after the
+//! other.
 #![tactic(auto)]
 
 mod asking;
+mod compacting;
 mod driver;
 mod drops;
 mod laws;
+mod logs;
+mod merging;
+mod reading;
 mod script;
+mod settings;
 mod stated;
 mod tally;
 

@@ -1,42 +1,31 @@
-ghost use Rattle.std.specs.Prelude.{◌≡◌, ◌+◌, ◌<◌, ◌≤◌, ◌^◌, ◌==◌, ◌++◌, ◌∷◌, [], ℕ, List, length, map, if◌then◌else◌, IfOk, OnOk};
+ghost use Rattle.std.specs.Prelude.{◌≡◌, ◌+◌, ◌<◌, ◌^◌, ◌++◌, ◌∷◌, [], List, length, map, IfOk, OnOk};
 ghost use Rattle.run_model.specs.declared.entry.Entry.{Entry};
 ghost use Rattle.run_model.specs.declared.entry.EntryKind.TheVariants.{Gain};
 ghost use Rattle.run_model.specs.declared.entry.By.TheVariants.{Script};
 ghost use Rattle.run_model.specs.declared.run.RepoView.{RepoView};
-ghost use Rattle.annex_base.specs.Lists.{Each};
-ghost use Rattle.run_model.specs.Past.{present};
-ghost use Rattle.run_model.specs.Safety.{offset_of};
 ghost use Rattle.script_lang.specs.declared.command.Command.{Command};
-ghost use Rattle.script_lang.specs.Lines.{declared, declared_by};
-ghost use Rattle.script_lang.specs.Script.{IsProgram, most_repositories};
-ghost use Rattle.thin_driver.specs.Driver.{added, repos_of, run_of, view_of};
-ghost use Rattle.thin_driver.specs.State.{KeepsParts, KeepsRun, Rests, need_for};
-ghost use Rattle.thin_driver.specs.Standing.{Names, Stands};
+ghost use Rattle.script_lang.specs.Lines.{declared_by};
+ghost use Rattle.script_lang.specs.Script.{IsProgram};
+ghost use Rattle.union_merge.specs.LineSet.{IsLine};
+ghost use Rattle.run_model.specs.Branches.{HasPath};
+ghost use Rattle.thin_driver.specs.Driver.{add_lines, added, done, have, repos_of, run_of, view_of};
+ghost use Rattle.thin_driver.specs.Standing.{CanRun};
+ghost use Rattle.thin_driver.specs.State.{KeepsParts, KeepsRun, Rests, Stands};
 
 use crate::driver::Driver;
 use crate::tally::Tally;
-use annex_base::{Items, NoMemory};
+use annex_base::{Items, Line, NoMemory};
 use annex_key::Key;
-use drop_proof::Need;
-use run_model::{By, Contents, EntryKind, RepoView, Run};
+use log_lines::Value;
+use run_model::{Branches, By, Contents, EntryKind, LogFile, RepoView, Run};
 use script_lang::Command;
 use std::alloc::Global;
 
-/// The run of a script's lines, one after the other: content from the script, and local drops, each whole. All of it
-/// happens at time 0 of the script; the entries' counts rise from 1. A number past its type, as of the entries in 32
-/// bits, is want of memory (own).
+/// The run of a script's lines, one after the other: content from the script, lines of logs, merges and compactions of
+/// branches, waits, and local drops, each whole. The script begins at time 0, and only a wait takes time; the entries'
+/// counts rise from 1. A number past its type, as of the entries in 32 bits, is want of memory (own).
 pub fn run_script(alloc: Global, script: &[Command]) -> Result<Run, NoMemory>
     requires { IsProgram script.now }
-    ensures exact { IfOk result (λ run. run ≡ run_of script.now) }
-    ensures few { IfOk result (λ run. length run.entries < 2 ^ 32) }
-{
-    run_lines(alloc, script)
-}
-
-/// The same, of lines that name no repository that isn't there.
-fn run_lines(alloc: Global, script: &[Command]) -> Result<Run, NoMemory>
-    requires few { length (declared script.now) ≤ most_repositories }
-    requires names { Each (Names (length (declared script.now))) script.now }
     ensures exact { IfOk result (λ run. run ≡ run_of script.now) }
     ensures few { IfOk result (λ run. length run.entries < 2 ^ 32) }
 {
@@ -61,12 +50,12 @@ fn repositories(alloc: Global, script: &[Command]) -> Result<Items<RepoView>, No
 fn declare(repos: &mut Items<RepoView>, command: &Command) -> Result<(), NoMemory>
     ensures { OnOk result (repos.new ≡ repos.old ++ map view_of (declared_by command.now)) }
 {
-    if let Command::Repo { name, id } = command {
+    if let Command::Repo { name, id, offset } = command {
         let name = name.clone()?;
         repos.push(RepoView {
             name,
             id: *id,
-            offset: 0,
+            offset: *offset,
             version: 3,
             locks: true,
         })?;
@@ -77,15 +66,14 @@ fn declare(repos: &mut Items<RepoView>, command: &Command) -> Result<(), NoMemor
 impl Driver {
     /// Before the first line.
     fn new(alloc: Global, repos: Items<RepoView>) -> Result<Driver, NoMemory>
-        requires few { length repos < 2 ^ 32 }
-        requires level { (r : ℕ) → offset_of repos r ≡ 0 }
+        requires { length repos < 2 ^ 32 }
         ensures stands { IfOk result (λ driver. Stands driver repos []) }
         ensures parts { IfOk result (λ driver. (driver.run.tree ≡ []) × (driver.run.marks ≡ [])) }
     {
         let count = repos.as_slice().len();
         let contents = Contents::new(alloc, count)?;
+        let branches = Branches::new(alloc, count)?;
         let tallies = vec![in alloc; Tally { begun: 0, made: 0 }; count]?;
-        let needs = vec![in alloc; Need { n: 1, m: 1 }; count]?;
         let holds = vec![in alloc; None; count]?;
         let run = Run {
             repos,
@@ -96,16 +84,17 @@ impl Driver {
         Ok(Driver {
             alloc,
             run,
+            time: 0,
             contents,
+            branches,
             tallies,
-            needs,
             holds,
         })
     }
 
     /// Does what the line says, and marks how many entries stand after it.
     fn run_line(&mut self, command: &Command) -> Result<(), NoMemory>
-        requires { Names (length self.old.run.repos) command.now }
+        requires { CanRun self.old.run.repos command.now }
         ensures stands { OnOk result ((repos : List RepoView) (before : List Command) → Stands self.old repos before → Stands self.new repos (command.now ∷ before)) }
         ensures marks { OnOk result (self.new.run.marks ≡ self.old.run.marks ++ length self.new.run.entries ∷ []) }
         ensures few { OnOk result (length self.new.run.entries < 2 ^ 32) }
@@ -117,54 +106,81 @@ impl Driver {
     }
 
     fn apply(&mut self, command: &Command) -> Result<(), NoMemory>
-        requires { Names (length self.old.run.repos) command.now }
-        ensures stands { OnOk result ((repos : List RepoView) (before : List Command) → Stands self.old repos before → Stands self.new repos (command.now ∷ before)) }
+        requires { CanRun self.old.run.repos command.now }
+        ensures done { OnOk result ((past : List Entry) → Rests self.old past → Rests self.new (done self.old.run.repos command.now past)) }
         ensures kept { OnOk result (KeepsParts self.old self.new) }
     {
         match command {
-            Command::Repo { .. } | Command::ShowPresence { .. } => {}
             Command::Have { repo, key, content } => {
                 self.have(*repo, key, content.bytes().len() as u64)?;
             }
-            Command::Numcopies { repo, number } => {
-                let need = self.need(*repo);
-                let n = (*number).max(1);
-                self.set_need(*repo, Need { n, m: need.m });
-            }
-            Command::Mincopies { repo, number } => {
-                let need = self.need(*repo);
-                let m = (*number).max(1);
-                self.set_need(*repo, Need { n: need.n, m });
-            }
-            Command::Run { repo, job } => {
-                self.drop_content(*repo, job)?;
-            }
+            Command::Numcopies { repo, number } => self.set_numcopies(*repo, *number)?,
+            Command::Mincopies { repo, number } => self.set_mincopies(*repo, *number)?,
+            Command::Trust {
+                repo,
+                target,
+                level,
+            } => self.set_level(*repo, *target, *level)?,
+            Command::Describe { repo, target, text } => self.set_description(*repo, *target, text)?,
+            Command::Group {
+                repo,
+                target,
+                groups,
+            } => self.set_groups(*repo, *target, groups)?,
+            Command::Log { repo, file, line } => self.write_raw(*repo, file, line)?,
+            Command::Merge { repo, other } => self.merge(*repo, *other)?,
+            Command::Compact { repo } => self.compact(*repo)?,
+            Command::Wait { milliseconds } => self.wait(*milliseconds)?,
+            Command::Run { repo, job } => self.drop_content(*repo, job)?,
+            Command::Repo { .. }
+            | Command::ShowPresence { .. }
+            | Command::ShowClaims { .. }
+            | Command::ShowLocation { .. }
+            | Command::ShowLog { .. }
+            | Command::ShowLogs { .. }
+            | Command::ShowNumbers { .. }
+            | Command::ShowLevel { .. } => {}
         }
         Ok(())
     }
 
-    /// The content of the key is there, if it wasn't; its size is in bytes.
+    /// The content of the key is there, if it wasn't, and the log says so; its size is in bytes.
     fn have(&mut self, repo: u32, key: &Key, size: u64) -> Result<(), NoMemory>
         requires { repo < length self.old.run.repos }
-        ensures had { OnOk result ((past : List Entry) → Rests self.old past → Rests self.new (if present past repo key.now then past else added past repo (Gain Script size key.now))) }
-        ensures kept { KeepsRun self.old self.new }
+        ensures had { OnOk result ((past : List Entry) → Rests self.old past → Rests self.new (have self.old.run.repos past repo key.now size)) }
+        ensures kept { OnOk result (KeepsRun self.old self.new) }
     {
         if self.contents.has(repo, key) {
             return Ok(());
         }
-        let by = By::Script;
-        let key = key.clone()?;
-        self.add(repo, EntryKind::Gain { by, size, key })?;
+        self.gain(repo, key, size)?;
+        self.log_status(repo, key, Value::Present)?;
         Ok(())
     }
 
-    fn set_need(&mut self, repo: u32, need: Need)
+    fn gain(&mut self, repo: u32, key: &Key, size: u64) -> Result<(), NoMemory>
         requires { repo < length self.old.run.repos }
-        ensures needs { (r : ℕ) → need_for self.new r ≡ (if repo == r then need else need_for self.old r) }
-        ensures rests { (past : List Entry) → Rests self.old past → Rests self.new past }
-        ensures kept { KeepsParts self.old self.new }
+        ensures gained { OnOk result ((past : List Entry) → Rests self.old past → Rests self.new (added past repo (Gain Script size key.now) [])) }
+        ensures kept { KeepsRun self.old self.new }
     {
-        self.needs[repo as usize] = need;
+        let by = By::Script;
+        let key = key.clone()?;
+        self.note(repo, EntryKind::Gain { by, size, key })?;
+        Ok(())
+    }
+
+    /// Adds a line as it stands, if the file doesn't have it.
+    fn write_raw(&mut self, repo: u32, file: &LogFile, line: &Line) -> Result<(), NoMemory>
+        requires repo { repo < length self.old.run.repos }
+        requires path { HasPath file.now }
+        requires line { IsLine line.now }
+        ensures written { OnOk result ((past : List Entry) → Rests self.old past → Rests self.new (add_lines past repo file.now (line.now ∷ []))) }
+        ensures kept { KeepsRun self.old self.new }
+    {
+        let file = file.clone()?;
+        let line = line.clone()?;
+        self.add_lines(repo, file, &[line])?;
+        Ok(())
     }
 
     /// Marks how many entries stand.

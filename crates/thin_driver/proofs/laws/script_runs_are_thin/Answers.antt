@@ -1,4 +1,4 @@
-use Rattle.thin_driver.proofs.ThinScripts.{thin_script}
+use Rattle.thin_driver.proofs.ThinPrograms.{thin_script}
 use Rattle.thin_driver.proofs.laws.script_runs_are_thin.Goals as goal
 
 pub returns : goal.returns

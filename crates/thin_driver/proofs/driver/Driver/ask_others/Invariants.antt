@@ -2,4 +2,4 @@ use Rattle.thin_driver.proofs.AskLoop.{AskLoop}
 use Rattle.thin_driver.proofs.driver.Driver.ask_others.Given as goal
 
 abbrev pub invariant-loop-candidate : goal.invariant-loop-candidate
-invariant-loop-candidate l = AskLoop l.fn.self l.self l.need l.repo l.key l.candidate-items l.candidate-index l.asked.items.items l.asked.causes
+invariant-loop-candidate l = AskLoop l.fn.self l.self l.reading.need l.reading.standings.items l.repo l.key l.candidate-items l.candidate-index l.asked.items.items l.asked.causes

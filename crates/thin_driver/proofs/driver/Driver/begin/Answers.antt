@@ -1,4 +1,4 @@
-use Rattle.std.proofs.Common.{◌+◌, ℕ, ◌∙◌, ap, subst}
+use Rattle.std.proofs.Common.{◌+◌, [], ℕ, ◌∙◌, ap, subst}
 use Rattle.run_model.specs.declared.entry.EntryKind.TheVariants.{Begin}
 use Rattle.run_model.specs.declared.job.Job.{Job}
 use Rattle.std.specs.declared.vec.Vec.{Vec}
@@ -10,7 +10,7 @@ use Rattle.thin_driver.proofs.driver.Driver.begin.Goals as goal
 
 pub returns-clause-begun : goal.returns-clause-begun
 returns-clause-begun c past rests =
-    Drops-begun c.args.self.now c.add.new.self past c.args.repo c.in_ok-number.number c.args.job.now c.args.job.now.key rests
-    (subst (λ (w : Job). IsAt c.add.new.self (added past c.args.repo (Begin c.in_ok-number.number w))) c.in_ok-what.ensures (c.in_ok-add.ensures.at past rests.at))
-    (ap (λ (v : Vec _ _). v.items) c.in_ok-add.ensures.holds)
+    Drops-begun c.args.self.now c.note.new.self past c.args.repo c.in_ok-number.number c.args.job.now c.args.job.now.key rests
+    (subst (λ (w : Job). IsAt c.note.new.self (added past c.args.repo (Begin c.in_ok-number.number w) [])) c.in_ok-what.ensures (c.in_ok-note.ensures.at past rests.at))
+    (ap (λ (v : Vec _ _). v.items) c.note.ensures.holds)
     (c.in_ok-number.ensures ∙ ap (λ (t : Tally). t.begun + 1) c.tally.ensures ∙ ap (λ (n : ℕ). n + 1) (rests.at.begun_are c.args.repo c.requires))

@@ -5,5 +5,5 @@ use Rattle.thin_driver.proofs.driver.Driver.end.Goals as goal
 
 pub returns-clause-ended : goal.returns-clause-ended
 returns-clause-ended c key past drops =
-    Releases-ended c.args.self.now c.add.new.self c.args.repo c.args.job key past c.args.outcome drops (c.in_ok-add.ensures.at past drops.at)
-    (ap (λ (v : Vec _ _). v.items) c.in_ok-add.ensures.holds)
+    Releases-ended c.args.self.now c.note.new.self c.args.repo c.args.job key past c.args.outcome drops (c.in_ok-note.ensures.at past drops.at)
+    (ap (λ (v : Vec _ _). v.items) c.note.ensures.holds)

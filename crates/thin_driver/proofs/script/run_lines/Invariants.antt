@@ -1,5 +1,0 @@
-use Rattle.thin_driver.proofs.Scripts.{ScriptLoop}
-use Rattle.thin_driver.proofs.script.run_lines.Given as goal
-
-abbrev pub invariant-loop-command : goal.invariant-loop-command
-invariant-loop-command l = ScriptLoop l.driver l.script l.command-index

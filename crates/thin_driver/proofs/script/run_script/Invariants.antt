@@ -1,0 +1,5 @@
+use Rattle.thin_driver.proofs.Scripts.{ScriptLoop}
+use Rattle.thin_driver.proofs.script.run_script.Given as goal
+
+abbrev pub invariant-loop-command : goal.invariant-loop-command
+invariant-loop-command l = ScriptLoop l.driver l.script l.command-index
