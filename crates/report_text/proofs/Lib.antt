@@ -1,4 +1,6 @@
+mod Chosen
 mod Ended
+mod Identifiers
 mod Pasts
 mod Places
 mod Reported

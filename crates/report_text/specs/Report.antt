@@ -1,5 +1,5 @@
 -- The report of a run (own). A line ends with a newline; lists are joined by commas, or are a dash.
-use Rattle.std.specs.Prelude.{ℕ, ◌-◌, Bool, true, false, ◌==◌, List, [], ◌∷◌, ◌++◌, length, filter, codes, Option, Some, None, slice_get, if◌then◌else◌}
+use Rattle.std.specs.Prelude.{ℕ, ◌-◌, Bool, true, false, ◌==◌, List, [], ◌∷◌, ◌++◌, length, filter, map, codes, not, bytes_eq, Option, Some, None, slice_get, if◌then◌else◌}
 use Rattle.std.specs.List.{flat_map, range_with_len, list_any}
 use Rattle.std.specs.Fmt.{decimal}
 use Rattle.run_model.specs.declared.run.Run.{Run}
@@ -25,6 +25,15 @@ use Rattle.run_model.specs.declared.job.SourceCause.TheVariants as sources
 use Rattle.run_model.specs.declared.job.SourceFailure.{SourceFailure}
 use Rattle.run_model.specs.declared.job.Outcome.{Outcome}
 use Rattle.run_model.specs.declared.job.Outcome.TheVariants as outcomes
+use Rattle.annex_base.specs.RepoText.{repo_text}
+use Rattle.annex_base.specs.Settings.{Settings}
+use Rattle.annex_base.specs.declared.kinds.Level.{Level}
+use Rattle.annex_base.specs.declared.kinds.Level.TheVariants as levels
+use Rattle.union_merge.specs.LineSet.{text_of}
+use Rattle.union_merge.specs.Branch.{Files, lines_at}
+use Rattle.trust_groups.specs.Settings.{settings, location_path}
+use Rattle.run_model.specs.SetUp.{id_of}
+use Rattle.run_model.specs.Logs.{branch, file_path}
 use Rattle.run_model.specs.Past.{begun_job, present}
 use Rattle.run_model.specs.Safety.{past_at}
 use Rattle.script_lang.specs.declared.command.Command.{Command}
@@ -203,9 +212,57 @@ ended run from upto = flat_map (λ place. entry_line run.repos (past_at run plac
 abbrev pub having : Run → ℕ → List ℕ → List ℕ
 having run place key = filter (λ r. present (past_at run place) r key) (range_with_len 0 (length run.repos))
 
+-- repositories by their names, in order of number, and after them identifiers that no repository of the run has, in byte order
+abbrev pub named : List RepoView → List (List ℕ) → List (List ℕ)
+named repos ids =
+    map (λ repo. repo.name) (filter (λ repo. list_any (λ id. bytes_eq id repo.id) ids) repos)
+    ++ map repo_text (filter (λ id. not (list_any (λ repo. bytes_eq id repo.id) repos)) ids)
+
+-- how many lines, and the lines
+abbrev pub lines_text : List (List ℕ) → List ℕ
+lines_text lines = decimal (length lines) ++ codes "\n" ++ text_of lines
+
+abbrev pub level_text : Level → List ℕ
+level_text levels.Trusted = codes "trusted"
+level_text levels.Semitrusted = codes "semitrusted"
+level_text levels.Untrusted = codes "untrusted"
+level_text levels.Dead = codes "dead"
+
+-- the branch of a repository before a place
+abbrev pub branch_at : Run → ℕ → ℕ → Files
+branch_at run place r = branch (past_at run place) r
+
+-- what its lines set
+abbrev pub settings_at : Run → ℕ → ℕ → Settings
+settings_at run place r = settings (lines_at (branch_at run place r))
+
+-- a file of the branch of a repository
+abbrev pub log_text : Run → ℕ → List ℕ → List (List ℕ) → List ℕ
+log_text run r path lines = codes "log " ++ name_of run.repos r ++ codes " " ++ quoted path ++ codes " " ++ lines_text lines
+
+abbrev pub location_text : Run → ℕ → List ℕ → List (List ℕ) → List ℕ
+location_text run r key lines = codes "location " ++ name_of run.repos r ++ codes " " ++ quoted key ++ codes " " ++ lines_text lines
+
+abbrev pub numbers_text : Run → ℕ → Settings → List ℕ
+numbers_text run r s = codes "numbers " ++ name_of run.repos r ++ codes " " ++ decimal s.numcopies ++ codes " " ++ decimal s.mincopies ++ codes "\n"
+
+abbrev pub trust_text : Run → ℕ → ℕ → Settings → List ℕ
+trust_text run r target s =
+    codes "level " ++ name_of run.repos r ++ codes " " ++ name_of run.repos target ++ codes " " ++ level_text (s.level (id_of run.repos target))
+    ++ codes " groups=" ++ joined 44 (λ group. group) (s.groups (id_of run.repos target)) ++ codes "\n"
+
+abbrev pub claims_text : Run → ℕ → List ℕ → List (List ℕ) → List ℕ
+claims_text run r key ids = codes "claims " ++ name_of run.repos r ++ codes " " ++ quoted key ++ codes " " ++ joined 32 (λ word. word) (named run.repos ids) ++ codes "\n"
+
 -- what a line shows at a place
 abbrev pub shown : Run → ℕ → Command → List ℕ
 shown run place (commands.ShowPresence key) = codes "presence " ++ quoted key ++ codes " " ++ joined 32 (name_of run.repos) (having run place key) ++ codes "\n"
+shown run place (commands.ShowClaims r key) = claims_text run r key ((settings_at run place r).claims key)
+shown run place (commands.ShowLocation r key) = location_text run r key (lines_at (branch_at run place r) (location_path key))
+shown run place (commands.ShowLog r file) = log_text run r (file_path file) (lines_at (branch_at run place r) (file_path file))
+shown run place (commands.ShowLogs r) = flat_map (λ f. log_text run r f.0 f.1) (branch_at run place r)
+shown run place (commands.ShowNumbers r) = numbers_text run r (settings_at run place r)
+shown run place (commands.ShowLevel r target) = trust_text run r target (settings_at run place r)
 shown run place _ = []
 
 -- the report from a place on: for each line of the script what ended while it was done, and what it shows then

@@ -1,15 +1,51 @@
--- Where a walk along a run stands (own).
-use Rattle.std.specs.Prelude.{◌≡◌, ℕ, length}
+-- Where a walk along a run stands, and along which runs it goes (own).
+use Rattle.std.specs.Prelude.{◌≡◌, ℕ, ◌<◌, List, length, Option, Some, None}
+use Rattle.annex_base.specs.Lists.{Each}
+use Rattle.union_merge.specs.LineSet.{IsLine}
+use Rattle.run_model.specs.declared.entry.Entry.{Entry}
 use Rattle.run_model.specs.declared.run.Run.{Run}
+use Rattle.run_model.specs.Branches.{HasBranches, LogsToPath}
 use Rattle.run_model.specs.Contents.{Tracks}
 use Rattle.run_model.specs.Safety.{past_at}
+use Rattle.script_lang.specs.declared.command.Command.{Command}
+use Rattle.script_lang.specs.declared.command.Command.TheVariants as commands
 use Rattle.report_text.specs.declared.walk.Walk.{Walk}
 
--- the walk knows the contents at its place of the run
+-- the walk knows the contents and the branches after these entries, the newest first
+pub record Knows (walk : Walk) (repositories : ℕ) (past : List Entry) : Type 0 where
+  pub contents : Tracks walk.contents repositories past
+  pub branches : HasBranches walk.branches repositories past
+
+-- the walk knows what is there at its place of the run
 pub record StandsIn (walk : Walk) (run : Run) : Type 0 where
-  pub contents : Tracks walk.contents (length run.repos) (past_at run walk.place)
+  pub knows : Knows walk (length run.repos) (past_at run walk.place)
 
 -- and this is its place
 pub record StandsAt (walk : Walk) (run : Run) (place : ℕ) : Type 0 where
   pub place_is : walk.place ≡ place
-  pub contents : Tracks walk.contents (length run.repos) (past_at run place)
+  pub knows : Knows walk (length run.repos) (past_at run place)
+
+-- the entry's lines, if it has some, may stand in a file of a branch
+pub record IsLogged (e : Entry) : Type 0 where
+  pub path : LogsToPath e.kind
+  pub lines : Each IsLine e.lines
+
+-- a line that shows something of a repository's logs names one of so many repositories
+abbrev pub ShowsKnown : ℕ → Command → Type 0
+ShowsKnown n (commands.ShowClaims r key) = r < n
+ShowsKnown n (commands.ShowLocation r key) = r < n
+ShowsKnown n (commands.ShowLog r file) = r < n
+ShowsKnown n (commands.ShowLogs r) = r < n
+ShowsKnown n (commands.ShowNumbers r) = r < n
+ShowsKnown n (commands.ShowLevel r target) = (r < n) × (target < n)
+ShowsKnown n _ = Unit {0}
+
+-- the repository of whose branch a line shows something, if it shows one
+abbrev pub shown_repo : Command → Option ℕ
+shown_repo (commands.ShowClaims r key) = Some r
+shown_repo (commands.ShowLocation r key) = Some r
+shown_repo (commands.ShowLog r file) = Some r
+shown_repo (commands.ShowLogs r) = Some r
+shown_repo (commands.ShowNumbers r) = Some r
+shown_repo (commands.ShowLevel r target) = Some r
+shown_repo _ = None

@@ -3,10 +3,13 @@
 
 mod job;
 mod lines;
+mod logs;
+mod named;
 mod outcome;
 mod proof;
 mod refusal;
 mod run_report;
+mod settings;
 mod shown;
 mod transfer;
 mod walk;

@@ -1,5 +1,7 @@
-ghost use Rattle.std.specs.Prelude.{◌≡◌, IfOk};
+ghost use Rattle.std.specs.Prelude.{◌≡◌, IfOk, length};
+ghost use Rattle.annex_base.specs.Lists.{Each};
 ghost use Rattle.report_text.specs.Report.{report};
+ghost use Rattle.report_text.specs.Walk.{IsLogged, ShowsKnown};
 
 use crate::lines::put_ended;
 use crate::shown::put_shown;
@@ -13,6 +15,8 @@ use std::alloc::Global;
 /// was done, and what it shows; then the lines of the jobs that ended after the last. To show where a key is present
 /// among 2^32 repositories or more is answered as want of memory.
 pub fn report(alloc: Global, script: &[Command], run: &Run) -> Result<Vec<u8>, NoMemory>
+    requires logged { Each IsLogged run.now.entries }
+    requires known { Each (ShowsKnown (length run.now.repos)) script.now }
     ensures { IfOk result (λ text. text.items ≡ report script.now run.now) }
 {
     let mut out = Vec::new(alloc);

@@ -1,11 +1,14 @@
-ghost use Rattle.std.specs.Prelude.{◌≡◌, ◌++◌, ℕ, List, [], ◌∷◌, OnOk, IfOk, length, filter, codes};
+ghost use Rattle.std.specs.Prelude.{◌≡◌, ◌++◌, ℕ, List, [], ◌∷◌, OnOk, IfOk, Some, length, filter, codes};
 ghost use Rattle.std.specs.List.{range_with_len};
 ghost use Rattle.run_model.specs.declared.entry.Entry.{Entry};
 ghost use Rattle.run_model.specs.Contents.{Tracks};
 ghost use Rattle.run_model.specs.Past.{present};
-ghost use Rattle.report_text.specs.Report.{name_of, quoted, joined, shown};
-ghost use Rattle.report_text.specs.Walk.{StandsIn};
+ghost use Rattle.report_text.specs.Report.{branch_at, name_of, quoted, joined, shown};
+ghost use Rattle.annex_base.specs.Lists.{Each};
+ghost use Rattle.report_text.specs.Walk.{IsLogged, ShowsKnown, StandsIn, shown_repo};
 
+use crate::logs::{put_claims, put_file, put_files, put_location};
+use crate::settings::{put_level, put_numbers};
 use crate::walk::Walk;
 use crate::words::{put_names, put_quoted};
 use annex_base::NoMemory;
@@ -13,6 +16,7 @@ use annex_key::Key;
 use run_model::{Contents, RepoView, Run};
 use script_lang::Command;
 use std::alloc::Global;
+use union_merge::Branch;
 
 /// Adds what a line of a script shows at a place of the run.
 pub(crate) fn put_shown(
@@ -22,13 +26,79 @@ pub(crate) fn put_shown(
     place: usize,
     command: &Command,
 ) -> Result<(), NoMemory>
-    requires { StandsIn walk.old run.now }
+    requires stands { StandsIn walk.old run.now }
+    requires logged { Each IsLogged run.now.entries }
+    requires known { ShowsKnown (length run.now.repos) command.now }
     ensures text { OnOk result (out.new.items ≡ out.old.items ++ shown run.now place command.now) }
     ensures walk { OnOk result (StandsIn walk.new run.now) }
 {
     if let Command::ShowPresence { key } = command {
         walk.move_to(*out.allocator(), run, place)?;
         put_presence(out, run.repos.as_slice(), walk.contents(), key)?;
+    } else if let Some(repo) = shown_repo(command) {
+        put_of_repo(out, walk, run, place, repo, command)?;
+    }
+    Ok(())
+}
+
+/// Adds what a line shows of a repository's branch at a place of the run.
+fn put_of_repo(
+    out: &mut Vec<u8>,
+    walk: &mut Walk,
+    run: &Run,
+    place: usize,
+    repo: u32,
+    command: &Command,
+) -> Result<(), NoMemory>
+    requires stands { StandsIn walk.old run.now }
+    requires logged { Each IsLogged run.now.entries }
+    requires known { ShowsKnown (length run.now.repos) command.now }
+    requires named { shown_repo command.now ≡ Some repo }
+    ensures text { OnOk result (out.new.items ≡ out.old.items ++ shown run.now place command.now) }
+    ensures walk { OnOk result (StandsIn walk.new run.now) }
+{
+    let alloc = *out.allocator();
+    walk.move_to(alloc, run, place)?;
+    if let Some(branch) = walk.branch(repo) {
+        put_branch(out, run, branch, command)?;
+    }
+    Ok(())
+}
+
+/// The repository of whose branch the line shows something, if it shows one.
+fn shown_repo(command: &Command) -> Option<u32>
+    ensures { result ≡ shown_repo command.now }
+{
+    match command {
+        Command::ShowClaims { repo, .. }
+        | Command::ShowLocation { repo, .. }
+        | Command::ShowLog { repo, .. }
+        | Command::ShowLogs { repo }
+        | Command::ShowNumbers { repo }
+        | Command::ShowLevel { repo, .. } => Some(*repo),
+        _ => None,
+    }
+}
+
+/// Adds what a line shows of a branch: that of its repository at a place of the run.
+fn put_branch(
+    out: &mut Vec<u8>,
+    run: &Run,
+    branch: &Branch,
+    command: &Command,
+) -> Result<(), NoMemory>
+    requires { ShowsKnown (length run.now.repos) command.now }
+    ensures { OnOk result ((place repo : ℕ) → shown_repo command.now ≡ Some repo → branch.now ≡ branch_at run.now place repo
+        → out.new.items ≡ out.old.items ++ shown run.now place command.now) }
+{
+    match command {
+        Command::ShowClaims { repo, key } => put_claims(out, run, *repo, branch, key)?,
+        Command::ShowLocation { repo, key } => put_location(out, run, *repo, branch, key)?,
+        Command::ShowLog { repo, file } => put_file(out, run, *repo, branch, file)?,
+        Command::ShowLogs { repo } => put_files(out, run, *repo, branch)?,
+        Command::ShowNumbers { repo } => put_numbers(out, run, *repo, branch)?,
+        Command::ShowLevel { repo, target } => put_level(out, run, *repo, *target, branch)?,
+        _ => {}
     }
     Ok(())
 }

@@ -1,14 +1,21 @@
+ghost use Rattle.std.specs.Prelude.{◌≡◌, IfOk, OnOk, length};
+ghost use Rattle.annex_base.specs.Lists.{Each};
+ghost use Rattle.run_model.specs.Branches.{HasPath, LogsToPath};
+ghost use Rattle.report_text.specs.Walk.{IsLogged, ShowsKnown};
+ghost use Rattle.union_merge.specs.LineSet.{IsLine};
+
 use super::*;
-use annex_base::{Items, NoMemory, RepoId, Text};
+use annex_base::{Items, Line, NoMemory, RepoId, Text};
 use annex_key::Key;
 use drop_proof::Need;
 use run_model::{
-    By, CandidateCause, Cause, Denial, DropRefusal, Entry, EntryKind, Job, JobKind, Outcome, Proof,
-    RepoView, Run, SourceCause, SourceFailure, TransferRefusal,
+    By, CandidateCause, Cause, Denial, DropRefusal, Entry, EntryKind, Job, JobKind, LogFile,
+    Outcome, Proof, RepoView, Run, SourceCause, SourceFailure, TransferRefusal,
 };
 use script_lang::Command;
 use std::alloc::Global;
 use std::test::Fail;
+use union_merge::is_line;
 
 fn text(alloc: Global, word: &str) -> Result<Text, NoMemory> {
     Text::new(alloc, word.as_bytes())
@@ -57,7 +64,11 @@ fn repo(alloc: Global, name: &str, id: &str) -> Result<RepoView, NoMemory> {
 }
 
 /// A run of the repositories a, b and c.
-fn run_of(alloc: Global, entries: Vec<Entry>, marks: &[u32]) -> Result<Run, NoMemory> {
+fn run_of(alloc: Global, entries: Vec<Entry>, marks: &[u32]) -> Result<Run, NoMemory>
+    requires { Each IsLogged entries.items }
+    ensures logged { IfOk result (λ run. Each IsLogged run.entries) }
+    ensures repos { IfOk result (λ run. length run.repos ≡ 3) }
+{
     let mut repos = Items::new(alloc);
     repos.push(repo(alloc, "a", "00000000-0000-4000-8000-00000000000a")?)?;
     repos.push(repo(alloc, "b", "00000000-0000-4000-8000-00000000000b")?)?;
@@ -70,7 +81,10 @@ fn run_of(alloc: Global, entries: Vec<Entry>, marks: &[u32]) -> Result<Run, NoMe
     })
 }
 
-fn entry(alloc: Global, repo: u32, kind: EntryKind) -> Entry {
+fn entry(alloc: Global, repo: u32, kind: EntryKind) -> Entry
+    requires { LogsToPath kind }
+    ensures { IsLogged result }
+{
     Entry {
         time: 0,
         count: 0,
@@ -80,6 +94,24 @@ fn entry(alloc: Global, repo: u32, kind: EntryKind) -> Entry {
         sent: Items::new(alloc),
         lines: Items::new(alloc),
     }
+}
+
+fn add(entries: &mut Vec<Entry>, entry: Entry) -> Result<(), NoMemory>
+    requires before { Each IsLogged entries.old.items }
+    requires logged { IsLogged entry }
+    ensures { OnOk result (Each IsLogged entries.new.items) }
+{
+    entries.push(entry)?;
+    Ok(())
+}
+
+fn add_show(script: &mut Vec<Command>, line: Command) -> Result<(), NoMemory>
+    requires before { Each (ShowsKnown 3) script.old.items }
+    requires known { ShowsKnown 3 line }
+    ensures { OnOk result (Each (ShowsKnown 3) script.new.items) }
+{
+    script.push(line)?;
+    Ok(())
 }
 
 fn job(alloc: Global, kind: JobKind, peer: Option<u32>) -> Result<Job, NoMemory> {
@@ -94,8 +126,14 @@ fn job(alloc: Global, kind: JobKind, peer: Option<u32>) -> Result<Job, NoMemory>
 /// The report of a run in which the repository a begins a job and ends it.
 fn report_of(alloc: Global, what: Job, outcome: Outcome) -> Result<Vec<u8>, NoMemory> {
     let mut entries = Vec::new(alloc);
-    entries.push(entry(alloc, 0, EntryKind::Begin { job: 1, what }))?;
-    entries.push(entry(alloc, 0, EntryKind::End { job: 1, outcome }))?;
+    add(
+        &mut entries,
+        entry(alloc, 0, EntryKind::Begin { job: 1, what }),
+    )?;
+    add(
+        &mut entries,
+        entry(alloc, 0, EntryKind::End { job: 1, outcome }),
+    )?;
     let run = run_of(alloc, entries, &[])?;
     report(alloc, &[], &run)
 }
@@ -355,7 +393,9 @@ fn a_job_that_is_done_says_how(rt: HostRuntime) -> Result<(), Fail> {
     Ok(())
 }
 
-fn gain(alloc: Global, repo: u32, word: &str) -> Result<Entry, NoMemory> {
+fn gain(alloc: Global, repo: u32, word: &str) -> Result<Entry, NoMemory>
+    ensures { IfOk result IsLogged }
+{
     let kind = EntryKind::Gain {
         by: By::Script,
         size: 3,
@@ -365,7 +405,9 @@ fn gain(alloc: Global, repo: u32, word: &str) -> Result<Entry, NoMemory> {
 }
 
 /// What the repository a does as it drops the key.
-fn drop_step(alloc: Global, word: &str, step: usize) -> Result<EntryKind, NoMemory> {
+fn drop_step(alloc: Global, word: &str, step: usize) -> Result<EntryKind, NoMemory>
+    ensures { IfOk result LogsToPath }
+{
     Ok(match step {
         0 => EntryKind::Begin {
             job: 1,
@@ -388,22 +430,27 @@ fn drop_step(alloc: Global, word: &str, step: usize) -> Result<EntryKind, NoMemo
 }
 
 /// The key comes to each repository, and a drops it: it begins after three entries, and ends by the sixth.
-fn dropped_run(alloc: Global, word: &str, marks: &[u32]) -> Result<Run, NoMemory> {
+fn dropped_run(alloc: Global, word: &str, marks: &[u32]) -> Result<Run, NoMemory>
+    ensures logged { IfOk result (λ run. Each IsLogged run.entries) }
+    ensures repos { IfOk result (λ run. length run.repos ≡ 3) }
+{
     let mut entries = Vec::new(alloc);
     for repo in 0..3 {
-        entries.push(gain(alloc, repo, word)?)?;
+        add(&mut entries, gain(alloc, repo, word)?)?;
     }
     for step in 0..3 {
-        entries.push(entry(alloc, 0, drop_step(alloc, word, step)?))?;
+        add(&mut entries, entry(alloc, 0, drop_step(alloc, word, step)?))?;
     }
     run_of(alloc, entries, marks)
 }
 
-fn show_lines(alloc: Global) -> Result<Vec<Command>, NoMemory> {
+fn show_lines(alloc: Global) -> Result<Vec<Command>, NoMemory>
+    ensures { IfOk result (λ script. Each (ShowsKnown 3) script.items) }
+{
     let mut script = Vec::new(alloc);
     for word in ["WORM-s3--abc", "WORM-s3--abc", "WORM-s3--a b"] {
         let key = key(alloc, word)?;
-        script.push(Command::ShowPresence { key })?;
+        add_show(&mut script, Command::ShowPresence { key })?;
     }
     Ok(script)
 }
@@ -453,5 +500,133 @@ fn a_drop_alone_lacks_evidence(rt: HostRuntime) -> Result<(), Fail> {
     let want =
         "drop a WORM-s3--abc refused 5 lacking need=1,1 locked=- trusted=- recent=- causes=-\n";
     assert_eq!(rt; got.as_slice(), want.as_bytes());
+    Ok(())
+}
+
+/// A line, which has a byte and no newline.
+fn line(alloc: Global, word: &str) -> Result<Line, NoMemory>
+    ensures { IfOk result IsLine }
+{
+    let bytes = word.as_bytes();
+    if !is_line(bytes) {
+        return Err(NoMemory);
+    }
+    let line = Text::new(alloc, bytes)?;
+    Ok(line)
+}
+
+/// A log by its name, or the location log of the key.
+fn log_file(alloc: Global, name: &str) -> Result<LogFile, NoMemory>
+    ensures { IfOk result HasPath }
+{
+    if name.is_empty() {
+        return Ok(LogFile::Location(key(alloc, "WORM-s3--abc")?));
+    }
+    Ok(LogFile::Named(line(alloc, name)?))
+}
+
+/// An entry by which a repository's log gets a line.
+fn log_entry(alloc: Global, repo: u32, name: &str, word: &str) -> Result<Entry, NoMemory>
+    ensures { IfOk result IsLogged }
+{
+    let file = log_file(alloc, name)?;
+    let mut lines = Items::new(alloc);
+    lines.push(line(alloc, word)?)?;
+    Ok(Entry {
+        time: 0,
+        count: 0,
+        repo: Some(repo),
+        kind: EntryKind::Log { file },
+        taken: None,
+        sent: Items::new(alloc),
+        lines,
+    })
+}
+
+/// The repository a sets what it reads of b and of itself, and b sets a number of its own.
+fn logged_run(alloc: Global) -> Result<Run, NoMemory>
+    ensures logged { IfOk result (λ run. Each IsLogged run.entries) }
+    ensures repos { IfOk result (λ run. length run.repos ≡ 3) }
+{
+    let mut entries = Vec::new(alloc);
+    for (repo, name, word) in [
+        (
+            0,
+            "trust.log",
+            "00000000-0000-4000-8000-00000000000b 0 timestamp=1s",
+        ),
+        (
+            0,
+            "group.log",
+            "00000000-0000-4000-8000-00000000000b disk backup timestamp=2s",
+        ),
+        (0, "numcopies.log", "3s 3"),
+        (0, "mincopies.log", "4s 2"),
+        (0, "", "5s 1 00000000-0000-4000-8000-00000000000c"),
+        (0, "", "6s 1 00000000-0000-4000-8000-000000000001"),
+        (0, "", "7s 1 00000000-0000-4000-8000-00000000000a"),
+        (1, "numcopies.log", "8s 5"),
+    ] {
+        add(&mut entries, log_entry(alloc, repo, name, word)?)?;
+    }
+    run_of(alloc, entries, &[8])
+}
+
+/// Each line that shows something of a branch, by its place in the table of texts.
+fn show_branch(alloc: Global, place: usize) -> Result<Command, NoMemory>
+    ensures { IfOk result (ShowsKnown 3) }
+{
+    let key = key(alloc, "WORM-s3--abc")?;
+    Ok(match place {
+        0 => Command::ShowNumbers { repo: 0 },
+        1 => Command::ShowNumbers { repo: 1 },
+        2 => Command::ShowLevel { repo: 0, target: 1 },
+        3 => Command::ShowLevel { repo: 1, target: 1 },
+        4 => Command::ShowClaims { repo: 0, key },
+        5 => Command::ShowClaims { repo: 1, key },
+        6 => Command::ShowLocation { repo: 0, key },
+        7 => Command::ShowLog {
+            repo: 0,
+            file: log_file(alloc, "trust.log")?,
+        },
+        8 => Command::ShowLog {
+            repo: 2,
+            file: log_file(alloc, "trust.log")?,
+        },
+        _ => Command::ShowLogs { repo: 0 },
+    })
+}
+
+fn shown_branch(alloc: Global, run: &Run, place: usize) -> Result<Vec<u8>, NoMemory>
+    requires logged { Each IsLogged run.now.entries }
+    requires repos { length run.now.repos ≡ 3 }
+{
+    let mut script = Vec::new(alloc);
+    add_show(&mut script, show_branch(alloc, place)?)?;
+    report(alloc, &script, run)
+}
+
+#[test]
+fn a_line_shows_what_a_branch_has(rt: HostRuntime) -> Result<(), Fail> {
+    let alloc = rt.alloc();
+    let run = logged_run(alloc)?;
+    for (place, want) in [
+        "numbers a 3 2\n",
+        "numbers b 5 1\n",
+        "level a b untrusted groups=disk,backup\n",
+        "level b b semitrusted groups=-\n",
+        "claims a WORM-s3--abc a c 00000000-0000-4000-8000-000000000001\n",
+        "claims b WORM-s3--abc -\n",
+        "location a WORM-s3--abc 3\n5s 1 00000000-0000-4000-8000-00000000000c\n6s 1 00000000-0000-4000-8000-000000000001\n7s 1 00000000-0000-4000-8000-00000000000a\n",
+        "log a trust.log 1\n00000000-0000-4000-8000-00000000000b 0 timestamp=1s\n",
+        "log c trust.log 0\n",
+        "log a 975/c65/WORM-s3--abc.log 3\n5s 1 00000000-0000-4000-8000-00000000000c\n6s 1 00000000-0000-4000-8000-000000000001\n7s 1 00000000-0000-4000-8000-00000000000a\nlog a group.log 1\n00000000-0000-4000-8000-00000000000b disk backup timestamp=2s\nlog a mincopies.log 1\n4s 2\nlog a numcopies.log 1\n3s 3\nlog a trust.log 1\n00000000-0000-4000-8000-00000000000b 0 timestamp=1s\n",
+    ]
+    .iter()
+    .enumerate()
+    {
+        let got = shown_branch(alloc, &run, place)?;
+        assert_eq!(rt; got.as_slice(), want.as_bytes(), "{want}");
+    }
     Ok(())
 }

@@ -1,16 +1,22 @@
-ghost use Rattle.std.specs.Prelude.{◌≡◌, ◌≤◌, OnOk, IfOk, length};
-ghost use Rattle.run_model.specs.Contents.{Tracks};
+ghost use Rattle.std.specs.Prelude.{◌≡◌, ◌≤◌, ◌<◌, ◌∷◌, ℕ, List, OnOk, IfOk, Some, length};
+ghost use Rattle.std.specs.Option.{option_copied};
+ghost use Rattle.annex_base.specs.Lists.{Each};
+ghost use Rattle.run_model.specs.Logs.{branch};
+ghost use Rattle.run_model.specs.declared.entry.Entry.{Entry};
+ghost use Rattle.run_model.specs.declared.run.Run.{Run};
 ghost use Rattle.run_model.specs.Safety.{past_at};
-ghost use Rattle.report_text.specs.Walk.{StandsIn, StandsAt};
+ghost use Rattle.report_text.specs.Walk.{IsLogged, Knows, StandsIn, StandsAt};
 
 use annex_base::NoMemory;
-use run_model::{Contents, Run};
+use run_model::{Branches, Contents, Entry, Run};
 use std::alloc::Global;
+use union_merge::Branch;
 
-/// A place of a run, and which repositories have which keys there.
+/// A place of a run, which repositories have which keys there, and their branches.
 #[derive(Drop)]
 pub(crate) struct Walk {
     contents: Contents,
+    branches: Branches,
     place: usize,
 }
 
@@ -19,8 +25,10 @@ impl Walk {
     pub(crate) fn new(alloc: Global, run: &Run) -> Result<Walk, NoMemory>
         ensures { IfOk result (λ walk. StandsAt walk run.now 0) }
     {
+        let repositories = run.repos.as_slice().len();
         Ok(Walk {
-            contents: Contents::new(alloc, run.repos.as_slice().len())?,
+            contents: Contents::new(alloc, repositories)?,
+            branches: Branches::new(alloc, repositories)?,
             place: 0,
         })
     }
@@ -31,14 +39,21 @@ impl Walk {
         &self.contents
     }
 
+    /// The branch of a repository; one that isn't there has none.
+    pub(crate) fn branch(&self, repo: u32) -> Option<&Branch>
+        ensures { (run : Run) (place : ℕ) → StandsAt self.now run place → repo < length run.repos → option_copied result ≡ Some (branch (past_at run place) repo) }
+    {
+        self.branches.branch(repo)
+    }
+
     /// Goes to a place: on from where it stands, or from the beginning to one before that.
     pub(crate) fn move_to(&mut self, alloc: Global, run: &Run, place: usize) -> Result<(), NoMemory>
-        requires { StandsIn self.old run.now }
+        requires stands { StandsIn self.old run.now }
+        requires logged { Each IsLogged run.now.entries }
         ensures { OnOk result (StandsAt self.new run.now place) }
     {
         self.back_before(alloc, run, place)?;
-        follow(&mut self.contents, run, self.place, place)?;
-        self.place = place;
+        self.follow(run, place)?;
         Ok(())
     }
 
@@ -53,17 +68,29 @@ impl Walk {
         }
         Ok(())
     }
-}
 
-/// Takes note of the entries from one place up to another.
-fn follow(contents: &mut Contents, run: &Run, from: usize, upto: usize) -> Result<(), NoMemory>
-    requires order { from ≤ upto }
-    requires before { Tracks contents.old (length run.now.repos) (past_at run.now from) }
-    ensures { OnOk result (Tracks contents.new (length run.now.repos) (past_at run.now upto)) }
-{
-    let entries = run.entries.as_slice();
-    for place in from..upto.min(entries.len()) {
-        contents.add(&entries[place])?;
+    /// Goes on to a place that isn't before where it stands.
+    fn follow(&mut self, run: &Run, upto: usize) -> Result<(), NoMemory>
+        requires stands { StandsIn self.old run.now }
+        requires order { self.old.place ≤ upto }
+        requires logged { Each IsLogged run.now.entries }
+        ensures { OnOk result (StandsAt self.new run.now upto) }
+    {
+        let entries = run.entries.as_slice();
+        for place in self.place..upto.min(entries.len()) {
+            self.add(&entries[place])?;
+        }
+        self.place = upto;
+        Ok(())
     }
-    Ok(())
+
+    /// Takes note of one more entry; where it stands is left to the caller.
+    fn add(&mut self, entry: &Entry) -> Result<(), NoMemory>
+        requires { IsLogged entry.now }
+        ensures { OnOk result ((repositories : ℕ) (past : List Entry) → Knows self.old repositories past → Knows self.new repositories (entry.now ∷ past)) }
+    {
+        self.contents.add(entry)?;
+        self.branches.add(entry)?;
+        Ok(())
+    }
 }

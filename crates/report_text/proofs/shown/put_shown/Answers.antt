@@ -4,4 +4,4 @@ use Rattle.report_text.proofs.shown.put_shown.Goals as goal
 pub returns-in_ok-put_presence-clause-text : goal.returns-in_ok-put_presence-clause-text
 returns-in_ok-put_presence-clause-text c =
     let told = rw (c.as_slice.ensures, c.contents.ensures) at c.in_ok-put_presence.ensures in
-    rw c.in-ShowPresence.is (told (past_at c.args.run.now c.args.place) c.in_ok-move_to.ensures.contents)
+    rw c.in-ShowPresence.is (told (past_at c.args.run.now c.args.place) c.in_ok-move_to.ensures.knows.contents)

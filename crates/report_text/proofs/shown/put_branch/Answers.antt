@@ -1,0 +1,75 @@
+use Rattle.std.proofs.Common.{◌≡◌, ℕ, List, ◌++◌, Some, sym, ap, ◌∙◌, refl}
+use Rattle.run_model.specs.declared.run.Run.{Run}
+use Rattle.run_model.specs.declared.entry.LogFile.{LogFile}
+use Rattle.script_lang.specs.declared.command.Command.{Command}
+use Rattle.script_lang.specs.declared.command.Command.TheVariants.{ShowClaims, ShowLocation, ShowLog, ShowLogs, ShowNumbers, ShowLevel}
+use Rattle.std.specs.List.{flat_map}
+use Rattle.union_merge.specs.Branch.{Files, lines_at}
+use Rattle.trust_groups.specs.Settings.{claims, location_path, settings}
+use Rattle.run_model.specs.Logs.{file_path}
+use Rattle.report_text.specs.Report.{branch_at, shown, claims_text, location_text, log_text, numbers_text, trust_text}
+use Rattle.report_text.specs.Walk.{shown_repo}
+use Rattle.report_text.proofs.shown.put_branch.Goals as goal
+
+same_some : (a b : ℕ) → Some a ≡ Some b → a ≡ b
+same_some a b h = cc
+
+-- the line's branch is that of the repository that the line names
+line_shown : (run : Run) (place repo r : ℕ) (command line : Command) (branch : Files) (text : Files → List ℕ) (old new : List ℕ)
+    → command ≡ line → shown_repo line ≡ Some r → text (branch_at run place r) ≡ shown run place line
+    → shown_repo command ≡ Some repo → branch ≡ branch_at run place repo → new ≡ old ++ text branch → new ≡ old ++ shown run place command
+line_shown run place repo r command line branch text old new is names shows named at put =
+    let same : r ≡ repo = same_some r repo (sym names ∙ ap shown_repo (sym is) ∙ named) in
+    put ∙ ap (λ (b : Files). old ++ text b) (at ∙ ap (branch_at run place) (sym same)) ∙ ap (λ (l : List ℕ). old ++ l) (shows ∙ ap (shown run place) (sym is))
+
+-- a line of no such kind names no repository
+shows_no_branch : (command : Command) (repo : ℕ)
+    → ((r : ℕ) (key : List ℕ) → command ≡ ShowClaims r key → ⊥) → ((r : ℕ) (key : List ℕ) → command ≡ ShowLocation r key → ⊥)
+    → ((r : ℕ) (file : LogFile) → command ≡ ShowLog r file → ⊥) → ((r : ℕ) → command ≡ ShowLogs r → ⊥)
+    → ((r : ℕ) → command ≡ ShowNumbers r → ⊥) → ((r target : ℕ) → command ≡ ShowLevel r target → ⊥)
+    → shown_repo command ≡ Some repo → ⊥
+shows_no_branch (ShowClaims r key) repo claims location log logs numbers level named = claims r key refl
+shows_no_branch (ShowLocation r key) repo claims location log logs numbers level named = location r key refl
+shows_no_branch (ShowLog r file) repo claims location log logs numbers level named = log r file refl
+shows_no_branch (ShowLogs r) repo claims location log logs numbers level named = logs r refl
+shows_no_branch (ShowNumbers r) repo claims location log logs numbers level named = numbers r refl
+shows_no_branch (ShowLevel r target) repo claims location log logs numbers level named = level r target refl
+shows_no_branch _ repo claims location log logs numbers level named = cc
+
+pub returns-in_ok-put_claims-in-ShowClaims : goal.returns-in_ok-put_claims-in-ShowClaims
+returns-in_ok-put_claims-in-ShowClaims c = λ place repo named at.
+    line_shown c.args.run.now place repo c.in-ShowClaims.repo c.args.command.now (ShowClaims c.in-ShowClaims.repo c.in-ShowClaims.key) c.args.branch.now (λ (b : Files). claims_text c.args.run.now c.in-ShowClaims.repo c.in-ShowClaims.key (claims (lines_at b) c.in-ShowClaims.key)) _ _
+    c.in-ShowClaims.is refl refl named at c.in_ok-put_claims-in-ShowClaims.ensures
+
+pub returns-in_ok-put_location-in-ShowLocation : goal.returns-in_ok-put_location-in-ShowLocation
+returns-in_ok-put_location-in-ShowLocation c = λ place repo named at.
+    line_shown c.args.run.now place repo c.in-ShowLocation.repo c.args.command.now (ShowLocation c.in-ShowLocation.repo c.in-ShowLocation.key) c.args.branch.now (λ (b : Files). location_text c.args.run.now c.in-ShowLocation.repo c.in-ShowLocation.key (lines_at b (location_path c.in-ShowLocation.key))) _ _
+    c.in-ShowLocation.is refl refl named at c.in_ok-put_location-in-ShowLocation.ensures
+
+pub returns-in_ok-put_file-in-ShowLog : goal.returns-in_ok-put_file-in-ShowLog
+returns-in_ok-put_file-in-ShowLog c = λ place repo named at.
+    line_shown c.args.run.now place repo c.in-ShowLog.repo c.args.command.now (ShowLog c.in-ShowLog.repo c.in-ShowLog.file) c.args.branch.now (λ (b : Files). log_text c.args.run.now c.in-ShowLog.repo (file_path c.in-ShowLog.file) (lines_at b (file_path c.in-ShowLog.file))) _ _
+    c.in-ShowLog.is refl refl named at c.in_ok-put_file-in-ShowLog.ensures
+
+pub returns-in_ok-put_files-in-ShowLogs : goal.returns-in_ok-put_files-in-ShowLogs
+returns-in_ok-put_files-in-ShowLogs c = λ place repo named at.
+    line_shown c.args.run.now place repo c.in-ShowLogs.repo c.args.command.now (ShowLogs c.in-ShowLogs.repo) c.args.branch.now (λ (b : Files). flat_map (λ f. log_text c.args.run.now c.in-ShowLogs.repo f.0 f.1) b) _ _
+    c.in-ShowLogs.is refl refl named at c.in_ok-put_files-in-ShowLogs.ensures
+
+pub returns-in_ok-put_numbers-in-ShowNumbers : goal.returns-in_ok-put_numbers-in-ShowNumbers
+returns-in_ok-put_numbers-in-ShowNumbers c = λ place repo named at.
+    line_shown c.args.run.now place repo c.in-ShowNumbers.repo c.args.command.now (ShowNumbers c.in-ShowNumbers.repo) c.args.branch.now (λ (b : Files). numbers_text c.args.run.now c.in-ShowNumbers.repo (settings (lines_at b))) _ _
+    c.in-ShowNumbers.is refl refl named at c.in_ok-put_numbers-in-ShowNumbers.ensures
+
+pub returns-in_ok-put_level-in-ShowLevel : goal.returns-in_ok-put_level-in-ShowLevel
+returns-in_ok-put_level-in-ShowLevel c = λ place repo named at.
+    line_shown c.args.run.now place repo c.in-ShowLevel.repo c.args.command.now (ShowLevel c.in-ShowLevel.repo c.in-ShowLevel.target) c.args.branch.now (λ (b : Files). trust_text c.args.run.now c.in-ShowLevel.repo c.in-ShowLevel.target (settings (lines_at b))) _ _
+    c.in-ShowLevel.is refl refl named at c.in_ok-put_level-in-ShowLevel.ensures
+
+pub put_level-requires : goal.put_level-requires
+put_level-requires c = (rw c.in-ShowLevel.is at c.requires).1
+
+pub returns-in_default : goal.returns-in_default
+returns-in_default c = λ place repo named at.
+    let other = c.in_default in
+    absurd (shows_no_branch c.args.command.now repo other.not-ShowClaims other.not-ShowLocation other.not-ShowLog other.not-ShowLogs other.not-ShowNumbers other.not-ShowLevel named)

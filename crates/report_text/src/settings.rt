@@ -1,0 +1,88 @@
+ghost use Rattle.std.specs.Prelude.{◌≡◌, ◌++◌, ◌<◌, length, IfOk, OnOk};
+ghost use Rattle.union_merge.specs.Branch.{lines_at};
+ghost use Rattle.trust_groups.specs.Settings.{level, settings};
+ghost use Rattle.run_model.specs.SetUp.{id_of};
+ghost use Rattle.report_text.specs.Report.{level_text, numbers_text, trust_text};
+
+use crate::named::put_joined;
+use crate::words::put_name;
+use annex_base::{Level, NoMemory, RepoId, put_number};
+use run_model::{RepoView, Run};
+use std::alloc::Global;
+use trust_groups::{Levels, groups_of, mincopies_of, numcopies_of};
+use union_merge::Branch;
+
+/// Adds the numbers of copies that the branch sets.
+pub(crate) fn put_numbers(
+    out: &mut Vec<u8>,
+    run: &Run,
+    repo: u32,
+    branch: &Branch,
+) -> Result<(), NoMemory>
+    ensures { OnOk result (out.new.items ≡ out.old.items ++ numbers_text run.now repo (settings (lines_at branch.now))) }
+{
+    let alloc = *out.allocator();
+    let numcopies = numcopies_of(alloc, branch)?;
+    let mincopies = mincopies_of(alloc, branch)?;
+    out.extend_from_slice(b"numbers ")?;
+    put_name(out, run.repos.as_slice(), repo)?;
+    out.push(b' ')?;
+    put_number(out, u64::from(numcopies))?;
+    out.push(b' ')?;
+    put_number(out, u64::from(mincopies))?;
+    out.push(b'\n')?;
+    Ok(())
+}
+
+fn level_word(level: Level) -> &'static [u8]
+    ensures { result.now ≡ level_text level }
+{
+    match level {
+        Level::Trusted => b"trusted",
+        Level::Semitrusted => b"semitrusted",
+        Level::Untrusted => b"untrusted",
+        Level::Dead => b"dead",
+    }
+}
+
+fn id_of(repos: &[RepoView], repo: u32) -> RepoId
+    requires { repo < length repos.now }
+    ensures { result ≡ id_of repos.now repo }
+{
+    repos[repo as usize].id
+}
+
+fn level_of(alloc: Global, branch: &Branch, id: RepoId) -> Result<Level, NoMemory>
+    ensures { IfOk result (λ l. l ≡ level (lines_at branch.now) id) }
+{
+    let levels = Levels::read(alloc, branch)?;
+    Ok(levels.level(id))
+}
+
+/// Adds how far the branch trusts a repository, and its groups.
+pub(crate) fn put_level(
+    out: &mut Vec<u8>,
+    run: &Run,
+    repo: u32,
+    target: u32,
+    branch: &Branch,
+) -> Result<(), NoMemory>
+    requires { target < length run.now.repos }
+    ensures { OnOk result (out.new.items ≡ out.old.items ++ trust_text run.now repo target (settings (lines_at branch.now))) }
+{
+    let alloc = *out.allocator();
+    let repos = run.repos.as_slice();
+    let id = id_of(repos, target);
+    let level = level_of(alloc, branch, id)?;
+    let groups = groups_of(alloc, branch, id)?;
+    out.extend_from_slice(b"level ")?;
+    put_name(out, repos, repo)?;
+    out.push(b' ')?;
+    put_name(out, repos, target)?;
+    out.push(b' ')?;
+    out.extend_from_slice(level_word(level))?;
+    out.extend_from_slice(b" groups=")?;
+    put_joined(out, b',', groups.as_slice())?;
+    out.push(b'\n')?;
+    Ok(())
+}
