@@ -3,7 +3,11 @@ use Rattle.std.proofs.Common.{◌≡◌, ◌⊎◌, inl, inr, ℕ, ◌<◌, ◌�
 use Rattle.std.proofs.lemmas.Bool.{cases_lt}
 use Rattle.std.proofs.lemmas.List.{append-nil}
 use Rattle.script_lang.specs.declared.command.Command.{Command}
-use Rattle.script_lang.specs.Script.{IsScript, IsBadLine, IsCrowded}
+use Rattle.std.specs.Prelude.{codes}
+use Rattle.std.specs.Fmt.{decimal}
+use Rattle.script_lang.specs.declared.fault.Quantity.{Quantity}
+use Rattle.script_lang.specs.declared.fault.Quantity.TheVariants.{Repositories, Time}
+use Rattle.script_lang.specs.Script.{IsScript, IsBadLine, IsCrowded, IsLate, limit_of, quantity_name}
 use Rattle.annex_cli.specs.declared.status.Status.{Status}
 use Rattle.annex_cli.specs.declared.status.Status.TheVariants.{Done, Usage, Script, ReadFault, WriteFault, NoMemory, Limit}
 use Rattle.annex_cli.specs.Whole.{IsRead, script_limit}
@@ -13,21 +17,27 @@ use Rattle.annex_cli.specs.Top.{IsDue, IsDueRead, AnswersRun}
 pub record AreExclusive : Type 0 where
   pub bad : (bytes : List ℕ) (script : List Command) (line : ℕ) → IsScript bytes script → IsBadLine bytes line → ⊥
   pub crowded : (bytes : List ℕ) (script : List Command) → IsScript bytes script → IsCrowded bytes → ⊥
-  pub both : (bytes : List ℕ) (line : ℕ) → IsBadLine bytes line → IsCrowded bytes → ⊥
+  pub bad_crowded : (bytes : List ℕ) (line : ℕ) → IsBadLine bytes line → IsCrowded bytes → ⊥
+  pub late : (bytes : List ℕ) (script : List Command) → IsScript bytes script → IsLate bytes → ⊥
+  pub bad_late : (bytes : List ℕ) (line : ℕ) → IsBadLine bytes line → IsLate bytes → ⊥
 
 pub due_once : AreExclusive → (bytes : List ℕ) (s s' : Status) (t t' : List ℕ) → IsDue bytes s t → IsDue bytes s' t' → s ≡ s'
 due_once x bytes Done Done t t' d d' = refl
 due_once x bytes Done Script t t' d d' = absurd (x.bad bytes d.script d'.line d.is_script d'.bad)
 due_once x bytes Done Limit t t' d (inl d') = absurd (omega (arith, d.short, d'.long))
-due_once x bytes Done Limit t t' d (inr d') = absurd (x.crowded bytes d.script d.is_script d'.crowded)
+due_once x bytes Done Limit t t' d (inr (inl d')) = absurd (x.crowded bytes d.script d.is_script d'.crowded)
+due_once x bytes Done Limit t t' d (inr (inr d')) = absurd (x.late bytes d.script d.is_script d'.late)
 due_once x bytes Script Done t t' d d' = absurd (x.bad bytes d'.script d.line d'.is_script d.bad)
 due_once x bytes Script Script t t' d d' = refl
 due_once x bytes Script Limit t t' d (inl d') = absurd (omega (arith, d.short, d'.long))
-due_once x bytes Script Limit t t' d (inr d') = absurd (x.both bytes d.line d.bad d'.crowded)
+due_once x bytes Script Limit t t' d (inr (inl d')) = absurd (x.bad_crowded bytes d.line d.bad d'.crowded)
+due_once x bytes Script Limit t t' d (inr (inr d')) = absurd (x.bad_late bytes d.line d.bad d'.late)
 due_once x bytes Limit Done t t' (inl d) d' = absurd (omega (arith, d'.short, d.long))
-due_once x bytes Limit Done t t' (inr d) d' = absurd (x.crowded bytes d'.script d'.is_script d.crowded)
+due_once x bytes Limit Done t t' (inr (inl d)) d' = absurd (x.crowded bytes d'.script d'.is_script d.crowded)
+due_once x bytes Limit Done t t' (inr (inr d)) d' = absurd (x.late bytes d'.script d'.is_script d.late)
 due_once x bytes Limit Script t t' (inl d) d' = absurd (omega (arith, d'.short, d.long))
-due_once x bytes Limit Script t t' (inr d) d' = absurd (x.both bytes d'.line d'.bad d.crowded)
+due_once x bytes Limit Script t t' (inr (inl d)) d' = absurd (x.bad_crowded bytes d'.line d'.bad d.crowded)
+due_once x bytes Limit Script t t' (inr (inr d)) d' = absurd (x.bad_late bytes d'.line d'.bad d.late)
 due_once x bytes Limit Limit t t' d d' = refl
 due_once x bytes Usage s' t t' d d' = absurd d
 due_once x bytes ReadFault s' t t' d d' = absurd d
@@ -81,3 +91,9 @@ due_answered x bytes text s WriteFault left left' taken taken' known d a r w = a
 due_answered x bytes text s ReadFault left left' taken taken' known d a r w = absurd (r refl)
 due_answered x bytes text s NoMemory left left' taken taken' known d a r w = inr refl
 due_answered x bytes text s Usage left left' taken taken' known d a r w = absurd a
+
+-- past what is counted, its limit is due
+pub limit_due : (bytes text : List ℕ) (quantity : Quantity) → length bytes ≤ script_limit → (quantity ≡ Repositories → IsCrowded bytes) → (quantity ≡ Time → IsLate bytes)
+    → text ≡ codes "limit " ++ quantity_name quantity ++ codes " " ++ decimal (limit_of quantity) ++ codes "\n" → IsDue bytes Limit text
+limit_due bytes text Repositories short crowded late is = inr (inl (record { short = short; crowded = crowded refl; text_is = is }))
+limit_due bytes text Time short crowded late is = inr (inr (record { short = short; late = late refl; text_is = is }))

@@ -4,8 +4,8 @@ use Rattle.std.specs.Prelude.{codes, ◌==◌}
 use Rattle.std.specs.List.{slice_split, onto_first}
 use Rattle.annex_base.specs.Lists.{Each}
 use Rattle.script_lang.specs.declared.command.Command.{Command}
-use Rattle.script_lang.specs.declared.command.Command.TheVariants.{Repo, Have, Numcopies, Mincopies, Run, ShowPresence}
-use Rattle.script_lang.specs.Words.{Spells, Nothing, Space, Plain, Quoted, space, quote}
+use Rattle.script_lang.specs.declared.command.Command.TheVariants.{Have}
+use Rattle.script_lang.specs.Words.{Begins, AfterSpace, WithPlain, WithQuoted, SpellsFront, quote}
 use Rattle.script_lang.specs.Lines.{words_of, declared}
 use Rattle.script_lang.specs.Script.{IsScript, Reads, End, Skip, Line, lines_of, Says}
 use Rattle.thin_driver.specs.Driver.{IsShort, AreShort}
@@ -17,15 +17,15 @@ each_within : (m n : ℕ) → m ≤ n → (words : List (List ℕ)) → Each (Is
 each_within m n le [] h = tt
 each_within m n le (w ∷ ws) h = (omega (arith, h.0), each_within m n le ws h.1)
 
-words_within : (line : List ℕ) (words : List (List ℕ)) → Spells line words → Each (IsWithin (length line)) words
-words_within line words Nothing = tt
-words_within line words (Space rest words' s) = each_within (length rest) (length (space ∷ rest)) (omega arith) words' (words_within rest words' s)
-words_within line words (Plain word rest words' p b s) =
-    let all = length-append word rest in
-    (omega (arith, all), each_within (length rest) (length (word ++ rest)) (omega (arith, all)) words' (words_within rest words' s))
-words_within line words (Quoted word rest words' p b s) =
-    let all = length-append word (quote ∷ rest) in
-    (omega (arith, all), each_within (length rest) (length (quote ∷ word ++ quote ∷ rest)) (omega (arith, all)) words' (words_within rest words' s))
+begins_within : (line word rest : List ℕ) → Begins line word rest → (length word ≤ length line) × (length rest ≤ length line)
+begins_within line word rest (AfterSpace line' word' rest' b) = let h = begins_within line' word rest b in (omega (arith, h.0), omega (arith, h.1))
+begins_within line word rest (WithPlain word' rest' p b) = let all = length-append word rest in (omega (arith, all), omega (arith, all))
+begins_within line word rest (WithQuoted word' rest' p b) = let all = length-append word (quote ∷ rest) in (omega (arith, all), omega (arith, all))
+
+front_within : (line : List ℕ) (words : List (List ℕ)) (rest : List ℕ) → SpellsFront line words rest → Each (IsWithin (length line)) words
+front_within line [] rest s = tt
+front_within line (w ∷ ws) rest s =
+    let h = begins_within line w s.0 s.1 in (h.0, each_within (length s.0) (length line) h.1 ws (front_within s.0 ws rest s.2))
 
 put_within : (x n : ℕ) (lines : List (List ℕ)) → Each (IsWithin n) lines → Each (IsWithin (suc n)) (onto_first x lines)
 put_within x n [] h = (omega arith, tt)
@@ -42,14 +42,10 @@ lines_within p (x ∷ xs) = cut_within (p x) x (length xs) (slice_split p xs) (l
 -- a content is no longer than its line
 command_within : (n : ℕ) (before : List Command) (line : List ℕ) (command : Command) → n < 2 ^ 62 → length line ≤ n → Says before line command → IsShort command
 command_within n before line (Have r key content) small le says =
-    let words = words_within line (words_of (declared before) (Have r key content)) says.words in
+    let words = front_within line (words_of (declared before) (Have r key content)) says.words.rest says.words.words in
     let content_le : length (codes "text:" ++ content) ≤ length line = words.1.1.1.0 in
     omega (arith, content_le, length-append (codes "text:") content)
-command_within n before line (Repo name id) small le says = tt
-command_within n before line (Numcopies r m) small le says = tt
-command_within n before line (Mincopies r m) small le says = tt
-command_within n before line (Run r job) small le says = tt
-command_within n before line (ShowPresence key) small le says = tt
+command_within n before line _ small le says = tt
 
 commands_within : (n : ℕ) (before : List Command) (lines : List (List ℕ)) (commands : List Command) → n < 2 ^ 62 → Each (IsWithin n) lines → Reads before lines commands → AreShort commands
 commands_within n before lines commands small h (End before') = tt

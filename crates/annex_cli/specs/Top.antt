@@ -8,7 +8,7 @@ use Rattle.run_model.specs.Safety.{IsSafe}
 use Rattle.run_model.specs.Thin.{IsThinRun}
 use Rattle.run_model.specs.Causes.{HasCauses}
 use Rattle.script_lang.specs.declared.command.Command.{Command}
-use Rattle.script_lang.specs.Script.{IsScript, IsBadLine, IsCrowded, most_repositories}
+use Rattle.script_lang.specs.Script.{IsScript, IsBadLine, IsCrowded, IsLate, most_repositories, most_time}
 use Rattle.thin_driver.specs.Driver.{run_of}
 use Rattle.report_text.specs.Report.{report}
 use Rattle.annex_cli.specs.declared.status.Status.{Status}
@@ -55,11 +55,17 @@ pub record IsFull (bytes text : List ℕ) : Type 0 where
   pub crowded : IsCrowded bytes
   pub text_is : text ≡ codes "limit " ++ codes "repositories" ++ codes " " ++ decimal most_repositories ++ codes "\n"
 
+-- a script waits longer than it may
+pub record IsOverTime (bytes text : List ℕ) : Type 0 where
+  pub short : length bytes ≤ script_limit
+  pub late : IsLate bytes
+  pub text_is : text ≡ codes "limit " ++ codes "time" ++ codes " " ++ decimal most_time ++ codes "\n"
+
 -- what is due for a source of these bytes
 abbrev pub IsDue : List ℕ → Status → List ℕ → Type 0
 IsDue bytes Done text = IsReport bytes text
 IsDue bytes Script text = IsComplaint bytes text
-IsDue bytes Limit text = IsLong bytes text ⊎ IsFull bytes text
+IsDue bytes Limit text = IsLong bytes text ⊎ (IsFull bytes text ⊎ IsOverTime bytes text)
 IsDue bytes _ text = ⊥
 
 -- the text that is due for what was read

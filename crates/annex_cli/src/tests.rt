@@ -7,6 +7,8 @@ use script_lang::{Command, Script};
 use std::test::Fail;
 use thin_driver::run_script;
 
+mod logs;
+
 const THREE: &str = "repo a 11111111-1111-4111-8111-111111111111\n\
     repo b 22222222-2222-4222-8222-222222222222\n\
     repo c 33333333-3333-4333-8333-333333333333\n\

@@ -1,6 +1,9 @@
 use Rattle.std.proofs.Common.{ap, sym, subst, ◌∙◌, arith, ◌++◌, codes, IfOk, Result, Ok, Err}
 use Rattle.std.specs.Fmt.{decimal}
+use Rattle.script_lang.specs.declared.fault.ScriptFault.TheVariants.{TooMuch}
+use Rattle.script_lang.specs.Script.{quantity_name}
 use Rattle.annex_cli.specs.Top.{IsDue}
+use Rattle.annex_cli.proofs.DueLemmas.{limit_due}
 use Rattle.annex_cli.proofs.due.due_text.Goals as goal
 
 ok_then : {A E : Type 0} (r : Result A E) (P Q : A → Type 0) → ((a : A) → P a → Q a) → IfOk r P → IfOk r Q
@@ -18,3 +21,16 @@ returns-in-Err-BadLine c =
       text_is = is.1 ∙ ap (λ byte. codes "script line " ++ decimal c.in-Err-BadLine.line ++ codes " byte " ++ decimal byte ++ codes "\n") bad.0;
     }))
     c.complaint_due.ensures
+
+pub returns-in-Err-TooMuch : goal.returns-in-Err-TooMuch
+returns-in-Err-TooMuch c =
+    let fault = c.in-Err-TooMuch in
+    let said = ap (λ name. codes "limit " ++ name ++ codes " " ++ decimal c.limit.result ++ codes "\n") c.name.ensures
+    ∙ ap (λ number. codes "limit " ++ quantity_name fault.quantity ++ codes " " ++ decimal number ++ codes "\n") c.limit.ensures in
+    ok_then c.limit_due-in-Err-TooMuch.result _ (λ d. IsDue c.args.bytes.now d.status d.text.items)
+    (λ d is. subst (λ s. IsDue c.args.bytes.now s d.text.items) (sym is.0)
+    (limit_due c.args.bytes.now d.text.items fault.quantity (omega arith)
+    (λ same. fault.ensures.crowded (ap Err (fault.field-0-is ∙ ap TooMuch same)))
+    (λ same. fault.ensures.late (ap Err (fault.field-0-is ∙ ap TooMuch same)))
+    (is.1 ∙ said)))
+    c.limit_due-in-Err-TooMuch.ensures

@@ -1,23 +1,32 @@
-use Rattle.std.proofs.Common.{◌≡◌, ap, ◌∙◌, subst, List, ◌<◌, ◌^◌, length, arith}
+use Rattle.std.proofs.Common.{◌≡◌, sym, ap, ◌∙◌, subst, List, length}
+use Rattle.annex_base.specs.Lists.{Each}
 use Rattle.run_model.specs.declared.run.Run.{Run}
 use Rattle.run_model.specs.Thin.{IsThinRun}
 use Rattle.script_lang.specs.declared.command.Command.{Command}
 use Rattle.thin_driver.specs.Driver.{run_of}
 use Rattle.report_text.specs.Report.{report}
-use Rattle.thin_driver.proofs.ThinScripts.{thin_script}
+use Rattle.report_text.specs.Walk.{ShowsKnown}
 use Rattle.race_core.proofs.ThinFacts.{thin_safe}
 use Rattle.race_core.proofs.ThinCauses.{thin_causes}
-use Rattle.annex_cli.proofs.ShortLemmas.{script_is_short}
+use Rattle.annex_cli.proofs.ReportLemmas.{script_is_thin, thin_logged, script_shows_known}
 use Rattle.annex_cli.proofs.due.report_due.Goals as goal
+
+pub report-requires-clause-logged : goal.report-requires-clause-logged
+report-requires-clause-logged c =
+    let run_is = c.in_ok-run.ensures.exact ∙ ap run_of c.lines.ensures.same in
+    thin_logged c.in_ok-run.run' (script_is_thin c.args._bytes.now c.args.script.now c.in_ok-run.run' c.requires.short c.requires.script c.requires.program run_is c.in_ok-run.ensures.few)
+
+pub report-requires-clause-known : goal.report-requires-clause-known
+report-requires-clause-known c =
+    let run_is = c.in_ok-run.ensures.exact ∙ ap run_of c.lines.ensures.same in
+    subst (λ (lines : List Command). Each (ShowsKnown (length c.in_ok-run.run'.repos)) lines) (sym c.lines-2.ensures.same) (script_shows_known c.args.script.now c.in_ok-run.run' c.requires.program run_is)
 
 pub returns : goal.returns
 returns c =
     let script : List Command = c.args.script.now in
     let run_is : c.in_ok-run.run' ≡ run_of script = c.in_ok-run.ensures.exact ∙ ap run_of c.lines.ensures.same in
-    let short = script_is_short c.args._bytes.now script c.requires.short c.requires.script in
-    let few : length (run_of script).entries < 2 ^ 32 = subst (λ (run : Run). length run.entries < 2 ^ 32) run_is c.in_ok-run.ensures.few in
-    let small : length (run_of script).entries < 2 ^ 62 = omega arith in
-    let thin : IsThinRun (run_of script) = thin_script script c.requires.program short small in
+    let thin_run : IsThinRun c.in_ok-run.run' = script_is_thin c.args._bytes.now script c.in_ok-run.run' c.requires.short c.requires.script c.requires.program run_is c.in_ok-run.ensures.few in
+    let thin : IsThinRun (run_of script) = subst (λ (run : Run). IsThinRun run) run_is thin_run in
     record {
       short = c.requires.short;
       script = script;
