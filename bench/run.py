@@ -49,6 +49,25 @@ def shows(keys, count):
     return lines + ["show presence %s" % key(s % keys) for s in range(count)]
 
 
+def reads(lines_of_log, count):
+    """A log with so many lines, and so many drops that read it, and are refused for want of copies."""
+    lines = declare(2) + ["have %s %s text:abc" % (name(0), key(0)), "numcopies %s 9" % name(0)]
+    lines += ["log %s %s" % (name(0), line) for line in lines_of_log]
+    return lines + ["drop %s %s" % (name(0), key(0))] * count
+
+
+def identifier(number):
+    return "10000000-0000-4000-8000-%012d" % number
+
+
+def location_lines(number):
+    return ["location %s 1600000000s 1 %s" % (key(0), identifier(n)) for n in range(number)]
+
+
+def trust_lines(number):
+    return ["trust.log %s 0 timestamp=1600000000s" % identifier(n) for n in range(number)]
+
+
 def median_time(command, text=b""):
     times = []
     for _ in range(RUNS):
@@ -91,6 +110,11 @@ def main():
     table("keys, with 1,000 drops at 2 repositories", [(k, k, drops(2, k, 1000)) for k in (10, 100, 1000, 10000)])
     table("repositories, with 1,000 keys and 1,000 drops", [(r, r, drops(r, 1000, 1000)) for r in range(2, 9)])
     table("shows, of 1,000 keys", [(s, s, shows(1000, s)) for s in (10, 100, 1000, 10000)])
+    for lines_of, title in ((location_lines, "a location log"), (trust_lines, "the trust log")):
+        table(
+            "lines of %s, with 100 drops that read it" % title,
+            [(n, n, reads(lines_of(n), 100)) for n in (10, 100, 1000, 10000)],
+        )
     if not LOGS.exists():
         subprocess.run(["rt", "run"], cwd=LOGS.parent.parent, stdout=subprocess.DEVNULL, check=True)
     for work, title in (
