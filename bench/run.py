@@ -50,7 +50,7 @@ def shows(keys, count):
 
 
 def reads(lines_of_log, count):
-    """A log with so many lines, and so many drops that read it, and are refused for want of copies."""
+    """A log to which so many lines are added, and so many drops that read it, and are refused for want of copies."""
     lines = declare(2) + ["have %s %s text:abc" % (name(0), key(0)), "numcopies %s 9" % name(0)]
     lines += ["log %s %s" % (name(0), line) for line in lines_of_log]
     return lines + ["drop %s %s" % (name(0), key(0))] * count
@@ -111,10 +111,11 @@ def main():
     table("repositories, with 1,000 keys and 1,000 drops", [(r, r, drops(r, 1000, 1000)) for r in range(2, 9)])
     table("shows, of 1,000 keys", [(s, s, shows(1000, s)) for s in (10, 100, 1000, 10000)])
     for lines_of, title in ((location_lines, "a location log"), (trust_lines, "the trust log")):
-        table(
-            "lines of %s, with 100 drops that read it" % title,
-            [(n, n, reads(lines_of(n), 100)) for n in (10, 100, 1000, 10000)],
-        )
+        for count, drops_title in ((0, ""), (100, ", and 100 drops that read them")):
+            table(
+                "lines, added one by one to %s%s" % (title, drops_title),
+                [(n, n, reads(lines_of(n), count)) for n in (10, 100, 1000, 10000)],
+            )
     if not LOGS.exists():
         subprocess.run(["rt", "run"], cwd=LOGS.parent.parent, stdout=subprocess.DEVNULL, check=True)
     for work, title in (
