@@ -3,10 +3,10 @@ use Rattle.std.specs.Prelude.{◌≡◌, ◌⊎◌, ℕ, ◌<◌, ◌≤◌, Lis
 use Rattle.std.specs.declared.option.Option.{Option}
 use Rattle.std.specs.Io.KnownBytes.{append_known}
 use Rattle.std.specs.Fmt.{decimal}
-use Rattle.run_model.specs.declared.run.Run.{Run}
-use Rattle.run_model.specs.Safety.{IsSafe}
-use Rattle.run_model.specs.Thin.{IsThinRun}
-use Rattle.run_model.specs.Causes.{HasCauses}
+use Rattle.run_data.specs.declared.run.Run.{Run}
+use Rattle.thin_model.specs.Safety.{IsSafe}
+use Rattle.thin_model.specs.Thin.{IsThinRun}
+use Rattle.thin_model.specs.Causes.{HasCauses}
 use Rattle.script_lang.specs.declared.command.Command.{Command}
 use Rattle.script_lang.specs.Script.{IsScript, IsBadLine, IsCrowded, IsLate, most_repositories, most_time}
 use Rattle.thin_driver.specs.Driver.{run_of}

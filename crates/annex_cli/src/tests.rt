@@ -2,10 +2,10 @@
 
 use super::*;
 use annex_base::{OpenGate, SliceSource, VecSink};
-use race_core::is_safe_at;
 use script_lang::{Command, Script};
 use std::test::Fail;
 use thin_driver::run_script;
+use thin_laws::is_safe_at;
 
 mod logs;
 

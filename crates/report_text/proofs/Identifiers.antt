@@ -1,7 +1,7 @@
 -- The identifiers of the repositories of a run.
 use Rattle.std.proofs.Common.{◌≡◌, ℕ, zero, suc, ◌<◌, List, [], ◌∷◌, length, get_or, refl, arith}
-use Rattle.run_model.specs.declared.run.RepoView.{RepoView}
-use Rattle.run_model.specs.SetUp.{id_of}
+use Rattle.run_data.specs.declared.run.RepoView.{RepoView}
+use Rattle.run_data.specs.Repos.{id_of}
 
 -- that of the repository at a place
 pub id_at : (repos : List RepoView) (r : ℕ) (d : RepoView) → r < length repos → (get_or repos r d).id ≡ id_of repos r

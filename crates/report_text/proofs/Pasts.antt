@@ -2,12 +2,12 @@
 use Rattle.std.proofs.Common.{◌≡◌, ℕ, zero, suc, ◌+◌, ◌≤◌, ◌<◌, min, List, [], ◌∷◌, length, get_or, take, reverse, refl, sym, ◌∙◌, ap, arith, subst, inl, inr}
 use Rattle.std.proofs.lemmas.List.{take_all, take_more, reverse-append}
 use Rattle.std.proofs.lemmas.Bool.{cases_lt}
-use Rattle.run_model.specs.declared.run.Run.{Run}
-use Rattle.run_model.specs.declared.entry.Entry.{Entry}
+use Rattle.run_data.specs.declared.run.Run.{Run}
+use Rattle.run_data.specs.declared.entry.Entry.{Entry}
 use Rattle.annex_base.specs.Lists.{Each}
 use Rattle.report_text.specs.declared.walk.Walk.{Walk}
 use Rattle.report_text.specs.Walk.{Knows, StandsAt}
-use Rattle.run_model.specs.Safety.{past_at}
+use Rattle.thin_model.specs.Safety.{past_at}
 
 -- one more entry
 past_more : (run : Run) (place : ℕ) (e : Entry) → place < length run.entries → e ≡ get_or run.entries place e → past_at run (place + 1) ≡ e ∷ past_at run place

@@ -1,6 +1,6 @@
 -- The end of a report.
 use Rattle.std.proofs.Common.{◌≡◌, ◌⊎◌, ℕ, List, [], ◌∷◌, length, refl, inl, inr}
-use Rattle.run_model.specs.declared.run.Run.{Run}
+use Rattle.run_data.specs.declared.run.Run.{Run}
 use Rattle.script_lang.specs.declared.command.Command.{Command}
 use Rattle.report_text.specs.Report.{report_from, ended}
 

@@ -2,29 +2,29 @@
 use Rattle.std.specs.Prelude.{ℕ, ◌-◌, Bool, true, false, ◌==◌, List, [], ◌∷◌, ◌++◌, length, filter, map, codes, not, bytes_eq, Option, Some, None, slice_get, if◌then◌else◌}
 use Rattle.std.specs.List.{flat_map, range_with_len, list_any}
 use Rattle.std.specs.Fmt.{decimal}
-use Rattle.run_model.specs.declared.run.Run.{Run}
-use Rattle.run_model.specs.declared.run.RepoView.{RepoView}
-use Rattle.run_model.specs.declared.entry.Entry.{Entry}
-use Rattle.run_model.specs.declared.entry.EntryKind.{EntryKind}
-use Rattle.run_model.specs.declared.entry.EntryKind.TheVariants.{End}
-use Rattle.run_model.specs.declared.job.Job.{Job}
-use Rattle.run_model.specs.declared.job.JobKind.{JobKind}
-use Rattle.run_model.specs.declared.job.JobKind.TheVariants as kinds
-use Rattle.run_model.specs.declared.job.Proof.{Proof}
-use Rattle.run_model.specs.declared.job.Cause.{Cause}
-use Rattle.run_model.specs.declared.job.Cause.TheVariants as causes
-use Rattle.run_model.specs.declared.job.CandidateCause.{CandidateCause}
-use Rattle.run_model.specs.declared.job.Denial.{Denial}
-use Rattle.run_model.specs.declared.job.Denial.TheVariants as denials
-use Rattle.run_model.specs.declared.job.DropRefusal.{DropRefusal}
-use Rattle.run_model.specs.declared.job.DropRefusal.TheVariants as refusals
-use Rattle.run_model.specs.declared.job.TransferRefusal.{TransferRefusal}
-use Rattle.run_model.specs.declared.job.TransferRefusal.TheVariants as transfers
-use Rattle.run_model.specs.declared.job.SourceCause.{SourceCause}
-use Rattle.run_model.specs.declared.job.SourceCause.TheVariants as sources
-use Rattle.run_model.specs.declared.job.SourceFailure.{SourceFailure}
-use Rattle.run_model.specs.declared.job.Outcome.{Outcome}
-use Rattle.run_model.specs.declared.job.Outcome.TheVariants as outcomes
+use Rattle.run_data.specs.declared.run.Run.{Run}
+use Rattle.run_data.specs.declared.run.RepoView.{RepoView}
+use Rattle.run_data.specs.declared.entry.Entry.{Entry}
+use Rattle.run_data.specs.declared.entry.EntryKind.{EntryKind}
+use Rattle.run_data.specs.declared.entry.EntryKind.TheVariants.{End}
+use Rattle.run_data.specs.declared.job.Job.{Job}
+use Rattle.run_data.specs.declared.job.JobKind.{JobKind}
+use Rattle.run_data.specs.declared.job.JobKind.TheVariants as kinds
+use Rattle.run_data.specs.declared.job.Proof.{Proof}
+use Rattle.run_data.specs.declared.job.Cause.{Cause}
+use Rattle.run_data.specs.declared.job.Cause.TheVariants as causes
+use Rattle.run_data.specs.declared.job.CandidateCause.{CandidateCause}
+use Rattle.run_data.specs.declared.job.Denial.{Denial}
+use Rattle.run_data.specs.declared.job.Denial.TheVariants as denials
+use Rattle.run_data.specs.declared.job.DropRefusal.{DropRefusal}
+use Rattle.run_data.specs.declared.job.DropRefusal.TheVariants as refusals
+use Rattle.run_data.specs.declared.job.TransferRefusal.{TransferRefusal}
+use Rattle.run_data.specs.declared.job.TransferRefusal.TheVariants as transfers
+use Rattle.run_data.specs.declared.job.SourceCause.{SourceCause}
+use Rattle.run_data.specs.declared.job.SourceCause.TheVariants as sources
+use Rattle.run_data.specs.declared.job.SourceFailure.{SourceFailure}
+use Rattle.run_data.specs.declared.job.Outcome.{Outcome}
+use Rattle.run_data.specs.declared.job.Outcome.TheVariants as outcomes
 use Rattle.annex_base.specs.RepoText.{repo_text}
 use Rattle.annex_base.specs.Settings.{Settings}
 use Rattle.annex_base.specs.declared.kinds.Level.{Level}
@@ -32,10 +32,10 @@ use Rattle.annex_base.specs.declared.kinds.Level.TheVariants as levels
 use Rattle.union_merge.specs.LineSet.{text_of}
 use Rattle.union_merge.specs.Branch.{Files, lines_at}
 use Rattle.trust_groups.specs.Settings.{settings, location_path}
-use Rattle.run_model.specs.SetUp.{id_of}
-use Rattle.run_model.specs.Logs.{branch, file_path}
-use Rattle.run_model.specs.Past.{begun_job, present}
-use Rattle.run_model.specs.Safety.{past_at}
+use Rattle.run_data.specs.Repos.{id_of}
+use Rattle.thin_model.specs.Logs.{branch, file_path}
+use Rattle.thin_model.specs.Past.{begun_job, present}
+use Rattle.thin_model.specs.Safety.{past_at}
 use Rattle.script_lang.specs.declared.command.Command.{Command}
 use Rattle.script_lang.specs.declared.command.Command.TheVariants as commands
 

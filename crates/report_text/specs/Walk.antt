@@ -2,11 +2,11 @@
 use Rattle.std.specs.Prelude.{◌≡◌, ℕ, ◌<◌, List, length, Option, Some, None}
 use Rattle.annex_base.specs.Lists.{Each}
 use Rattle.union_merge.specs.LineSet.{IsLine}
-use Rattle.run_model.specs.declared.entry.Entry.{Entry}
-use Rattle.run_model.specs.declared.run.Run.{Run}
-use Rattle.run_model.specs.Branches.{HasBranches, LogsToPath}
-use Rattle.run_model.specs.Contents.{Tracks}
-use Rattle.run_model.specs.Safety.{past_at}
+use Rattle.run_data.specs.declared.entry.Entry.{Entry}
+use Rattle.run_data.specs.declared.run.Run.{Run}
+use Rattle.thin_model.specs.Branches.{HasBranches, LogsToPath}
+use Rattle.thin_model.specs.Contents.{Tracks}
+use Rattle.thin_model.specs.Safety.{past_at}
 use Rattle.script_lang.specs.declared.command.Command.{Command}
 use Rattle.script_lang.specs.declared.command.Command.TheVariants as commands
 use Rattle.report_text.specs.declared.walk.Walk.{Walk}

@@ -2,7 +2,7 @@ ghost use Rattle.std.specs.Prelude.{◌≡◌, ◌++◌, ◌∷◌, OnOk, option
 ghost use Rattle.report_text.specs.Report.{kind_text, way_text, peer_text, key_text, quoted, job_text, begun_text};
 
 use crate::words::{put_name, put_quoted};
-use run_model::{Job, JobKind, RepoView};
+use run_data::{Job, JobKind, RepoView};
 use std::alloc::AllocError;
 
 /// Adds the line of a job as a script says it, with one space between its words.

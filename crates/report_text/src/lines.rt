@@ -1,12 +1,12 @@
 ghost use Rattle.std.specs.Prelude.{◌≡◌, ◌++◌, OnOk, IsNone, IfSome, Option, Some, reverse, option_copied};
-ghost use Rattle.run_model.specs.declared.job.Job.{Job};
-ghost use Rattle.run_model.specs.Past.{begun_job};
+ghost use Rattle.run_data.specs.declared.job.Job.{Job};
+ghost use Rattle.thin_model.specs.Past.{begun_job};
 ghost use Rattle.report_text.specs.Report.{end_line, entry_line, ended};
 ghost use Rattle.report_text.specs.Begun.{begun_after};
 
 use crate::job::put_begun;
 use crate::outcome::put_outcome;
-use run_model::{Entry, EntryKind, Job, Outcome, RepoView, Run};
+use run_data::{Entry, EntryKind, Job, Outcome, RepoView, Run};
 use std::alloc::AllocError;
 
 /// Adds the lines of the entries from one place of a run up to another: one for each job that ends.

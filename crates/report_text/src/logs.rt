@@ -3,15 +3,16 @@ ghost use Rattle.std.specs.List.{flat_map};
 ghost use Rattle.union_merge.specs.Branch.{lines_at};
 ghost use Rattle.union_merge.specs.LineSet.{text_of};
 ghost use Rattle.trust_groups.specs.Settings.{claims, location_path};
-ghost use Rattle.run_model.specs.Logs.{file_path};
+ghost use Rattle.thin_model.specs.Logs.{file_path};
 ghost use Rattle.report_text.specs.Report.{lines_text, log_text, location_text, claims_text};
 
 use crate::named::{named, put_joined};
 use crate::words::{put_name, put_quoted};
 use annex_base::{Line, NoMemory, put_number};
 use annex_key::Key;
-use run_model::{LogFile, Run, file_path};
+use run_data::{LogFile, Run};
 use std::alloc::AllocError;
+use thin_model::file_path;
 use trust_groups::{Levels, claims_of, location_path};
 use union_merge::{Branch, LineSet};
 

@@ -4,7 +4,7 @@ ghost use Rattle.annex_base.specs.RepoText.{repo_text};
 ghost use Rattle.report_text.specs.Report.{joined, named};
 
 use annex_base::{NoMemory, RepoId, Text};
-use run_model::RepoView;
+use run_data::RepoView;
 use std::alloc::{AllocError, Global};
 
 /// Whether the repository is among the identifiers.

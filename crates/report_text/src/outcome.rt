@@ -6,7 +6,7 @@ use crate::refusal::put_refusal;
 use crate::transfer::put_transfer;
 use crate::words::put_name;
 use annex_base::put_number;
-use run_model::{Job, JobKind, Outcome, RepoView};
+use run_data::{Job, JobKind, Outcome, RepoView};
 use std::alloc::AllocError;
 
 /// Adds what follows the job in the line of its end.

@@ -3,7 +3,7 @@ ghost use Rattle.report_text.specs.Report.{proof_text};
 
 use crate::words::put_names;
 use annex_base::put_number;
-use run_model::{Proof, RepoView};
+use run_data::{Proof, RepoView};
 use std::alloc::AllocError;
 
 /// Adds the need and the evidence of a drop.

@@ -6,7 +6,7 @@ ghost use Rattle.report_text.specs.Report.{joined, proof_text, cause_text, candi
 use crate::proof::put_proof;
 use crate::words::put_name;
 use annex_base::put_number;
-use run_model::{CandidateCause, Cause, Denial, DropRefusal, Proof, RepoView};
+use run_data::{CandidateCause, Cause, Denial, DropRefusal, Proof, RepoView};
 use std::alloc::AllocError;
 
 /// Adds the number of a drop's refusal, and its reason.

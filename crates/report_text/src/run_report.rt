@@ -7,7 +7,7 @@ use crate::lines::put_ended;
 use crate::shown::put_shown;
 use crate::walk::Walk;
 use annex_base::NoMemory;
-use run_model::Run;
+use run_data::Run;
 use script_lang::Command;
 use std::alloc::Global;
 

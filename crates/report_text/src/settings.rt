@@ -1,13 +1,13 @@
 ghost use Rattle.std.specs.Prelude.{◌≡◌, ◌++◌, ◌<◌, length, IfOk, OnOk};
 ghost use Rattle.union_merge.specs.Branch.{lines_at};
 ghost use Rattle.trust_groups.specs.Settings.{level, settings};
-ghost use Rattle.run_model.specs.SetUp.{id_of};
+ghost use Rattle.run_data.specs.Repos.{id_of};
 ghost use Rattle.report_text.specs.Report.{level_text, numbers_text, trust_text};
 
 use crate::named::put_joined;
 use crate::words::put_name;
 use annex_base::{Level, NoMemory, RepoId, put_number};
-use run_model::{RepoView, Run};
+use run_data::{RepoView, Run};
 use std::alloc::Global;
 use trust_groups::{Levels, groups_of, mincopies_of, numcopies_of};
 use union_merge::Branch;

@@ -1,8 +1,8 @@
 ghost use Rattle.std.specs.Prelude.{◌≡◌, ◌++◌, ℕ, List, [], ◌∷◌, OnOk, IfOk, Some, length, filter, codes};
 ghost use Rattle.std.specs.List.{range_with_len};
-ghost use Rattle.run_model.specs.declared.entry.Entry.{Entry};
-ghost use Rattle.run_model.specs.Contents.{Tracks};
-ghost use Rattle.run_model.specs.Past.{present};
+ghost use Rattle.run_data.specs.declared.entry.Entry.{Entry};
+ghost use Rattle.thin_model.specs.Contents.{Tracks};
+ghost use Rattle.thin_model.specs.Past.{present};
 ghost use Rattle.report_text.specs.Report.{branch_at, name_of, quoted, joined, shown};
 ghost use Rattle.annex_base.specs.Lists.{Each};
 ghost use Rattle.report_text.specs.Walk.{IsLogged, ShowsKnown, StandsIn, shown_repo};
@@ -13,9 +13,10 @@ use crate::walk::Walk;
 use crate::words::{put_names, put_quoted};
 use annex_base::NoMemory;
 use annex_key::Key;
-use run_model::{Contents, RepoView, Run};
+use run_data::{RepoView, Run};
 use script_lang::Command;
 use std::alloc::Global;
+use thin_model::Contents;
 use union_merge::Branch;
 
 /// Adds what a line of a script shows at a place of the run.

@@ -1,6 +1,6 @@
 ghost use Rattle.std.specs.Prelude.{◌≡◌, IfOk, OnOk, length};
 ghost use Rattle.annex_base.specs.Lists.{Each};
-ghost use Rattle.run_model.specs.Branches.{HasPath, LogsToPath};
+ghost use Rattle.thin_model.specs.Branches.{HasPath, LogsToPath};
 ghost use Rattle.report_text.specs.Walk.{IsLogged, ShowsKnown};
 ghost use Rattle.union_merge.specs.LineSet.{IsLine};
 
@@ -8,7 +8,7 @@ use super::*;
 use annex_base::{Items, Line, NoMemory, RepoId, Text};
 use annex_key::Key;
 use drop_proof::Need;
-use run_model::{
+use run_data::{
     By, CandidateCause, Cause, Denial, DropRefusal, Entry, EntryKind, Job, JobKind, LogFile,
     Outcome, Proof, RepoView, Run, SourceCause, SourceFailure, TransferRefusal,
 };

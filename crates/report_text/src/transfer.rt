@@ -3,7 +3,7 @@ ghost use Rattle.std.specs.List.{flat_map};
 ghost use Rattle.report_text.specs.Report.{joined, source_text, failure_text, transfer_text};
 
 use crate::words::put_name;
-use run_model::{RepoView, SourceCause, SourceFailure, TransferRefusal};
+use run_data::{RepoView, SourceCause, SourceFailure, TransferRefusal};
 use std::alloc::AllocError;
 
 /// Adds the number of a transfer's refusal, and its reason.

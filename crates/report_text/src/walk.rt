@@ -1,15 +1,16 @@
 ghost use Rattle.std.specs.Prelude.{◌≡◌, ◌≤◌, ◌<◌, ◌∷◌, ℕ, List, OnOk, IfOk, Some, length};
 ghost use Rattle.std.specs.Option.{option_copied};
 ghost use Rattle.annex_base.specs.Lists.{Each};
-ghost use Rattle.run_model.specs.Logs.{branch};
-ghost use Rattle.run_model.specs.declared.entry.Entry.{Entry};
-ghost use Rattle.run_model.specs.declared.run.Run.{Run};
-ghost use Rattle.run_model.specs.Safety.{past_at};
+ghost use Rattle.thin_model.specs.Logs.{branch};
+ghost use Rattle.run_data.specs.declared.entry.Entry.{Entry};
+ghost use Rattle.run_data.specs.declared.run.Run.{Run};
+ghost use Rattle.thin_model.specs.Safety.{past_at};
 ghost use Rattle.report_text.specs.Walk.{IsLogged, Knows, StandsIn, StandsAt};
 
 use annex_base::NoMemory;
-use run_model::{Branches, Contents, Entry, Run};
+use run_data::{Entry, Run};
 use std::alloc::Global;
+use thin_model::{Branches, Contents};
 use union_merge::Branch;
 
 /// A place of a run, which repositories have which keys there, and their branches.

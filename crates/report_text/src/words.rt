@@ -2,7 +2,7 @@ ghost use Rattle.std.specs.Prelude.{◌≡◌, ◌++◌, ◌∷◌, ◌==◌, On
 ghost use Rattle.std.specs.List.{flat_map, list_any};
 ghost use Rattle.report_text.specs.Report.{name_of, quoted, joined};
 
-use run_model::RepoView;
+use run_data::RepoView;
 use std::alloc::AllocError;
 
 /// Adds the name of a repository; nothing where there is none of this number.

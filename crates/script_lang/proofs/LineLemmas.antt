@@ -4,7 +4,7 @@ use Rattle.std.proofs.lemmas.Bool.{eqb-false}
 use Rattle.std.proofs.lemmas.List.{append-nil, length-append}
 use Rattle.annex_base.specs.RepoText.{repo_text}
 use Rattle.annex_base.specs.declared.memory.NoMemory.{NoMemory}
-use Rattle.run_model.specs.declared.entry.LogFile.TheVariants.{Location, Named}
+use Rattle.run_data.specs.declared.entry.LogFile.TheVariants.{Location, Named}
 use Rattle.script_lang.specs.declared.command.Command.{Command}
 use Rattle.script_lang.specs.declared.command.Command.TheVariants.{Repo, Describe, Group, Log, Compact, Wait}
 use Rattle.script_lang.specs.declared.verb.RestVerb.{RestVerb}

@@ -11,10 +11,10 @@ use Rattle.annex_base.specs.declared.kinds.Level.TheVariants as levels
 use Rattle.annex_base.proofs.RepoLemmas.{one_id, parsed-repo_text}
 use Rattle.annex_base.proofs.DecimalLemmas.{number_is}
 use Rattle.annex_base.specs.Decimal.{number_of}
-use Rattle.run_model.specs.declared.entry.LogFile.{LogFile}
-use Rattle.run_model.specs.declared.entry.LogFile.TheVariants.{Location, Named}
-use Rattle.run_model.specs.declared.job.Job.{Job}
-use Rattle.run_model.specs.declared.job.JobKind.{JobKind}
+use Rattle.run_data.specs.declared.entry.LogFile.{LogFile}
+use Rattle.run_data.specs.declared.entry.LogFile.TheVariants.{Location, Named}
+use Rattle.run_data.specs.declared.job.Job.{Job}
+use Rattle.run_data.specs.declared.job.JobKind.{JobKind}
 use Rattle.script_lang.specs.declared.command.Command.{Command}
 use Rattle.script_lang.specs.declared.command.Command.TheVariants.{Repo, Have, Numcopies, Mincopies, Trust, Describe, Group, Log, Run, Merge, Compact, Wait, ShowPresence, ShowClaims, ShowLocation, ShowLog, ShowLogs, ShowNumbers, ShowLevel}
 use Rattle.script_lang.specs.Words.{space, quote, IsPlain, Spells, Begins, SpellsFront}

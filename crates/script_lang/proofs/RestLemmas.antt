@@ -4,8 +4,8 @@ use Rattle.std.specs.List.{list_all}
 use Rattle.std.proofs.lemmas.Bool.{eqb-false, true≢false}
 use Rattle.std.proofs.lemmas.List.Folds.{list_all-map}
 use Rattle.log_lines.specs.LineText.{is_group}
-use Rattle.run_model.specs.declared.entry.LogFile.{LogFile}
-use Rattle.run_model.specs.declared.entry.LogFile.TheVariants.{Location, Named}
+use Rattle.run_data.specs.declared.entry.LogFile.{LogFile}
+use Rattle.run_data.specs.declared.entry.LogFile.TheVariants.{Location, Named}
 use Rattle.script_lang.specs.declared.command.Command.{Command}
 use Rattle.script_lang.specs.declared.command.Command.TheVariants.{Describe, Group, Log}
 use Rattle.script_lang.specs.Words.{space, Spells, SpellsFront}

@@ -8,11 +8,11 @@ use Rattle.annex_base.specs.declared.kinds.Level.TheVariants as levels
 use Rattle.annex_key.specs.KeyText.{IsKeyText, is_digest_backend}
 use Rattle.annex_key.specs.View.{backend_part, size_part}
 use Rattle.log_lines.specs.LineText.{is_group}
-use Rattle.run_model.specs.Thin.{fits_size}
-use Rattle.run_model.specs.declared.entry.LogFile.{LogFile}
-use Rattle.run_model.specs.declared.entry.LogFile.TheVariants.{Location, Named}
-use Rattle.run_model.specs.declared.job.Job.{Job}
-use Rattle.run_model.specs.declared.job.JobKind.TheVariants.{Drop}
+use Rattle.run_data.specs.Repos.{fits_size}
+use Rattle.run_data.specs.declared.entry.LogFile.{LogFile}
+use Rattle.run_data.specs.declared.entry.LogFile.TheVariants.{Location, Named}
+use Rattle.run_data.specs.declared.job.Job.{Job}
+use Rattle.run_data.specs.declared.job.JobKind.TheVariants.{Drop}
 use Rattle.script_lang.specs.declared.command.Command.{Command}
 use Rattle.script_lang.specs.declared.command.Command.TheVariants.{Repo, Have, Numcopies, Mincopies, Trust, Describe, Group, Log, Run, Merge, Compact, Wait, ShowPresence, ShowClaims, ShowLocation, ShowLog, ShowLogs, ShowNumbers, ShowLevel}
 use Rattle.script_lang.specs.Words.{space, Spells, SpellsFront}

@@ -8,7 +8,7 @@ use crate::command::Command;
 use crate::fields::{is_content_of, is_word, read_key, read_milliseconds, read_text};
 use crate::repository::{Repository, find_repository, find_two};
 use annex_base::{NoMemory, Text};
-use run_model::{Job, JobKind};
+use run_data::{Job, JobKind};
 use std::alloc::Global;
 
 /// `have REPO KEY text:BYTES`

@@ -3,7 +3,7 @@ ghost use Rattle.std.specs.Prelude.{◌≡◌, IfOk};
 use annex_base::{Level, Line, NoMemory, RepoId, Text};
 use annex_key::Key;
 use log_lines::GroupList;
-use run_model::{Job, LogFile};
+use run_data::{Job, LogFile};
 
 /// A line of a script. A repository is named by its number, in order of the `repo` lines from 0.
 #[derive(Debug, Drop)]

@@ -7,7 +7,7 @@ ghost use Rattle.script_lang.specs.Reading.{Found, Finds};
 
 use annex_base::{Level, NoMemory, Text, parse_decimal};
 use annex_key::{Key, KeyFault};
-use run_model::LogFile;
+use run_data::LogFile;
 use std::alloc::Global;
 
 const GREATEST_NUMBER: u64 = 999_999_999;

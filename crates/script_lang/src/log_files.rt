@@ -9,7 +9,7 @@ use crate::fields::{is_word, read_key, read_log_file};
 use crate::repository::{Repository, find_repository};
 use crate::words::{first_word, raw_text};
 use annex_base::{Line, NoMemory};
-use run_model::LogFile;
+use run_data::LogFile;
 use std::alloc::Global;
 
 /// The raw line behind the one space that follows a word, which isn't empty.

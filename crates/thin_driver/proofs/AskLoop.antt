@@ -10,14 +10,14 @@ use Rattle.drop_proof.specs.declared.evidence.Evidence.{Evidence}
 use Rattle.drop_proof.specs.declared.evidence.Kind.{Kind}
 use Rattle.drop_proof.specs.Judging.{is_enough}
 use Rattle.std.specs.declared.result.Result.{Result}
-use Rattle.run_model.specs.declared.job.Cause.{Cause}
+use Rattle.run_data.specs.declared.job.Cause.{Cause}
 use Rattle.annex_base.specs.Lists.{Each}
-use Rattle.run_model.specs.declared.entry.Entry.{Entry}
-use Rattle.run_model.specs.declared.job.CandidateCause.{CandidateCause}
-use Rattle.run_model.specs.declared.run.RepoView.{RepoView}
-use Rattle.run_model.specs.SetUp.{offset_of}
-use Rattle.run_model.specs.Past.{holds, now, present}
-use Rattle.run_model.specs.Drops.{candidates}
+use Rattle.run_data.specs.declared.entry.Entry.{Entry}
+use Rattle.run_data.specs.declared.job.CandidateCause.{CandidateCause}
+use Rattle.run_data.specs.declared.run.RepoView.{RepoView}
+use Rattle.run_data.specs.Repos.{offset_of}
+use Rattle.thin_model.specs.Past.{holds, now, present}
+use Rattle.thin_model.specs.Drops.{candidates}
 use Rattle.thin_driver.specs.declared.driver.Driver.{Driver}
 use Rattle.thin_driver.specs.declared.reading.Standing.{Standing}
 use Rattle.thin_driver.specs.declared.reading.Standing.TheVariants.{Asked}

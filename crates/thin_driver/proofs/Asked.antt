@@ -11,19 +11,19 @@ use Rattle.drop_proof.specs.declared.evidence.Evidence.{Evidence}
 use Rattle.drop_proof.specs.Judging.{is_enough}
 use Rattle.annex_base.specs.declared.kinds.Found.TheVariants.{Absent as found_absent}
 use Rattle.annex_base.specs.Lists.{Each}
-use Rattle.run_model.specs.declared.entry.Entry.{Entry}
-use Rattle.run_model.specs.declared.entry.EntryKind.{EntryKind}
-use Rattle.run_model.specs.declared.entry.EntryKind.TheVariants.{Share, Check}
-use Rattle.run_model.specs.declared.entry.By.TheVariants.{Peer}
-use Rattle.run_model.specs.declared.job.Cause.{Cause}
-use Rattle.run_model.specs.declared.job.Cause.TheVariants.{Absent}
-use Rattle.run_model.specs.declared.job.CandidateCause.{CandidateCause}
-use Rattle.run_model.specs.declared.run.RepoView.{RepoView}
-use Rattle.run_model.specs.SetUp.{offset_of}
-use Rattle.run_model.specs.Past.{Decision, clock, decided, holds, made, now, present}
-use Rattle.run_model.specs.Drops.{Vouch, Lock, gather, pick, failures, asked, offer, reply, why, cause_by, told_cause, candidates, causes, waits, is_waiting, reached}
-use Rattle.run_model.specs.Drops.{Standing as Seen, Claimed as seen_claimed, Ignored as seen_ignored, Asked as seen_asked, standing}
-use Rattle.run_model.proofs.Reading.{standing-kept}
+use Rattle.run_data.specs.declared.entry.Entry.{Entry}
+use Rattle.run_data.specs.declared.entry.EntryKind.{EntryKind}
+use Rattle.run_data.specs.declared.entry.EntryKind.TheVariants.{Share, Check}
+use Rattle.run_data.specs.declared.entry.By.TheVariants.{Peer}
+use Rattle.run_data.specs.declared.job.Cause.{Cause}
+use Rattle.run_data.specs.declared.job.Cause.TheVariants.{Absent}
+use Rattle.run_data.specs.declared.job.CandidateCause.{CandidateCause}
+use Rattle.run_data.specs.declared.run.RepoView.{RepoView}
+use Rattle.run_data.specs.Repos.{offset_of}
+use Rattle.thin_model.specs.Past.{Decision, clock, decided, holds, made, now, present}
+use Rattle.thin_model.specs.Drops.{Vouch, Lock, gather, pick, failures, asked, offer, reply, why, cause_by, told_cause, candidates, causes, waits, is_waiting, reached}
+use Rattle.thin_model.specs.Drops.{Standing as Seen, Claimed as seen_claimed, Ignored as seen_ignored, Asked as seen_asked, standing}
+use Rattle.thin_model.proofs.Reading.{standing-kept}
 use Rattle.thin_driver.specs.declared.driver.Driver.{Driver}
 use Rattle.thin_driver.specs.declared.reading.Standing.{Standing}
 use Rattle.thin_driver.specs.declared.reading.Standing.TheVariants.{Claimed, Ignored, Asked}

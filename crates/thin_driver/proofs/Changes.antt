@@ -2,21 +2,21 @@
 use Rattle.std.proofs.Common.{◌≡◌, ◌≢◌, ◌⊎◌, ℕ, zero, ◌+◌, ◌≤◌, ◌<◌, Bool, true, false, eqb, ◌==◌, ◌&&◌, List, [], ◌∷◌, length, Option, Some, None, inl, inr, refl, sym, ap, ◌∙◌, subst, arith}
 use Rattle.std.specs.Prelude.{if◌then◌else◌}
 use Rattle.std.proofs.lemmas.Bool.Decides.{eqb_tells}
-use Rattle.run_model.specs.declared.entry.Entry.{Entry}
-use Rattle.run_model.specs.declared.entry.EntryKind.{EntryKind}
-use Rattle.run_model.specs.declared.entry.EntryKind.TheVariants.{Begin, Share, Check, Bar}
-use Rattle.run_model.specs.declared.entry.By.TheVariants.{Peer}
-use Rattle.run_model.specs.declared.job.Job.{Job}
-use Rattle.run_model.specs.declared.job.Cause.{Cause}
-use Rattle.run_model.specs.declared.job.Cause.TheVariants.{Absent}
+use Rattle.run_data.specs.declared.entry.Entry.{Entry}
+use Rattle.run_data.specs.declared.entry.EntryKind.{EntryKind}
+use Rattle.run_data.specs.declared.entry.EntryKind.TheVariants.{Begin, Share, Check, Bar}
+use Rattle.run_data.specs.declared.entry.By.TheVariants.{Peer}
+use Rattle.run_data.specs.declared.job.Job.{Job}
+use Rattle.run_data.specs.declared.job.Cause.{Cause}
+use Rattle.run_data.specs.declared.job.Cause.TheVariants.{Absent}
 use Rattle.annex_base.specs.declared.kinds.Found.TheVariants.{Absent as found_absent}
 use Rattle.drop_proof.specs.declared.rule.Need.{Need}
-use Rattle.run_model.specs.declared.run.RepoView.{RepoView}
-use Rattle.run_model.specs.SetUp.{id_of}
-use Rattle.run_model.specs.Past.{Running, begun, begun_job, jobs, jobs_after, holds, holds_after, is_begin, now, runs, decided, decided_after, Decision}
-use Rattle.run_model.specs.Logs.{before_step, first_of, is_step, settings_of}
-use Rattle.run_model.specs.Drops.{Vouch, Lock, asker_kind, vouch_kind, reply, newer, told_cause, newer_cause, cause_of_kind, standing, standing_by, key_in}
-use Rattle.run_model.proofs.Reading.{read_at-step}
+use Rattle.run_data.specs.declared.run.RepoView.{RepoView}
+use Rattle.run_data.specs.Repos.{id_of}
+use Rattle.thin_model.specs.Past.{Running, begun, begun_job, jobs, jobs_after, holds, holds_after, is_begin, now, runs, decided, decided_after, Decision}
+use Rattle.thin_model.specs.Logs.{before_step, first_of, is_step, settings_of}
+use Rattle.thin_model.specs.Drops.{Vouch, Lock, asker_kind, vouch_kind, reply, newer, told_cause, newer_cause, cause_of_kind, standing, standing_by, key_in}
+use Rattle.thin_model.proofs.Reading.{read_at-step}
 use Rattle.thin_driver.specs.Driver.{added, waited}
 use Rattle.thin_driver.specs.State.{IsFresh}
 

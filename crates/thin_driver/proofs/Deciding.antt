@@ -9,17 +9,17 @@ use Rattle.drop_proof.specs.declared.rule.Side.TheVariants.{Local}
 use Rattle.drop_proof.specs.declared.evidence.Evidence.{Evidence}
 use Rattle.drop_proof.specs.Judging.{is_enough}
 use Rattle.log_lines.specs.declared.entry.Value.TheVariants as values
-use Rattle.run_model.specs.declared.entry.Entry.{Entry}
-use Rattle.run_model.specs.declared.entry.EntryKind.TheVariants.{Begin, Bar, Gone, End}
-use Rattle.run_model.specs.declared.entry.By.TheVariants.{Job as by_job}
-use Rattle.run_model.specs.declared.job.CandidateCause.{CandidateCause}
-use Rattle.run_model.specs.declared.job.DropRefusal.TheVariants.{Lacking, NotPresent}
-use Rattle.run_model.specs.declared.job.Job.{Job}
-use Rattle.run_model.specs.declared.job.Outcome.TheVariants.{Dropped, Refused}
-use Rattle.run_model.specs.declared.job.Proof.{Proof}
-use Rattle.run_model.specs.declared.run.RepoView.{RepoView}
-use Rattle.run_model.specs.Past.{begun, holds, present}
-use Rattle.run_model.specs.Drops.{candidates, causes, proof_of}
+use Rattle.run_data.specs.declared.entry.Entry.{Entry}
+use Rattle.run_data.specs.declared.entry.EntryKind.TheVariants.{Begin, Bar, Gone, End}
+use Rattle.run_data.specs.declared.entry.By.TheVariants.{Job as by_job}
+use Rattle.run_data.specs.declared.job.CandidateCause.{CandidateCause}
+use Rattle.run_data.specs.declared.job.DropRefusal.TheVariants.{Lacking, NotPresent}
+use Rattle.run_data.specs.declared.job.Job.{Job}
+use Rattle.run_data.specs.declared.job.Outcome.TheVariants.{Dropped, Refused}
+use Rattle.run_data.specs.declared.job.Proof.{Proof}
+use Rattle.run_data.specs.declared.run.RepoView.{RepoView}
+use Rattle.thin_model.specs.Past.{begun, holds, present}
+use Rattle.thin_model.specs.Drops.{candidates, causes, proof_of}
 use Rattle.thin_driver.specs.declared.driver.Driver.{Driver}
 use Rattle.thin_driver.specs.declared.reading.Reading.{Reading}
 use Rattle.thin_driver.specs.Driver.{added, ask, decide, drop_by, drop_there, items, log_status, release, release_at}

@@ -10,10 +10,10 @@ use Rattle.drop_proof.specs.declared.rule.Side.TheVariants.{Local}
 use Rattle.drop_proof.specs.declared.evidence.Evidence.{Evidence}
 use Rattle.drop_proof.specs.Judging.{is_enough}
 use Rattle.annex_base.specs.Lists.{Each}
-use Rattle.run_model.specs.declared.job.Cause.{Cause}
-use Rattle.run_model.specs.declared.job.CandidateCause.{CandidateCause}
+use Rattle.run_data.specs.declared.job.Cause.{Cause}
+use Rattle.run_data.specs.declared.job.CandidateCause.{CandidateCause}
 use Rattle.thin_driver.proofs.Logging.{Each-filter}
-use Rattle.run_model.specs.Drops.{Offer, Gives, Fails, gather, pick, failures, reached, candidates}
+use Rattle.thin_model.specs.Drops.{Offer, Gives, Fails, gather, pick, failures, reached, candidates}
 
 -- ---- lists
 

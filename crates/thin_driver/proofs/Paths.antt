@@ -7,10 +7,10 @@ use Rattle.log_lines.specs.declared.entry.LogKind.{LogKind}
 use Rattle.log_lines.specs.declared.entry.LogKind.TheVariants as kinds
 use Rattle.union_merge.specs.LineSet.{IsLine}
 use Rattle.trust_groups.specs.Settings.{file_name}
-use Rattle.run_model.specs.declared.entry.LogFile.{LogFile}
-use Rattle.run_model.specs.declared.entry.LogFile.TheVariants.{Location, Named}
-use Rattle.run_model.specs.Branches.{HasPath}
-use Rattle.run_model.specs.Logs.{kind_named, kind_of, named_kinds}
+use Rattle.run_data.specs.declared.entry.LogFile.{LogFile}
+use Rattle.run_data.specs.declared.entry.LogFile.TheVariants.{Location, Named}
+use Rattle.thin_model.specs.Branches.{HasPath}
+use Rattle.thin_model.specs.Logs.{kind_named, kind_of, named_kinds}
 use Rattle.thin_driver.proofs.ThinLines.{line_is}
 
 known_first : (k : LogKind) (rest : Option LogKind) (name : List ℕ) (b : Bool) → bytes_eq (file_name k) name ≡ b → IsLine (file_name k) → (rest ≢ None → IsLine name)

@@ -5,13 +5,13 @@ use Rattle.std.proofs.lemmas.List.{take_more, map-append, length-map}
 use Rattle.annex_base.specs.Settings.{Settings}
 use Rattle.drop_proof.specs.declared.rule.Need.{Need}
 use Rattle.trust_groups.specs.Settings.{settings}
-use Rattle.run_model.specs.declared.entry.Entry.{Entry}
-use Rattle.run_model.specs.declared.run.RepoView.{RepoView}
-use Rattle.run_model.specs.SetUp.{id_of}
-use Rattle.run_model.specs.Past.{begun_job}
-use Rattle.run_model.specs.Logs.{before_step, kept, read_at, settings_of}
-use Rattle.run_model.specs.Drops.{Standing as Seen, key_in, standing, standing_by}
-use Rattle.run_model.proofs.LogLemmas.{kept_reads_as_ever}
+use Rattle.run_data.specs.declared.entry.Entry.{Entry}
+use Rattle.run_data.specs.declared.run.RepoView.{RepoView}
+use Rattle.run_data.specs.Repos.{id_of}
+use Rattle.thin_model.specs.Past.{begun_job}
+use Rattle.thin_model.specs.Logs.{before_step, kept, read_at, settings_of}
+use Rattle.thin_model.specs.Drops.{Standing as Seen, key_in, standing, standing_by}
+use Rattle.thin_model.proofs.LogLemmas.{kept_reads_as_ever}
 use Rattle.thin_driver.specs.declared.reading.Reading.{Reading}
 use Rattle.thin_driver.specs.declared.reading.Standing.{Standing}
 use Rattle.thin_driver.specs.Reading.{HasRead, seen_as, seen_at}

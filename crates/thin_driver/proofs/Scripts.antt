@@ -4,15 +4,15 @@ use Rattle.std.proofs.lemmas.Bool.{cases_lt}
 use Rattle.std.proofs.lemmas.List.{get_or-replicate, get_or_past, length-replicate, take_more, drop_more, take-append-drop, append-nil, reverse-append, length-reverse, map-append, length-map}
 use Rattle.std.proofs.Math.ListN.{drop_of_length-le}
 use Rattle.annex_base.specs.Lists.{Each}
-use Rattle.run_model.specs.declared.entry.Entry.{Entry}
-use Rattle.run_model.specs.declared.entry.EntryKind.TheVariants.{Gain}
-use Rattle.run_model.specs.declared.entry.By.TheVariants.{Script}
-use Rattle.run_model.specs.declared.run.RepoView.{RepoView}
-use Rattle.run_model.specs.declared.run.Run.{Run}
-use Rattle.run_model.specs.declared.run.TreeMark.{TreeMark}
-use Rattle.run_model.specs.Past.{present}
-use Rattle.run_model.specs.Contents.{Tracks}
-use Rattle.run_model.specs.Branches.{HasBranches}
+use Rattle.run_data.specs.declared.entry.Entry.{Entry}
+use Rattle.run_data.specs.declared.entry.EntryKind.TheVariants.{Gain}
+use Rattle.run_data.specs.declared.entry.By.TheVariants.{Script}
+use Rattle.run_data.specs.declared.run.RepoView.{RepoView}
+use Rattle.run_data.specs.declared.run.Run.{Run}
+use Rattle.run_data.specs.declared.run.TreeMark.{TreeMark}
+use Rattle.thin_model.specs.Past.{present}
+use Rattle.thin_model.specs.Contents.{Tracks}
+use Rattle.thin_model.specs.Branches.{HasBranches}
 use Rattle.log_lines.specs.declared.entry.Value.TheVariants as values
 use Rattle.script_lang.specs.declared.command.Command.{Command}
 use Rattle.script_lang.specs.Lines.{declared, declared_by}

@@ -1,7 +1,7 @@
 -- How the repositories are set up, by their places.
 use Rattle.std.proofs.Common.{◌≡◌, ℕ, zero, suc, ◌<◌, List, [], ◌∷◌, length, get_or, refl, arith}
-use Rattle.run_model.specs.declared.run.RepoView.{RepoView}
-use Rattle.run_model.specs.SetUp.{offset_of, id_of}
+use Rattle.run_data.specs.declared.run.RepoView.{RepoView}
+use Rattle.run_data.specs.Repos.{offset_of, id_of}
 
 pub offset_of-at : (repos : List RepoView) (r : ℕ) (d : RepoView) → r < length repos → offset_of repos r ≡ (get_or repos r d).offset
 offset_of-at [] r d below = absurd (omega arith)

@@ -2,16 +2,16 @@
 use Rattle.std.proofs.Common.{◌≡◌, ◌≢◌, ℕ, zero, ◌+◌, ◌<◌, Bool, true, false, not, ◌||◌, ◌==◌, arith, List, [], ◌∷◌, length, get_or, set, get_or-set_same, get_or-set_other, filter, map, Option, Some, None, inl, inr, refl, sym, ap, ◌∙◌, subst}
 use Rattle.std.specs.Prelude.{if◌then◌else◌}
 use Rattle.std.proofs.lemmas.Bool.Decides.{eqb_tells}
-use Rattle.run_model.specs.declared.entry.Entry.{Entry}
-use Rattle.run_model.specs.declared.entry.EntryKind.{EntryKind}
-use Rattle.run_model.specs.declared.entry.EntryKind.TheVariants.{Begin, Gain, Share, Check, Bar, Gone, End, Release, Log, Compact}
+use Rattle.run_data.specs.declared.entry.Entry.{Entry}
+use Rattle.run_data.specs.declared.entry.EntryKind.{EntryKind}
+use Rattle.run_data.specs.declared.entry.EntryKind.TheVariants.{Begin, Gain, Share, Check, Bar, Gone, End, Release, Log, Compact}
 use Rattle.drop_proof.specs.declared.rule.Need.{Need}
 use Rattle.annex_base.specs.declared.kinds.Found.TheVariants.{Absent as found_absent}
-use Rattle.run_model.specs.declared.entry.LogFile.{LogFile}
-use Rattle.run_model.specs.declared.entry.By.TheVariants.{Script, Peer, Job as by_job}
-use Rattle.run_model.specs.declared.job.Job.{Job}
-use Rattle.run_model.specs.declared.job.Outcome.{Outcome}
-use Rattle.run_model.specs.Past.{Hold, Running, begun, jobs, jobs_after, holds, holds_after, is_begin, free_slot, is_lost_ordered, same_owner, keep_of}
+use Rattle.run_data.specs.declared.entry.LogFile.{LogFile}
+use Rattle.run_data.specs.declared.entry.By.TheVariants.{Script, Peer, Job as by_job}
+use Rattle.run_data.specs.declared.job.Job.{Job}
+use Rattle.run_data.specs.declared.job.Outcome.{Outcome}
+use Rattle.thin_model.specs.Past.{Hold, Running, begun, jobs, jobs_after, holds, holds_after, is_begin, free_slot, is_lost_ordered, same_owner, keep_of}
 use Rattle.thin_driver.specs.declared.driver.Driver.{Driver}
 use Rattle.thin_driver.specs.Driver.{added, release_at, waited}
 use Rattle.thin_driver.specs.State.{IsAt, Held, hold_of, Drops, Releases, Rests}

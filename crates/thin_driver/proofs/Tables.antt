@@ -3,18 +3,18 @@ use Rattle.std.proofs.Common.{◌≡◌, ◌≢◌, ℕ, ◌+◌, ◌<◌, List,
 use Rattle.std.specs.Prelude.{if◌then◌else◌}
 use Rattle.std.proofs.lemmas.Bool.Decides.{eqb_tells}
 use Rattle.std.proofs.lemmas.List.{reverse-append, length-reverse}
-use Rattle.run_model.specs.declared.entry.Entry.{Entry}
-use Rattle.run_model.specs.declared.entry.EntryKind.{EntryKind}
-use Rattle.run_model.specs.declared.entry.EntryKind.TheVariants.{Wait}
-use Rattle.run_model.specs.Past.{begun, made, is_begin}
+use Rattle.run_data.specs.declared.entry.Entry.{Entry}
+use Rattle.run_data.specs.declared.entry.EntryKind.{EntryKind}
+use Rattle.run_data.specs.declared.entry.EntryKind.TheVariants.{Wait}
+use Rattle.thin_model.specs.Past.{begun, made, is_begin}
 use Rattle.std.specs.declared.vec.Vec.{Vec}
 use Rattle.std.specs.declared.alloc.Global.{Global}
-use Rattle.run_model.specs.declared.run.RepoView.{RepoView}
-use Rattle.run_model.specs.declared.run.Run.{Run}
-use Rattle.run_model.specs.declared.contents.Contents.{Contents}
-use Rattle.run_model.specs.declared.branches.Branches.{Branches}
-use Rattle.run_model.specs.Contents.{Tracks}
-use Rattle.run_model.specs.Branches.{HasBranches}
+use Rattle.run_data.specs.declared.run.RepoView.{RepoView}
+use Rattle.run_data.specs.declared.run.Run.{Run}
+use Rattle.thin_model.specs.declared.contents.Contents.{Contents}
+use Rattle.thin_model.specs.declared.branches.Branches.{Branches}
+use Rattle.thin_model.specs.Contents.{Tracks}
+use Rattle.thin_model.specs.Branches.{HasBranches}
 use Rattle.thin_driver.specs.declared.driver.Driver.{Driver}
 use Rattle.thin_driver.specs.declared.tally.Tally.{Tally}
 use Rattle.thin_driver.specs.Driver.{added, waited, newest_count}

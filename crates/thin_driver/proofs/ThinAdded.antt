@@ -4,13 +4,13 @@ use Rattle.std.specs.Prelude.{if◌then◌else◌, ◌==◌}
 use Rattle.std.proofs.Math.Path.{fun_ext}
 use Rattle.drop_proof.specs.declared.rule.Need.{Need}
 use Rattle.drop_proof.specs.declared.rule.Side.TheVariants.{Local}
-use Rattle.run_model.specs.declared.run.RepoView.{RepoView}
-use Rattle.run_model.specs.declared.entry.Entry.{Entry}
-use Rattle.run_model.specs.declared.entry.EntryKind.{EntryKind}
-use Rattle.run_model.specs.Past.{Running, Decision, Hold, jobs, jobs_after, holds, holds_after, bar, bar_after, present, present_after, decided, decided_after, begun, is_begin, now, runs}
-use Rattle.run_model.specs.Logs.{branch, branch_after}
-use Rattle.run_model.specs.Drops.{Asker, asker_kind, vouch_kind, newer, newer_cause, cause_of_kind, reply, told_cause, asked, waits, reached, gather, candidates}
-use Rattle.run_model.proofs.Reading.{standing-kept}
+use Rattle.run_data.specs.declared.run.RepoView.{RepoView}
+use Rattle.run_data.specs.declared.entry.Entry.{Entry}
+use Rattle.run_data.specs.declared.entry.EntryKind.{EntryKind}
+use Rattle.thin_model.specs.Past.{Running, Decision, Hold, jobs, jobs_after, holds, holds_after, bar, bar_after, present, present_after, decided, decided_after, begun, is_begin, now, runs}
+use Rattle.thin_model.specs.Logs.{branch, branch_after}
+use Rattle.thin_model.specs.Drops.{Asker, asker_kind, vouch_kind, newer, newer_cause, cause_of_kind, reply, told_cause, asked, waits, reached, gather, candidates}
+use Rattle.thin_model.proofs.Reading.{standing-kept}
 use Rattle.thin_driver.specs.Driver.{added, items}
 use Rattle.thin_driver.proofs.ThinLists.{eqb_refl, same_if}
 

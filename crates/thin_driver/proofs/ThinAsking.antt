@@ -8,16 +8,16 @@ use Rattle.annex_base.specs.declared.kinds.Found.TheVariants.{Absent}
 use Rattle.drop_proof.specs.declared.rule.Need.{Need}
 use Rattle.drop_proof.specs.declared.rule.Side.TheVariants.{Local}
 use Rattle.drop_proof.specs.Judging.{is_enough}
-use Rattle.run_model.specs.declared.run.RepoView.{RepoView}
-use Rattle.run_model.specs.declared.entry.Entry.{Entry}
-use Rattle.run_model.specs.declared.entry.By.TheVariants.{Peer}
-use Rattle.run_model.specs.declared.entry.EntryKind.{EntryKind}
-use Rattle.run_model.specs.declared.entry.EntryKind.TheVariants.{Share, Check}
-use Rattle.run_model.specs.declared.job.Cause.{Cause}
-use Rattle.run_model.specs.declared.job.Cause.TheVariants.{Absent as cause_absent}
-use Rattle.run_model.specs.Past.{Running, Decision, jobs, holds, holds_after, bar, present, decided, begun, made, now, clock}
-use Rattle.run_model.specs.Drops.{Vouch, Lock, Standing, Claimed, Ignored, Asked, is_waiting, waits, reply, told_cause, candidates}
-use Rattle.run_model.specs.Thin.{HasLines, ThinKind, BarredJob, Asks, MayShare, MayCheck, enough, next_asked}
+use Rattle.run_data.specs.declared.run.RepoView.{RepoView}
+use Rattle.run_data.specs.declared.entry.Entry.{Entry}
+use Rattle.run_data.specs.declared.entry.By.TheVariants.{Peer}
+use Rattle.run_data.specs.declared.entry.EntryKind.{EntryKind}
+use Rattle.run_data.specs.declared.entry.EntryKind.TheVariants.{Share, Check}
+use Rattle.run_data.specs.declared.job.Cause.{Cause}
+use Rattle.run_data.specs.declared.job.Cause.TheVariants.{Absent as cause_absent}
+use Rattle.thin_model.specs.Past.{Running, Decision, jobs, holds, holds_after, bar, present, decided, begun, made, now, clock}
+use Rattle.thin_model.specs.Drops.{Vouch, Lock, Standing, Claimed, Ignored, Asked, is_waiting, waits, reply, told_cause, candidates}
+use Rattle.thin_model.specs.Thin.{HasLines, ThinKind, BarredJob, Asks, MayShare, MayCheck, enough, next_asked}
 use Rattle.thin_driver.specs.Driver.{added, answer, items, ask}
 use Rattle.thin_driver.proofs.ThinLists.{Each-append, Each-filter, filter-Each, Each-weaker, range_below, eqb_refl, eqb_true, eqb_sym, true_or_false, not_true, find_after, find_none}
 use Rattle.thin_driver.proofs.ThinAdded.{jobs-kept, holds-here, holds-other, bar-kept, decided-kept, reply-other, told_cause-other, waits-same}

@@ -11,13 +11,13 @@ use Rattle.log_lines.specs.declared.entry.LogKind.{LogKind}
 use Rattle.union_merge.specs.LineSet.{IsLineSet, union}
 use Rattle.union_merge.proofs.SetLemmas.{empty-is_set, union-is_set}
 use Rattle.union_merge.specs.Branch.{Files, file_at, lines_at, with_file}
-use Rattle.run_model.specs.declared.run.RepoView.{RepoView}
-use Rattle.run_model.specs.declared.entry.Entry.{Entry}
-use Rattle.run_model.specs.declared.entry.EntryKind.{EntryKind}
-use Rattle.run_model.specs.declared.entry.EntryKind.TheVariants.{Log, Compact}
-use Rattle.run_model.specs.declared.entry.LogFile.{LogFile}
-use Rattle.run_model.specs.Logs.{file_path, file_in, file_named, or_older, kind_of, compact_lines, compact_file, branch, branch_after}
-use Rattle.run_model.specs.Thin.{ThinKind, MayLog}
+use Rattle.run_data.specs.declared.run.RepoView.{RepoView}
+use Rattle.run_data.specs.declared.entry.Entry.{Entry}
+use Rattle.run_data.specs.declared.entry.EntryKind.{EntryKind}
+use Rattle.run_data.specs.declared.entry.EntryKind.TheVariants.{Log, Compact}
+use Rattle.run_data.specs.declared.entry.LogFile.{LogFile}
+use Rattle.thin_model.specs.Logs.{file_path, file_in, file_named, or_older, kind_of, compact_lines, compact_file, branch, branch_after}
+use Rattle.thin_model.specs.Thin.{ThinKind, MayLog}
 use Rattle.thin_driver.specs.Driver.{added}
 use Rattle.thin_driver.proofs.ThinLists.{Each-weaker, bytes_refl}
 use Rattle.thin_driver.proofs.ThinSets.{filter_set}

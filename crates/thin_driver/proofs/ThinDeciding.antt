@@ -8,22 +8,22 @@ use Rattle.drop_proof.specs.Judging.{is_enough}
 use Rattle.log_lines.specs.declared.entry.LogKind.TheVariants as kinds
 use Rattle.log_lines.specs.declared.entry.Topic.TheVariants as topics
 use Rattle.log_lines.specs.declared.entry.Value.TheVariants as values
-use Rattle.run_model.specs.declared.run.RepoView.{RepoView}
-use Rattle.run_model.specs.declared.entry.Entry.{Entry}
-use Rattle.run_model.specs.declared.entry.By.{By}
-use Rattle.run_model.specs.declared.entry.By.TheVariants.{Job as by_job}
-use Rattle.run_model.specs.declared.entry.EntryKind.{EntryKind}
-use Rattle.run_model.specs.declared.entry.EntryKind.TheVariants.{Gone, Log, End}
-use Rattle.run_model.specs.declared.entry.LogFile.{LogFile}
-use Rattle.run_model.specs.declared.entry.LogFile.TheVariants.{Location}
-use Rattle.run_model.specs.declared.job.Outcome.{Outcome}
-use Rattle.run_model.specs.declared.job.Outcome.TheVariants.{Dropped, Refused}
-use Rattle.run_model.specs.declared.job.DropRefusal.TheVariants.{Lacking}
-use Rattle.run_model.specs.declared.job.Proof.{Proof}
-use Rattle.run_model.specs.SetUp.{id_of}
-use Rattle.run_model.specs.Past.{Running, Hold, jobs, jobs_after, holds, holds_after, bar, bar_after, decided, begun, same_owner, is_lost_ordered}
-use Rattle.run_model.specs.Drops.{proof_of, causes}
-use Rattle.run_model.specs.Thin.{Ends, MayLog, MayRemove, EndsDropped, EndsLacking, enough}
+use Rattle.run_data.specs.declared.run.RepoView.{RepoView}
+use Rattle.run_data.specs.declared.entry.Entry.{Entry}
+use Rattle.run_data.specs.declared.entry.By.{By}
+use Rattle.run_data.specs.declared.entry.By.TheVariants.{Job as by_job}
+use Rattle.run_data.specs.declared.entry.EntryKind.{EntryKind}
+use Rattle.run_data.specs.declared.entry.EntryKind.TheVariants.{Gone, Log, End}
+use Rattle.run_data.specs.declared.entry.LogFile.{LogFile}
+use Rattle.run_data.specs.declared.entry.LogFile.TheVariants.{Location}
+use Rattle.run_data.specs.declared.job.Outcome.{Outcome}
+use Rattle.run_data.specs.declared.job.Outcome.TheVariants.{Dropped, Refused}
+use Rattle.run_data.specs.declared.job.DropRefusal.TheVariants.{Lacking}
+use Rattle.run_data.specs.declared.job.Proof.{Proof}
+use Rattle.run_data.specs.Repos.{id_of}
+use Rattle.thin_model.specs.Past.{Running, Hold, jobs, jobs_after, holds, holds_after, bar, bar_after, decided, begun, same_owner, is_lost_ordered}
+use Rattle.thin_model.specs.Drops.{proof_of, causes}
+use Rattle.thin_model.specs.Thin.{Ends, MayLog, MayRemove, EndsDropped, EndsLacking, enough}
 use Rattle.thin_driver.specs.Driver.{added, written, unknown, log_status, items, decide, remove, refuse}
 use Rattle.thin_driver.proofs.ThinLists.{eqb_refl, eqb_true, true_or_false}
 use Rattle.thin_driver.proofs.ThinAdded.{IsSilent, jobs-here, jobs-other, jobs-kept, holds-here, holds-other, holds-kept, bar-here, bar-other, bar-kept, decided-kept, begun-kept, items-kept}

@@ -3,18 +3,18 @@ use Rattle.std.proofs.Common.{◌≡◌, ℕ, ◌+◌, ◌<◌, ◌≤◌, Bool,
 use Rattle.std.specs.Prelude.{if◌then◌else◌, ◌==◌, bytes_eq}
 use Rattle.drop_proof.specs.declared.rule.Need.{Need}
 use Rattle.drop_proof.specs.declared.rule.Side.TheVariants.{Local}
-use Rattle.run_model.specs.declared.run.RepoView.{RepoView}
-use Rattle.run_model.specs.declared.entry.Entry.{Entry}
-use Rattle.run_model.specs.declared.entry.EntryKind.{EntryKind}
-use Rattle.run_model.specs.declared.entry.EntryKind.TheVariants.{Begin, Bar, End}
-use Rattle.run_model.specs.declared.job.Job.{Job}
-use Rattle.run_model.specs.declared.job.Outcome.TheVariants.{Refused}
-use Rattle.run_model.specs.declared.job.DropRefusal.TheVariants.{NotPresent}
-use Rattle.run_model.specs.Past.{Running, Decision, jobs, jobs_after, holds, holds_after, bar, bar_after, present, decided, decided_after, begun, is_blocked, now}
-use Rattle.run_model.specs.Logs.{need_read}
-use Rattle.run_model.specs.Drops.{candidates}
-use Rattle.run_model.specs.SetUp.{offset_of}
-use Rattle.run_model.specs.Thin.{MayBegin, MayBar, Ends}
+use Rattle.run_data.specs.declared.run.RepoView.{RepoView}
+use Rattle.run_data.specs.declared.entry.Entry.{Entry}
+use Rattle.run_data.specs.declared.entry.EntryKind.{EntryKind}
+use Rattle.run_data.specs.declared.entry.EntryKind.TheVariants.{Begin, Bar, End}
+use Rattle.run_data.specs.declared.job.Job.{Job}
+use Rattle.run_data.specs.declared.job.Outcome.TheVariants.{Refused}
+use Rattle.run_data.specs.declared.job.DropRefusal.TheVariants.{NotPresent}
+use Rattle.thin_model.specs.Past.{Running, Decision, jobs, jobs_after, holds, holds_after, bar, bar_after, present, decided, decided_after, begun, is_blocked, now}
+use Rattle.thin_model.specs.Logs.{need_read}
+use Rattle.thin_model.specs.Drops.{candidates}
+use Rattle.run_data.specs.Repos.{offset_of}
+use Rattle.thin_model.specs.Thin.{MayBegin, MayBar, Ends}
 use Rattle.thin_driver.specs.Driver.{added, ask, decide, drop_there, drop_by}
 use Rattle.script_lang.specs.Lines.{IsLocalDrop}
 use Rattle.thin_driver.proofs.ThinLists.{eqb_refl, eqb_true, eqb_less, true_or_false, bytes_refl}

@@ -13,14 +13,14 @@ use Rattle.log_lines.specs.Newest.{newest_stamp, next_stamp}
 use Rattle.union_merge.specs.LineSet.{IsLineSet}
 use Rattle.union_merge.specs.Branch.{Files}
 use Rattle.trust_groups.specs.Settings.{file_name}
-use Rattle.run_model.specs.declared.run.RepoView.{RepoView}
-use Rattle.run_model.specs.declared.entry.Entry.{Entry}
-use Rattle.run_model.specs.declared.entry.EntryKind.TheVariants.{Log, Compact}
-use Rattle.run_model.specs.declared.entry.LogFile.{LogFile}
-use Rattle.run_model.specs.declared.entry.LogFile.TheVariants.{Location, Named}
-use Rattle.run_model.specs.SetUp.{id_of}
-use Rattle.run_model.specs.Logs.{file_named, file_path, kept, kind_of, compact_lines}
-use Rattle.run_model.specs.Thin.{MayLog}
+use Rattle.run_data.specs.declared.run.RepoView.{RepoView}
+use Rattle.run_data.specs.declared.entry.Entry.{Entry}
+use Rattle.run_data.specs.declared.entry.EntryKind.TheVariants.{Log, Compact}
+use Rattle.run_data.specs.declared.entry.LogFile.{LogFile}
+use Rattle.run_data.specs.declared.entry.LogFile.TheVariants.{Location, Named}
+use Rattle.run_data.specs.Repos.{id_of}
+use Rattle.thin_model.specs.Logs.{file_named, file_path, kept, kind_of, compact_lines}
+use Rattle.thin_model.specs.Thin.{MayLog}
 use Rattle.thin_driver.specs.Driver.{added, clock_stamp, written, unknown, log_some, add_lines, set, add_files, compact_one, compact_files}
 use Rattle.thin_driver.proofs.ThinLists.{Each-weaker, filter-Each}
 use Rattle.thin_driver.proofs.ThinSets.{one_set, filter_set, not_found}

@@ -1,12 +1,12 @@
 -- Pasts of thin runs whose entries the driver has added.
 use Rattle.std.proofs.Common.{◌≡◌, ℕ, ◌+◌, ◌<◌, ◌≤◌, ◌^◌, false, List, [], ◌∷◌, length, Option, Some, None, ◌⊎◌, refl, ap, ◌∙◌, subst, arith}
-use Rattle.run_model.specs.declared.run.RepoView.{RepoView}
-use Rattle.run_model.specs.declared.entry.Entry.{Entry}
-use Rattle.run_model.specs.declared.entry.EntryKind.{EntryKind}
-use Rattle.run_model.specs.declared.entry.EntryKind.TheVariants.{Wait}
-use Rattle.run_model.specs.Past.{Running, Decision, Hold, jobs, jobs_after, holds, holds_after, bar, bar_after, decided, decided_after, begun, is_begin, now}
-use Rattle.run_model.specs.Logs.{branch}
-use Rattle.run_model.specs.Thin.{Idle, HasLines, ThinKind, ThinStep, ThinPast}
+use Rattle.run_data.specs.declared.run.RepoView.{RepoView}
+use Rattle.run_data.specs.declared.entry.Entry.{Entry}
+use Rattle.run_data.specs.declared.entry.EntryKind.{EntryKind}
+use Rattle.run_data.specs.declared.entry.EntryKind.TheVariants.{Wait}
+use Rattle.thin_model.specs.Past.{Running, Decision, Hold, jobs, jobs_after, holds, holds_after, bar, bar_after, decided, decided_after, begun, is_begin, now}
+use Rattle.thin_model.specs.Logs.{branch}
+use Rattle.thin_model.specs.Thin.{Idle, HasLines, ThinKind, ThinStep, ThinPast}
 use Rattle.thin_driver.specs.Driver.{added, waited, newest_count}
 use Rattle.thin_driver.proofs.ThinLists.{Each-weaker}
 use Rattle.thin_driver.proofs.ThinAdded.{jobs-kept, holds-kept, bar-kept, decided-kept, begun-kept}

@@ -8,11 +8,11 @@ use Rattle.annex_base.specs.Lists.{Each}
 use Rattle.log_lines.specs.declared.entry.LogKind.{LogKind}
 use Rattle.log_lines.specs.declared.entry.LogKind.TheVariants as kinds
 use Rattle.trust_groups.specs.Settings.{file_name}
-use Rattle.run_model.specs.declared.run.RepoView.{RepoView}
-use Rattle.run_model.specs.declared.entry.LogFile.{LogFile}
-use Rattle.run_model.specs.declared.entry.LogFile.TheVariants.{Location, Named}
-use Rattle.run_model.specs.Logs.{kind_of, kind_named, named_kinds}
-use Rattle.run_model.specs.Thin.{IsThinRun}
+use Rattle.run_data.specs.declared.run.RepoView.{RepoView}
+use Rattle.run_data.specs.declared.entry.LogFile.{LogFile}
+use Rattle.run_data.specs.declared.entry.LogFile.TheVariants.{Location, Named}
+use Rattle.thin_model.specs.Logs.{kind_of, kind_named, named_kinds}
+use Rattle.thin_model.specs.Thin.{IsThinRun}
 use Rattle.script_lang.specs.declared.command.Command.{Command}
 use Rattle.script_lang.specs.declared.command.Command.TheVariants as commands
 use Rattle.script_lang.specs.Lines.{Declared, declared, declared_by, IsLogFile, MayStand}

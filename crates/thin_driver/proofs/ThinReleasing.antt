@@ -2,12 +2,12 @@
 use Rattle.std.proofs.Common.{◌≡◌, ℕ, zero, suc, ◌+◌, ◌<◌, ◌≤◌, false, List, [], ◌∷◌, length, inl, inr, refl, sym, ap, ◌∙◌, subst, arith}
 use Rattle.std.specs.Prelude.{◌==◌}
 use Rattle.std.specs.List.{range_with_len}
-use Rattle.run_model.specs.declared.run.RepoView.{RepoView}
-use Rattle.run_model.specs.declared.entry.Entry.{Entry}
-use Rattle.run_model.specs.declared.entry.EntryKind.{EntryKind}
-use Rattle.run_model.specs.declared.entry.EntryKind.TheVariants.{Release}
-use Rattle.run_model.specs.Past.{Hold, holds, holds_after}
-use Rattle.run_model.specs.Thin.{MayRelease}
+use Rattle.run_data.specs.declared.run.RepoView.{RepoView}
+use Rattle.run_data.specs.declared.entry.Entry.{Entry}
+use Rattle.run_data.specs.declared.entry.EntryKind.{EntryKind}
+use Rattle.run_data.specs.declared.entry.EntryKind.TheVariants.{Release}
+use Rattle.thin_model.specs.Past.{Hold, holds, holds_after}
+use Rattle.thin_model.specs.Thin.{MayRelease}
 use Rattle.thin_driver.specs.Driver.{added, release, release_at}
 use Rattle.thin_driver.proofs.ThinLists.{eqb_refl, eqb_true, true_or_false, less_or}
 use Rattle.thin_driver.proofs.ThinAdded.{jobs-kept, holds-here, holds-other, bar-kept}

@@ -9,15 +9,16 @@ use Rattle.log_lines.specs.declared.entry.Topic.TheVariants as topics
 use Rattle.log_lines.specs.declared.entry.Value.TheVariants as values
 use Rattle.log_lines.proofs.FormLemmas.{single_all}
 use Rattle.trust_groups.specs.Settings.{file_name}
-use Rattle.run_model.specs.declared.run.RepoView.{RepoView}
-use Rattle.run_model.specs.declared.entry.Entry.{Entry}
-use Rattle.run_model.specs.declared.entry.By.TheVariants.{Script}
-use Rattle.run_model.specs.declared.entry.EntryKind.TheVariants.{Gain, Log}
-use Rattle.run_model.specs.declared.entry.LogFile.TheVariants.{Location, Named}
-use Rattle.run_model.specs.SetUp.{id_of}
-use Rattle.run_model.specs.Past.{present}
-use Rattle.run_model.specs.Logs.{branch, kind_of}
-use Rattle.run_model.specs.Thin.{IsSetUp, IsThinRun, ThinPast, MayGain, fits_size}
+use Rattle.run_data.specs.declared.run.RepoView.{RepoView}
+use Rattle.run_data.specs.declared.entry.Entry.{Entry}
+use Rattle.run_data.specs.declared.entry.By.TheVariants.{Script}
+use Rattle.run_data.specs.declared.entry.EntryKind.TheVariants.{Gain, Log}
+use Rattle.run_data.specs.declared.entry.LogFile.TheVariants.{Location, Named}
+use Rattle.run_data.specs.Repos.{id_of}
+use Rattle.thin_model.specs.Past.{present}
+use Rattle.thin_model.specs.Logs.{branch, kind_of}
+use Rattle.run_data.specs.Repos.{fits_size}
+use Rattle.thin_model.specs.Thin.{IsSetUp, IsThinRun, ThinPast, MayGain}
 use Rattle.script_lang.specs.declared.command.Command.{Command}
 use Rattle.script_lang.specs.declared.command.Command.TheVariants as commands
 use Rattle.script_lang.specs.Lines.{declared}

@@ -5,12 +5,12 @@ use Rattle.std.proofs.lemmas.Slice.Eq.{bytes_eq-Decides}
 use Rattle.annex_base.specs.Lists.{Each}
 use Rattle.union_merge.specs.Branch.{Files}
 use Rattle.union_merge.proofs.BranchLemmas.{IsFile}
-use Rattle.run_model.specs.declared.entry.Entry.{Entry}
-use Rattle.run_model.specs.declared.entry.EntryKind.{EntryKind}
-use Rattle.run_model.specs.declared.entry.EntryKind.TheVariants.{Log, Compact}
-use Rattle.run_model.specs.declared.entry.LogFile.{LogFile}
-use Rattle.run_model.specs.declared.entry.LogFile.TheVariants.{Named}
-use Rattle.run_model.specs.Logs.{compact_lines, file_in, file_named, file_path, kept, kind_of, or_older}
+use Rattle.run_data.specs.declared.entry.Entry.{Entry}
+use Rattle.run_data.specs.declared.entry.EntryKind.{EntryKind}
+use Rattle.run_data.specs.declared.entry.EntryKind.TheVariants.{Log, Compact}
+use Rattle.run_data.specs.declared.entry.LogFile.{LogFile}
+use Rattle.run_data.specs.declared.entry.LogFile.TheVariants.{Named}
+use Rattle.thin_model.specs.Logs.{compact_lines, file_in, file_named, file_path, kept, kind_of, or_older}
 use Rattle.thin_driver.specs.declared.driver.Driver.{Driver}
 use Rattle.thin_driver.specs.Driver.{added, compact_one}
 use Rattle.thin_driver.specs.State.{KeepsRun, Rests}

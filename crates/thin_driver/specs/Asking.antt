@@ -8,15 +8,15 @@ use Rattle.drop_proof.specs.declared.evidence.Kind.TheVariants.{Locked, Trusted}
 use Rattle.drop_proof.specs.declared.rule.Need.{Need}
 use Rattle.drop_proof.specs.declared.rule.Side.TheVariants.{Local}
 use Rattle.drop_proof.specs.Judging.{is_enough}
-use Rattle.run_model.specs.declared.entry.Entry.{Entry}
-use Rattle.run_model.specs.declared.entry.EntryKind.{EntryKind}
-use Rattle.run_model.specs.declared.job.Cause.{Cause}
-use Rattle.run_model.specs.declared.job.Cause.TheVariants.{Absent}
-use Rattle.run_model.specs.declared.job.CandidateCause.{CandidateCause}
-use Rattle.run_model.specs.declared.run.RepoView.{RepoView}
-use Rattle.run_model.specs.Past.{Decision, begun_job, decided, holds}
-use Rattle.run_model.specs.Logs.{before_step}
-use Rattle.run_model.specs.Drops.{candidates, causes, key_in, reply, standing, told_cause}
+use Rattle.run_data.specs.declared.entry.Entry.{Entry}
+use Rattle.run_data.specs.declared.entry.EntryKind.{EntryKind}
+use Rattle.run_data.specs.declared.job.Cause.{Cause}
+use Rattle.run_data.specs.declared.job.Cause.TheVariants.{Absent}
+use Rattle.run_data.specs.declared.job.CandidateCause.{CandidateCause}
+use Rattle.run_data.specs.declared.run.RepoView.{RepoView}
+use Rattle.thin_model.specs.Past.{Decision, begun_job, decided, holds}
+use Rattle.thin_model.specs.Logs.{before_step}
+use Rattle.thin_model.specs.Drops.{candidates, causes, key_in, reply, standing, told_cause}
 use Rattle.thin_driver.specs.declared.driver.Driver.{Driver}
 use Rattle.thin_driver.specs.declared.reading.Standing.{Standing}
 use Rattle.thin_driver.specs.declared.reading.Standing.TheVariants.{Claimed, Ignored, Asked}

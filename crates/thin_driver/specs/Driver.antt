@@ -17,21 +17,21 @@ use Rattle.log_lines.specs.LineText.{line_text}
 use Rattle.log_lines.specs.Newest.{newest_stamp, next_stamp}
 use Rattle.union_merge.specs.Branch.{Files}
 use Rattle.trust_groups.specs.Settings.{file_name}
-use Rattle.run_model.specs.declared.run.Run.{Run}
-use Rattle.run_model.specs.declared.run.RepoView.{RepoView}
-use Rattle.run_model.specs.declared.entry.Entry.{Entry}
-use Rattle.run_model.specs.declared.entry.By.TheVariants.{Script, Job as by_job, Peer}
-use Rattle.run_model.specs.declared.entry.EntryKind.{EntryKind}
-use Rattle.run_model.specs.declared.entry.EntryKind.TheVariants.{Begin, Gain, Share, Release, Check, Bar, Gone, Log, Compact, Wait, End}
-use Rattle.run_model.specs.declared.entry.LogFile.{LogFile}
-use Rattle.run_model.specs.declared.entry.LogFile.TheVariants.{Location, Named}
-use Rattle.run_model.specs.declared.job.Job.{Job}
-use Rattle.run_model.specs.declared.job.Outcome.TheVariants.{Dropped, Refused}
-use Rattle.run_model.specs.declared.job.DropRefusal.TheVariants.{NotPresent, Lacking}
-use Rattle.run_model.specs.SetUp.{id_of}
-use Rattle.run_model.specs.Past.{Hold, present, holds, begun, made, now, clock}
-use Rattle.run_model.specs.Logs.{branch, kept, file_path, file_named, kind_of, compact_lines, need_read}
-use Rattle.run_model.specs.Drops.{evidence, candidates, proof_of, causes, waits}
+use Rattle.run_data.specs.declared.run.Run.{Run}
+use Rattle.run_data.specs.declared.run.RepoView.{RepoView}
+use Rattle.run_data.specs.declared.entry.Entry.{Entry}
+use Rattle.run_data.specs.declared.entry.By.TheVariants.{Script, Job as by_job, Peer}
+use Rattle.run_data.specs.declared.entry.EntryKind.{EntryKind}
+use Rattle.run_data.specs.declared.entry.EntryKind.TheVariants.{Begin, Gain, Share, Release, Check, Bar, Gone, Log, Compact, Wait, End}
+use Rattle.run_data.specs.declared.entry.LogFile.{LogFile}
+use Rattle.run_data.specs.declared.entry.LogFile.TheVariants.{Location, Named}
+use Rattle.run_data.specs.declared.job.Job.{Job}
+use Rattle.run_data.specs.declared.job.Outcome.TheVariants.{Dropped, Refused}
+use Rattle.run_data.specs.declared.job.DropRefusal.TheVariants.{NotPresent, Lacking}
+use Rattle.run_data.specs.Repos.{id_of}
+use Rattle.thin_model.specs.Past.{Hold, present, holds, begun, made, now, clock}
+use Rattle.thin_model.specs.Logs.{branch, kept, file_path, file_named, kind_of, compact_lines, need_read}
+use Rattle.thin_model.specs.Drops.{evidence, candidates, proof_of, causes, waits}
 use Rattle.script_lang.specs.declared.command.Command.{Command}
 use Rattle.script_lang.specs.declared.command.Command.TheVariants as commands
 use Rattle.script_lang.specs.Lines.{Declared, declared}

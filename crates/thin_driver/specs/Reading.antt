@@ -1,10 +1,10 @@
 -- What a drop reads of the logs before it puts its bar (own).
 use Rattle.std.specs.Prelude.{◌≡◌, ℕ, ◌<◌, List, length}
 use Rattle.std.specs.List.{slice_index_or}
-use Rattle.run_model.specs.declared.entry.Entry.{Entry}
-use Rattle.run_model.specs.declared.run.RepoView.{RepoView}
-use Rattle.run_model.specs.Logs.{need_read}
-use Rattle.run_model.specs.Drops.{Standing as Seen, Claimed as seen_claimed, Ignored as seen_ignored, Asked as seen_asked, standing}
+use Rattle.run_data.specs.declared.entry.Entry.{Entry}
+use Rattle.run_data.specs.declared.run.RepoView.{RepoView}
+use Rattle.thin_model.specs.Logs.{need_read}
+use Rattle.thin_model.specs.Drops.{Standing as Seen, Claimed as seen_claimed, Ignored as seen_ignored, Asked as seen_asked, standing}
 use Rattle.thin_driver.specs.declared.reading.Reading.{Reading}
 use Rattle.thin_driver.specs.declared.reading.Standing.{Standing}
 use Rattle.thin_driver.specs.declared.reading.Standing.TheVariants.{Claimed, Ignored, Asked}

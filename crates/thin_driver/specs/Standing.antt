@@ -3,9 +3,9 @@ use Rattle.std.specs.Prelude.{◌≡◌, ◌≢◌, ℕ, ◌<◌, ◌≤◌, tru
 use Rattle.annex_base.specs.Lists.{Each}
 use Rattle.annex_key.specs.View.{size_part}
 use Rattle.log_lines.specs.LineText.{newline}
-use Rattle.run_model.specs.declared.run.RepoView.{RepoView}
-use Rattle.run_model.specs.Logs.{kind_of}
-use Rattle.run_model.specs.Thin.{fits_size}
+use Rattle.run_data.specs.declared.run.RepoView.{RepoView}
+use Rattle.thin_model.specs.Logs.{kind_of}
+use Rattle.run_data.specs.Repos.{fits_size}
 use Rattle.script_lang.specs.declared.command.Command.{Command}
 use Rattle.script_lang.specs.declared.command.Command.TheVariants as commands
 use Rattle.script_lang.specs.Lines.{IsLocalDrop}

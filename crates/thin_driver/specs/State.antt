@@ -1,16 +1,16 @@
 -- What the driver's tables say of the entries so far (own). Entries stand with the newest first.
 use Rattle.std.specs.Prelude.{◌≡◌, ◌≢◌, ℕ, ◌<◌, List, [], ◌∷◌, length, reverse, Option, Some, None}
 use Rattle.std.specs.List.{slice_index_or}
-use Rattle.run_model.specs.declared.entry.Entry.{Entry}
-use Rattle.run_model.specs.Contents.{Tracks}
-use Rattle.run_model.specs.Branches.{HasBranches}
-use Rattle.run_model.specs.Past.{Hold, Running, begun, made, now, jobs, holds}
-use Rattle.run_model.specs.Logs.{before_step}
-use Rattle.run_model.specs.Drops.{reply, told_cause}
+use Rattle.run_data.specs.declared.entry.Entry.{Entry}
+use Rattle.thin_model.specs.Contents.{Tracks}
+use Rattle.thin_model.specs.Branches.{HasBranches}
+use Rattle.thin_model.specs.Past.{Hold, Running, begun, made, now, jobs, holds}
+use Rattle.thin_model.specs.Logs.{before_step}
+use Rattle.thin_model.specs.Drops.{reply, told_cause}
 use Rattle.thin_driver.specs.declared.driver.Driver.{Driver}
 use Rattle.thin_driver.specs.declared.tally.Tally.{Tally}
 use Rattle.script_lang.specs.declared.command.Command.{Command}
-use Rattle.run_model.specs.declared.run.RepoView.{RepoView}
+use Rattle.run_data.specs.declared.run.RepoView.{RepoView}
 use Rattle.thin_driver.specs.Driver.{entries_of, newest_count}
 
 abbrev pub no_tally : Tally

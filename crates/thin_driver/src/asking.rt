@@ -3,12 +3,12 @@
 ghost use Rattle.std.specs.Prelude.{◌≡◌, ◌≢◌, ◌+◌, ◌<◌, ◌^◌, ℕ, zero, List, [], ◌∷◌, ◌++◌, length, true, false, IfOk, OnOk};
 ghost use Rattle.drop_proof.specs.declared.rule.Side.TheVariants.{Local};
 ghost use Rattle.annex_base.specs.declared.kinds.Found.TheVariants.{Absent};
-ghost use Rattle.run_model.specs.declared.entry.Entry.{Entry};
-ghost use Rattle.run_model.specs.declared.entry.By.TheVariants.{Peer};
-ghost use Rattle.run_model.specs.declared.entry.EntryKind.TheVariants.{Share, Check};
-ghost use Rattle.run_model.specs.SetUp.{offset_of};
-ghost use Rattle.run_model.specs.Past.{clock, holds, made, now, present};
-ghost use Rattle.run_model.specs.Drops.{candidates};
+ghost use Rattle.run_data.specs.declared.entry.Entry.{Entry};
+ghost use Rattle.run_data.specs.declared.entry.By.TheVariants.{Peer};
+ghost use Rattle.run_data.specs.declared.entry.EntryKind.TheVariants.{Share, Check};
+ghost use Rattle.run_data.specs.Repos.{offset_of};
+ghost use Rattle.thin_model.specs.Past.{clock, holds, made, now, present};
+ghost use Rattle.thin_model.specs.Drops.{candidates};
 ghost use Rattle.thin_driver.specs.Driver.{added, answer};
 ghost use Rattle.thin_driver.specs.State.{IsAt, Drops, KeepsRun};
 ghost use Rattle.thin_driver.specs.Asking.{HasAsked, HasBarred, answered, cause_of, given, item_of};
@@ -19,7 +19,7 @@ use crate::stated::suffices;
 use annex_base::{Found, Items, NoMemory};
 use annex_key::Key;
 use drop_proof::{Evidence, Kind};
-use run_model::{By, CandidateCause, Cause, EntryKind};
+use run_data::{By, CandidateCause, Cause, EntryKind};
 use std::alloc::{AllocError, Global};
 
 /// How long a hold lasts, in milliseconds (own).

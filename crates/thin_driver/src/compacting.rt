@@ -3,8 +3,8 @@
 ghost use Rattle.std.specs.Prelude.{◌≡◌, ◌<◌, List, [], length, nat_lt, IfOk, OnOk};
 ghost use Rattle.std.specs.Map.{keys_of};
 ghost use Rattle.log_lines.specs.Newest.{compacted};
-ghost use Rattle.run_model.specs.declared.entry.Entry.{Entry};
-ghost use Rattle.run_model.specs.Logs.{branch, compact_lines, file_path, kept, kind_of};
+ghost use Rattle.run_data.specs.declared.entry.Entry.{Entry};
+ghost use Rattle.thin_model.specs.Logs.{branch, compact_lines, file_path, kept, kind_of};
 ghost use Rattle.thin_driver.specs.Driver.{compact_files, compact_one};
 ghost use Rattle.thin_driver.specs.State.{IsAt, KeepsRun, Rests};
 
@@ -12,8 +12,9 @@ use crate::driver::Driver;
 use crate::logs::{file_at, lines_of};
 use annex_base::{Line, NoMemory};
 use log_lines::{LogKind, compact};
-use run_model::{EntryKind, LogFile, file_path, kind_of};
+use run_data::{EntryKind, LogFile};
 use std::alloc::Global;
+use thin_model::{file_path, kind_of};
 use union_merge::Branch;
 
 impl Driver {

@@ -2,8 +2,9 @@ ghost use Rattle.std.specs.Prelude.{◌≡◌, ◌<◌, ◌^◌, length, []};
 
 use crate::tally::Tally;
 use annex_base::{Items, Line, NoMemory, RepoId};
-use run_model::{Branches, Contents, Entry, EntryKind, Run};
+use run_data::{Entry, EntryKind, Run};
 use std::alloc::Global;
+use thin_model::{Branches, Contents};
 
 /// The run of a script so far, and tables of what its entries say, so that no line looks through them.
 #[derive(Drop)]
@@ -25,12 +26,12 @@ pub struct Driver {
 
 impl Driver {
     ghost use Rattle.std.specs.Prelude.{List, ℕ, ◌∷◌, ◌++◌, ◌+◌, IfOk, OnOk};
-    ghost use Rattle.run_model.specs.declared.entry.Entry.{Entry};
+    ghost use Rattle.run_data.specs.declared.entry.Entry.{Entry};
     ghost use Rattle.annex_base.specs.Lists.{Each};
     ghost use Rattle.union_merge.specs.LineSet.{IsLine};
-    ghost use Rattle.run_model.specs.Branches.{HasBranches, LogsToPath};
-    ghost use Rattle.run_model.specs.Contents.{Tracks};
-    ghost use Rattle.run_model.specs.SetUp.{id_of, offset_of};
+    ghost use Rattle.thin_model.specs.Branches.{HasBranches, LogsToPath};
+    ghost use Rattle.thin_model.specs.Contents.{Tracks};
+    ghost use Rattle.run_data.specs.Repos.{id_of, offset_of};
     ghost use Rattle.thin_driver.specs.Driver.{added, waited};
     ghost use Rattle.thin_driver.specs.State.{IsAt, KeepsParts, KeepsRun, Rests, tally_of};
 

@@ -5,11 +5,11 @@ ghost use Rattle.std.specs.List.{range_with_len};
 ghost use Rattle.drop_proof.specs.declared.rule.Side.TheVariants.{Local};
 ghost use Rattle.drop_proof.specs.Judging.{is_enough};
 ghost use Rattle.log_lines.specs.declared.entry.Value.TheVariants as values;
-ghost use Rattle.run_model.specs.declared.entry.Entry.{Entry};
-ghost use Rattle.run_model.specs.declared.entry.EntryKind.TheVariants.{Begin, Bar, Gone, End};
-ghost use Rattle.run_model.specs.declared.entry.By.TheVariants.{Job as by_job};
-ghost use Rattle.run_model.specs.Past.{begun, holds};
-ghost use Rattle.run_model.specs.Drops.{causes};
+ghost use Rattle.run_data.specs.declared.entry.Entry.{Entry};
+ghost use Rattle.run_data.specs.declared.entry.EntryKind.TheVariants.{Begin, Bar, Gone, End};
+ghost use Rattle.run_data.specs.declared.entry.By.TheVariants.{Job as by_job};
+ghost use Rattle.thin_model.specs.Past.{begun, holds};
+ghost use Rattle.thin_model.specs.Drops.{causes};
 ghost use Rattle.thin_driver.specs.Driver.{added, decide, drop_by, drop_there, items, log_status, release, release_at};
 ghost use Rattle.thin_driver.specs.State.{Drops, KeepsRun, Releases, Rests, hold_of};
 ghost use Rattle.thin_driver.specs.Asking.{HasBegun};
@@ -21,7 +21,7 @@ use annex_base::NoMemory;
 use annex_key::Key;
 use drop_proof::Need;
 use log_lines::Value;
-use run_model::{By, DropRefusal, EntryKind, Job, Outcome};
+use run_data::{By, DropRefusal, EntryKind, Job, Outcome};
 
 impl Driver {
     /// Runs a local drop whole: it reads the logs, puts its bar, takes the others in order and asks those that are to be

@@ -1,7 +1,7 @@
 //! Laws of the runs that scripts make.
 
 ghost use Rattle.std.specs.Prelude.{◌<◌, ◌^◌, List, length};
-ghost use Rattle.run_model.specs.Thin.{IsThinRun};
+ghost use Rattle.thin_model.specs.Thin.{IsThinRun};
 ghost use Rattle.script_lang.specs.declared.command.Command.{Command};
 ghost use Rattle.script_lang.specs.Script.{IsProgram};
 ghost use Rattle.thin_driver.specs.Driver.{run_of, AreShort};

@@ -1,16 +1,16 @@
 //! Merges of branches.
 
 ghost use Rattle.std.specs.Prelude.{◌≡◌, ◌<◌, List, length, IfOk, OnOk};
-ghost use Rattle.run_model.specs.declared.entry.Entry.{Entry};
+ghost use Rattle.run_data.specs.declared.entry.Entry.{Entry};
 ghost use Rattle.union_merge.specs.LineSet.{IsLine};
-ghost use Rattle.run_model.specs.Branches.{HasPath};
-ghost use Rattle.run_model.specs.Logs.{branch, file_named};
+ghost use Rattle.thin_model.specs.Branches.{HasPath};
+ghost use Rattle.thin_model.specs.Logs.{branch, file_named};
 ghost use Rattle.thin_driver.specs.Driver.{add_files};
 ghost use Rattle.thin_driver.specs.State.{IsAt, KeepsRun, Rests};
 
 use crate::driver::Driver;
 use annex_base::{NoMemory, Text};
-use run_model::LogFile;
+use run_data::LogFile;
 use union_merge::Branch;
 
 impl Driver {

@@ -2,11 +2,11 @@ ghost use Rattle.std.specs.Prelude.{◌≡◌, ◌&&◌, ◌==◌, ◌<◌, ◌^
 ghost use Rattle.std.specs.List.{range_with_len, list_any};
 ghost use Rattle.drop_proof.specs.declared.rule.Side.TheVariants.{Local};
 ghost use Rattle.drop_proof.specs.Judging.{is_enough};
-ghost use Rattle.run_model.specs.Drops.{proof_of, repos_of, is_locked, is_trusted, is_recent};
+ghost use Rattle.thin_model.specs.Drops.{proof_of, repos_of, is_locked, is_trusted, is_recent};
 
 use annex_base::{Items, NoMemory};
 use drop_proof::{Evidence, Judged, Kind, Need, Side, judge};
-use run_model::Proof;
+use run_data::Proof;
 use std::alloc::{AllocError, Global};
 
 /// Whether the evidence is enough for a drop at its own repository.

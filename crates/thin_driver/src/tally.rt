@@ -1,8 +1,8 @@
 ghost use Rattle.std.specs.Prelude.{◌≡◌, ◌+◌, IfOk, if◌then◌else◌};
-ghost use Rattle.run_model.specs.Past.{is_begin};
+ghost use Rattle.thin_model.specs.Past.{is_begin};
 
 use annex_base::NoMemory;
-use run_model::EntryKind;
+use run_data::EntryKind;
 
 /// How many jobs a repository has begun, and how many entries it has made. Numbers past their types are want of
 /// memory: no machine holds so many entries.

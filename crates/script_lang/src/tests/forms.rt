@@ -3,7 +3,7 @@
 use super::{TWO, joined};
 use crate::{Command, Script};
 use annex_base::{Level, put_number};
-use run_model::LogFile;
+use run_data::LogFile;
 use std::test::Fail;
 
 fn put_word(out: &mut Vec<u8>, word: &[u8]) -> Result<(), Fail> {

@@ -1,13 +1,13 @@
 use Rattle.std.proofs.Common.{◌≡◌, sym, ap, ◌∙◌, subst, List, length}
 use Rattle.annex_base.specs.Lists.{Each}
-use Rattle.run_model.specs.declared.run.Run.{Run}
-use Rattle.run_model.specs.Thin.{IsThinRun}
+use Rattle.run_data.specs.declared.run.Run.{Run}
+use Rattle.thin_model.specs.Thin.{IsThinRun}
 use Rattle.script_lang.specs.declared.command.Command.{Command}
 use Rattle.thin_driver.specs.Driver.{run_of}
 use Rattle.report_text.specs.Report.{report}
 use Rattle.report_text.specs.Walk.{ShowsKnown}
-use Rattle.race_core.proofs.ThinFacts.{thin_safe}
-use Rattle.race_core.proofs.ThinCauses.{thin_causes}
+use Rattle.thin_laws.proofs.ThinFacts.{thin_safe}
+use Rattle.thin_laws.proofs.ThinCauses.{thin_causes}
 use Rattle.annex_cli.proofs.ReportLemmas.{script_is_thin, thin_logged, script_shows_known}
 use Rattle.annex_cli.proofs.due.report_due.Goals as goal
 

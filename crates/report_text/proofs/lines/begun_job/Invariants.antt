@@ -1,5 +1,5 @@
 use Rattle.std.proofs.Common.{◌≡◌, length, reverse}
-use Rattle.run_model.specs.Past.{begun_job}
+use Rattle.thin_model.specs.Past.{begun_job}
 use Rattle.report_text.proofs.lines.begun_job.Given as goal
 
 abbrev pub invariant-loop-last : goal.invariant-loop-last

@@ -1,6 +1,6 @@
 use Rattle.std.proofs.Common.{◌<◌, ◌∙◌, sym, arith, length, Bool, bytes_eq}
 use Rattle.std.specs.List.{list_any}
-use Rattle.run_model.specs.declared.run.RepoView.{RepoView}
+use Rattle.run_data.specs.declared.run.RepoView.{RepoView}
 use Rattle.report_text.proofs.Chosen.{chosen_with, chosen_without}
 use Rattle.report_text.proofs.named.put_known.Goals as goal
 use Rattle.report_text.proofs.named.put_known.Goals.{then-is_among+in_ok-clone+in_ok-push, else-is_among}

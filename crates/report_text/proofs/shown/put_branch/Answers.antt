@@ -1,12 +1,12 @@
 use Rattle.std.proofs.Common.{◌≡◌, ℕ, List, ◌++◌, Some, sym, ap, ◌∙◌, refl}
-use Rattle.run_model.specs.declared.run.Run.{Run}
-use Rattle.run_model.specs.declared.entry.LogFile.{LogFile}
+use Rattle.run_data.specs.declared.run.Run.{Run}
+use Rattle.run_data.specs.declared.entry.LogFile.{LogFile}
 use Rattle.script_lang.specs.declared.command.Command.{Command}
 use Rattle.script_lang.specs.declared.command.Command.TheVariants.{ShowClaims, ShowLocation, ShowLog, ShowLogs, ShowNumbers, ShowLevel}
 use Rattle.std.specs.List.{flat_map}
 use Rattle.union_merge.specs.Branch.{Files, lines_at}
 use Rattle.trust_groups.specs.Settings.{claims, location_path, settings}
-use Rattle.run_model.specs.Logs.{file_path}
+use Rattle.thin_model.specs.Logs.{file_path}
 use Rattle.report_text.specs.Report.{branch_at, shown, claims_text, location_text, log_text, numbers_text, trust_text}
 use Rattle.report_text.specs.Walk.{shown_repo}
 use Rattle.report_text.proofs.shown.put_branch.Goals as goal

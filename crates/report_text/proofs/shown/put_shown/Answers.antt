@@ -1,4 +1,4 @@
-use Rattle.run_model.specs.Safety.{past_at}
+use Rattle.thin_model.specs.Safety.{past_at}
 use Rattle.report_text.proofs.shown.put_shown.Goals as goal
 
 pub returns-in_ok-put_presence-clause-text : goal.returns-in_ok-put_presence-clause-text

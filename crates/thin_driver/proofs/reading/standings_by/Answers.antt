@@ -2,9 +2,9 @@ use Rattle.std.proofs.Common.{◌∷◌, ◌++◌, [], map, take, ◌∙◌, ap}
 use Rattle.std.specs.Prelude.{bytes_eq}
 use Rattle.std.specs.List.{list_any}
 use Rattle.std.proofs.lemmas.List.{map-append}
-use Rattle.run_model.specs.declared.run.RepoView.{RepoView}
+use Rattle.run_data.specs.declared.run.RepoView.{RepoView}
 use Rattle.trust_groups.specs.View.{level_of}
-use Rattle.run_model.specs.Drops.{Standing as Seen, seen}
+use Rattle.thin_model.specs.Drops.{Standing as Seen, seen}
 use Rattle.thin_driver.specs.Reading.{seen_as}
 use Rattle.thin_driver.proofs.Readings.{map_next}
 use Rattle.thin_driver.proofs.reading.standings_by.Goals as goal

@@ -2,7 +2,7 @@ use Rattle.std.proofs.Common.{◌≡◌, map, take}
 use Rattle.std.specs.Prelude.{bytes_eq}
 use Rattle.std.specs.List.{list_any}
 use Rattle.trust_groups.specs.View.{level_of}
-use Rattle.run_model.specs.Drops.{seen}
+use Rattle.thin_model.specs.Drops.{seen}
 use Rattle.thin_driver.specs.Reading.{seen_as}
 use Rattle.thin_driver.proofs.reading.standings_by.Given as goal
 

@@ -3,8 +3,8 @@ use Rattle.std.specs.Prelude.{bytes_eq}
 use Rattle.std.specs.List.{list_any}
 use Rattle.union_merge.specs.Branch.{lines_at}
 use Rattle.trust_groups.specs.Settings.{level}
-use Rattle.run_model.specs.declared.run.RepoView.{RepoView}
-use Rattle.run_model.specs.Drops.{Standing as Seen, seen}
+use Rattle.run_data.specs.declared.run.RepoView.{RepoView}
+use Rattle.thin_model.specs.Drops.{Standing as Seen, seen}
 use Rattle.thin_driver.proofs.reading.standings_of.Goals as goal
 
 pub returns : goal.returns

@@ -1,5 +1,5 @@
 use Rattle.std.proofs.Common.{length, List, sym, ap, subst, arith}
-use Rattle.run_model.specs.declared.run.RepoView.{RepoView}
+use Rattle.run_data.specs.declared.run.RepoView.{RepoView}
 use Rattle.thin_driver.specs.Driver.{repos_of}
 use Rattle.thin_driver.specs.Standing.{CanRun}
 use Rattle.thin_driver.proofs.Scripts.{length-repos_of, Each-at, ScriptLoop-start, ScriptLoop-step, ScriptLoop-all}

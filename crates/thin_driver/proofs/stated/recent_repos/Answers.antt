@@ -2,7 +2,7 @@ use Rattle.std.proofs.Common.{◌==◌, ◌&&◌, ℕ, arith, rules, tests}
 use Rattle.std.specs.List.{list_any}
 use Rattle.std.proofs.lemmas.Iterator.{items_from_collect, YieldsList-from_range}
 use Rattle.std.proofs.lemmas.Iterator.Consumers.{YieldsList-from_filter}
-use Rattle.run_model.specs.Drops.{is_recent}
+use Rattle.thin_model.specs.Drops.{is_recent}
 use Rattle.thin_driver.proofs.stated.recent_repos.Goals as goal
 
 pub returns : goal.returns

@@ -1,5 +1,5 @@
 use Rattle.std.proofs.Common.{length}
-use Rattle.run_model.specs.Safety.{past_at}
+use Rattle.thin_model.specs.Safety.{past_at}
 use Rattle.report_text.proofs.walk.Walk.branch.Goals as goal
 
 pub returns : goal.returns

@@ -1,6 +1,6 @@
 use Rattle.std.proofs.Common.{◌+◌, ◌∙◌, ap}
 use Rattle.std.specs.Prelude.{if◌then◌else◌}
-use Rattle.run_model.specs.Past.{is_begin}
+use Rattle.thin_model.specs.Past.{is_begin}
 use Rattle.thin_driver.specs.declared.tally.Tally.{Tally}
 use Rattle.thin_driver.proofs.Tables.{IsAt-added}
 use Rattle.thin_driver.proofs.driver.Driver.add.Goals as goal

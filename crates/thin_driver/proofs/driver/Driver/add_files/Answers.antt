@@ -2,8 +2,8 @@ use Rattle.std.proofs.Common.{List, ℕ, ◌∙◌, refl, sym, ap, subst}
 use Rattle.union_merge.specs.Branch.{Files}
 use Rattle.union_merge.specs.FileView.{seen}
 use Rattle.union_merge.specs.LineSet.{IsLine}
-use Rattle.run_model.specs.declared.entry.LogFile.{LogFile}
-use Rattle.run_model.specs.Logs.{file_named}
+use Rattle.run_data.specs.declared.entry.LogFile.{LogFile}
+use Rattle.thin_model.specs.Logs.{file_named}
 use Rattle.thin_driver.specs.Driver.{add_files, add_lines}
 use Rattle.thin_driver.specs.State.{Rests}
 use Rattle.thin_driver.proofs.Walks.{Walk, Walk-step}

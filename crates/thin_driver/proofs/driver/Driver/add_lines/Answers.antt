@@ -1,5 +1,5 @@
 use Rattle.std.proofs.Common.{◌==◌, length, sym, ap, subst, ◌∙◌, true≢false}
-use Rattle.run_model.specs.declared.entry.EntryKind.TheVariants.{Log}
+use Rattle.run_data.specs.declared.entry.EntryKind.TheVariants.{Log}
 use Rattle.thin_driver.specs.Driver.{log_some}
 use Rattle.thin_driver.specs.State.{Rests}
 use Rattle.thin_driver.proofs.Logging.{log_some_added}

@@ -1,14 +1,14 @@
 use Rattle.std.proofs.Common.{◌≡◌, ◌+◌, ℕ, zero, true, false, List, [], Ok, Err, ◌∙◌, length, refl, sym, ap, subst}
 use Rattle.drop_proof.specs.declared.evidence.Kind.TheVariants.{Locked}
 use Rattle.annex_base.specs.declared.kinds.Found.TheVariants.{Absent as found_absent}
-use Rattle.run_model.specs.declared.entry.Entry.{Entry}
-use Rattle.run_model.specs.declared.entry.EntryKind.{EntryKind}
-use Rattle.run_model.specs.declared.entry.EntryKind.TheVariants.{Share, Check}
-use Rattle.run_model.specs.declared.entry.By.TheVariants.{Peer}
-use Rattle.run_model.specs.declared.job.Cause.TheVariants.{Absent}
-use Rattle.run_model.specs.declared.run.RepoView.{RepoView}
-use Rattle.run_model.specs.SetUp.{offset_of}
-use Rattle.run_model.specs.Past.{clock, made, now, present}
+use Rattle.run_data.specs.declared.entry.Entry.{Entry}
+use Rattle.run_data.specs.declared.entry.EntryKind.{EntryKind}
+use Rattle.run_data.specs.declared.entry.EntryKind.TheVariants.{Share, Check}
+use Rattle.run_data.specs.declared.entry.By.TheVariants.{Peer}
+use Rattle.run_data.specs.declared.job.Cause.TheVariants.{Absent}
+use Rattle.run_data.specs.declared.run.RepoView.{RepoView}
+use Rattle.run_data.specs.Repos.{offset_of}
+use Rattle.thin_model.specs.Past.{clock, made, now, present}
 use Rattle.thin_driver.specs.declared.reading.Standing.TheVariants.{Asked}
 use Rattle.thin_driver.specs.Driver.{added, answer}
 use Rattle.thin_driver.specs.Asking.{given}

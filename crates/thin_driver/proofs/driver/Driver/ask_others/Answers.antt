@@ -3,8 +3,8 @@ use Rattle.std.proofs.lemmas.List.{get_or_default}
 use Rattle.drop_proof.specs.declared.evidence.Evidence.{Evidence}
 use Rattle.drop_proof.specs.declared.rule.Side.TheVariants.{Local}
 use Rattle.drop_proof.specs.Judging.{is_enough}
-use Rattle.run_model.specs.declared.job.CandidateCause.{CandidateCause}
-use Rattle.run_model.specs.Drops.{candidates}
+use Rattle.run_data.specs.declared.job.CandidateCause.{CandidateCause}
+use Rattle.thin_model.specs.Drops.{candidates}
 use Rattle.thin_driver.specs.declared.reading.Standing.TheVariants.{Asked}
 use Rattle.thin_driver.specs.Asking.{cause_of}
 use Rattle.thin_driver.proofs.AskLoop.{AskLoop, AskLoop-start, AskLoop-step, AskLoop-enough, AskLoop-all, candidate_below, candidates_few}

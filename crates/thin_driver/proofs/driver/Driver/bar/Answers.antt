@@ -1,6 +1,6 @@
 use Rattle.std.proofs.Common.{[], List, ℕ, ap, subst}
 use Rattle.std.specs.declared.vec.Vec.{Vec}
-use Rattle.run_model.specs.declared.entry.EntryKind.TheVariants.{Bar}
+use Rattle.run_data.specs.declared.entry.EntryKind.TheVariants.{Bar}
 use Rattle.thin_driver.specs.Driver.{added}
 use Rattle.thin_driver.specs.State.{IsAt}
 use Rattle.thin_driver.proofs.Steps.{Drops-kept, idle_bar}

@@ -1,6 +1,6 @@
 use Rattle.std.proofs.Common.{◌+◌, [], ℕ, ◌∙◌, ap, subst}
-use Rattle.run_model.specs.declared.entry.EntryKind.TheVariants.{Begin}
-use Rattle.run_model.specs.declared.job.Job.{Job}
+use Rattle.run_data.specs.declared.entry.EntryKind.TheVariants.{Begin}
+use Rattle.run_data.specs.declared.job.Job.{Job}
 use Rattle.std.specs.declared.vec.Vec.{Vec}
 use Rattle.thin_driver.specs.declared.tally.Tally.{Tally}
 use Rattle.thin_driver.specs.Driver.{added}

@@ -1,5 +1,5 @@
 use Rattle.std.proofs.Common.{◌∙◌, length}
-use Rattle.run_model.specs.Logs.{branch}
+use Rattle.thin_model.specs.Logs.{branch}
 use Rattle.thin_driver.proofs.Walks.{some_is, none_isnt}
 use Rattle.thin_driver.proofs.driver.Driver.branch_of.Goals as goal
 

@@ -1,8 +1,8 @@
 use Rattle.std.proofs.Common.{List, ℕ, ◌∙◌, refl, ap, subst}
 use Rattle.union_merge.specs.Branch.{Files}
 use Rattle.union_merge.specs.FileView.{seen}
-use Rattle.run_model.specs.declared.entry.LogFile.{LogFile}
-use Rattle.run_model.specs.Logs.{file_named}
+use Rattle.run_data.specs.declared.entry.LogFile.{LogFile}
+use Rattle.thin_model.specs.Logs.{file_named}
 use Rattle.thin_driver.specs.Driver.{compact_files, compact_one}
 use Rattle.thin_driver.specs.State.{Rests}
 use Rattle.thin_driver.proofs.Walks.{Walk, Walk-step}

@@ -1,6 +1,6 @@
 use Rattle.std.proofs.Common.{[], ◌∙◌, sym, ap, subst}
 use Rattle.std.specs.declared.vec.Vec.{Vec}
-use Rattle.run_model.specs.declared.entry.EntryKind.TheVariants.{Compact}
+use Rattle.run_data.specs.declared.entry.EntryKind.TheVariants.{Compact}
 use Rattle.thin_driver.specs.State.{Rests}
 use Rattle.thin_driver.proofs.Steps.{Rests-kept, idle_compact}
 use Rattle.thin_driver.proofs.Walks.{compact_one_shorter}

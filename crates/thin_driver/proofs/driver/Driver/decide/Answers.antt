@@ -2,13 +2,13 @@ use Rattle.std.proofs.Common.{◌≡◌, ℕ, false, true, List, [], ◌∙◌, 
 use Rattle.drop_proof.specs.declared.evidence.Evidence.{Evidence}
 use Rattle.drop_proof.specs.declared.rule.Side.TheVariants.{Local}
 use Rattle.drop_proof.specs.Judging.{is_enough}
-use Rattle.run_model.specs.declared.entry.Entry.{Entry}
-use Rattle.run_model.specs.Drops.{proof_of}
+use Rattle.run_data.specs.declared.entry.Entry.{Entry}
+use Rattle.thin_model.specs.Drops.{proof_of}
 use Rattle.thin_driver.specs.State.{Releases}
 use Rattle.thin_driver.proofs.Deciding.{decide_enough, decide_lacking}
 use Rattle.log_lines.specs.declared.entry.Value.TheVariants as values
-use Rattle.run_model.specs.declared.entry.EntryKind.TheVariants.{Gone}
-use Rattle.run_model.specs.declared.entry.By.TheVariants.{Job as by_job}
+use Rattle.run_data.specs.declared.entry.EntryKind.TheVariants.{Gone}
+use Rattle.run_data.specs.declared.entry.By.TheVariants.{Job as by_job}
 use Rattle.thin_driver.specs.Driver.{added, log_status}
 use Rattle.thin_driver.proofs.driver.Driver.decide.Goals as goal
 

@@ -1,12 +1,12 @@
 use Rattle.std.proofs.Common.{◌≡◌, ℕ, ◌+◌, true, false, List, [], Option, None, ◌∙◌, length, get_or, sym, ap, subst}
 use Rattle.std.specs.declared.vec.Vec.{Vec}
 use Rattle.std.specs.declared.alloc.Global.{Global}
-use Rattle.run_model.specs.declared.entry.Entry.{Entry}
-use Rattle.run_model.specs.declared.entry.EntryKind.TheVariants.{Begin, End}
-use Rattle.run_model.specs.declared.job.DropRefusal.TheVariants.{NotPresent}
-use Rattle.run_model.specs.declared.job.Outcome.TheVariants.{Refused}
-use Rattle.run_model.specs.declared.run.RepoView.{RepoView}
-use Rattle.run_model.specs.Past.{begun, present}
+use Rattle.run_data.specs.declared.entry.Entry.{Entry}
+use Rattle.run_data.specs.declared.entry.EntryKind.TheVariants.{Begin, End}
+use Rattle.run_data.specs.declared.job.DropRefusal.TheVariants.{NotPresent}
+use Rattle.run_data.specs.declared.job.Outcome.TheVariants.{Refused}
+use Rattle.run_data.specs.declared.run.RepoView.{RepoView}
+use Rattle.thin_model.specs.Past.{begun, present}
 use Rattle.thin_driver.specs.Driver.{added, drop_by, drop_there}
 use Rattle.thin_driver.specs.State.{Rests}
 use Rattle.thin_driver.proofs.Steps.{Rests-released}

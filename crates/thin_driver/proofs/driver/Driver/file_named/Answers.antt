@@ -1,5 +1,5 @@
 use Rattle.std.proofs.Common.{◌∙◌, length, sym, ap}
-use Rattle.run_model.specs.declared.entry.LogFile.TheVariants.{Named}
+use Rattle.run_data.specs.declared.entry.LogFile.TheVariants.{Named}
 use Rattle.thin_driver.proofs.Walks.{named_is}
 use Rattle.thin_driver.proofs.driver.Driver.file_named.Goals as goal
 

@@ -1,7 +1,7 @@
 use Rattle.std.proofs.Common.{[], List, ℕ, ap, subst}
 use Rattle.std.specs.declared.vec.Vec.{Vec}
-use Rattle.run_model.specs.declared.entry.EntryKind.TheVariants.{Gain}
-use Rattle.run_model.specs.declared.entry.By.TheVariants.{Script}
+use Rattle.run_data.specs.declared.entry.EntryKind.TheVariants.{Gain}
+use Rattle.run_data.specs.declared.entry.By.TheVariants.{Script}
 use Rattle.thin_driver.specs.Driver.{added}
 use Rattle.thin_driver.specs.State.{IsAt}
 use Rattle.thin_driver.proofs.Steps.{Rests-kept, idle_gain}

@@ -1,6 +1,6 @@
 use Rattle.std.proofs.Common.{List, ℕ, Option, length, nat_lt, ◌∙◌, ap}
 use Rattle.log_lines.specs.declared.entry.LogKind.{LogKind}
-use Rattle.run_model.specs.Logs.{compact_lines, kept, kind_of}
+use Rattle.thin_model.specs.Logs.{compact_lines, kept, kind_of}
 use Rattle.thin_driver.proofs.driver.Driver.is_outdated.Goals as goal
 
 pub returns : goal.returns

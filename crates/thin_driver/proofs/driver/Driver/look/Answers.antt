@@ -1,7 +1,7 @@
 use Rattle.std.proofs.Common.{[], List, ℕ, ◌∙◌, sym, ap, subst}
 use Rattle.std.specs.declared.vec.Vec.{Vec}
 use Rattle.annex_base.specs.declared.kinds.Found.TheVariants.{Absent}
-use Rattle.run_model.specs.declared.entry.EntryKind.TheVariants.{Check}
+use Rattle.run_data.specs.declared.entry.EntryKind.TheVariants.{Check}
 use Rattle.thin_driver.specs.Driver.{added}
 use Rattle.thin_driver.specs.State.{IsAt}
 use Rattle.thin_driver.proofs.Steps.{Drops-kept, idle_look}

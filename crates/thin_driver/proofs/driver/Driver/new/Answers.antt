@@ -1,7 +1,7 @@
 use Rattle.std.proofs.Common.{◌≡◌, List, [], None, length, replicate, refl, subst, rules}
-use Rattle.run_model.specs.declared.run.RepoView.{RepoView}
-use Rattle.run_model.specs.Contents.{Tracks}
-use Rattle.run_model.specs.Branches.{HasBranches}
+use Rattle.run_data.specs.declared.run.RepoView.{RepoView}
+use Rattle.thin_model.specs.Contents.{Tracks}
+use Rattle.thin_model.specs.Branches.{HasBranches}
 use Rattle.thin_driver.specs.State.{no_tally}
 use Rattle.thin_driver.proofs.Scripts.{Stands-start}
 use Rattle.thin_driver.proofs.driver.Driver.new.Goals as goal

@@ -1,5 +1,5 @@
 use Rattle.std.proofs.Common.{List, get_or, ◌∙◌, sym, ap}
-use Rattle.run_model.specs.declared.run.RepoView.{RepoView}
+use Rattle.run_data.specs.declared.run.RepoView.{RepoView}
 use Rattle.thin_driver.proofs.SetUps.{offset_of-at}
 use Rattle.thin_driver.proofs.driver.Driver.offset.Goals as goal
 

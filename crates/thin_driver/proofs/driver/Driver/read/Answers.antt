@@ -3,9 +3,9 @@ use Rattle.std.proofs.lemmas.List.{length-map}
 use Rattle.thin_driver.specs.Reading.{seen_as}
 use Rattle.union_merge.specs.Branch.{lines_at}
 use Rattle.trust_groups.specs.Settings.{settings}
-use Rattle.run_model.specs.declared.run.RepoView.{RepoView}
-use Rattle.run_model.specs.Logs.{branch}
-use Rattle.run_model.specs.Drops.{Standing as Seen, standing_by}
+use Rattle.run_data.specs.declared.run.RepoView.{RepoView}
+use Rattle.thin_model.specs.Logs.{branch}
+use Rattle.thin_model.specs.Drops.{Standing as Seen, standing_by}
 use Rattle.thin_driver.proofs.Readings.{HasRead-read, need_in}
 use Rattle.thin_driver.proofs.driver.Driver.read.Goals as goal
 

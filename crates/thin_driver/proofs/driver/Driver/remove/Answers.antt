@@ -3,10 +3,10 @@ use Rattle.std.specs.declared.vec.Vec.{Vec}
 use Rattle.log_lines.specs.declared.entry.LogKind.TheVariants as kinds
 use Rattle.log_lines.specs.declared.entry.Topic.TheVariants as topics
 use Rattle.log_lines.specs.declared.entry.Value.TheVariants as values
-use Rattle.run_model.specs.declared.entry.EntryKind.TheVariants.{Gone, Log}
-use Rattle.run_model.specs.declared.entry.By.TheVariants.{Job as by_job}
-use Rattle.run_model.specs.declared.entry.LogFile.TheVariants.{Location}
-use Rattle.run_model.specs.declared.run.RepoView.{RepoView}
+use Rattle.run_data.specs.declared.entry.EntryKind.TheVariants.{Gone, Log}
+use Rattle.run_data.specs.declared.entry.By.TheVariants.{Job as by_job}
+use Rattle.run_data.specs.declared.entry.LogFile.TheVariants.{Location}
+use Rattle.run_data.specs.declared.run.RepoView.{RepoView}
 use Rattle.thin_driver.specs.Driver.{added, log_status}
 use Rattle.thin_driver.specs.State.{IsAt}
 use Rattle.thin_driver.proofs.Steps.{Drops-kept, idle_log}

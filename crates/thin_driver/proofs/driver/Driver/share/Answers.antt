@@ -1,11 +1,11 @@
 use Rattle.std.proofs.Common.{◌≡◌, ◌+◌, ℕ, zero, List, [], Option, Some, ◌∙◌, set, refl, ap, subst, arith}
 use Rattle.std.specs.declared.vec.Vec.{Vec}
 use Rattle.std.specs.declared.alloc.Global.{Global}
-use Rattle.run_model.specs.declared.entry.EntryKind.{EntryKind}
-use Rattle.run_model.specs.declared.entry.EntryKind.TheVariants.{Share}
-use Rattle.run_model.specs.declared.entry.By.TheVariants.{Peer}
-use Rattle.run_model.specs.SetUp.{offset_of}
-use Rattle.run_model.specs.Past.{clock, made, now}
+use Rattle.run_data.specs.declared.entry.EntryKind.{EntryKind}
+use Rattle.run_data.specs.declared.entry.EntryKind.TheVariants.{Share}
+use Rattle.run_data.specs.declared.entry.By.TheVariants.{Peer}
+use Rattle.run_data.specs.Repos.{offset_of}
+use Rattle.thin_model.specs.Past.{clock, made, now}
 use Rattle.thin_driver.specs.declared.tally.Tally.{Tally}
 use Rattle.thin_driver.specs.Driver.{added}
 use Rattle.thin_driver.specs.State.{IsAt}

@@ -1,5 +1,5 @@
 use Rattle.std.proofs.Common.{not, filter, length, ◌∙◌, sym, ap, subst}
-use Rattle.run_model.specs.Logs.{kept}
+use Rattle.thin_model.specs.Logs.{kept}
 use Rattle.std.specs.Prelude.{bytes_eq}
 use Rattle.std.specs.List.{list_any}
 use Rattle.std.specs.Option.{option_copied}

@@ -1,5 +1,5 @@
 use Rattle.std.proofs.Common.{◌+◌, List, [], ℕ, None, length, ◌∙◌, ap}
-use Rattle.run_model.specs.declared.entry.EntryKind.TheVariants.{Wait}
+use Rattle.run_data.specs.declared.entry.EntryKind.TheVariants.{Wait}
 use Rattle.std.specs.declared.vec.Vec.{Vec}
 use Rattle.thin_driver.proofs.Tables.{IsAt-waited}
 use Rattle.thin_driver.proofs.Steps.{Rests-waited}

@@ -1,7 +1,0 @@
-use Rattle.std.proofs.Common.{◌≡◌, take, reverse}
-use Rattle.std.specs.List.{list_any}
-use Rattle.race_core.specs.Checked.{trusts_given}
-use Rattle.race_core.proofs.checker.has_claim.Given as goal
-
-abbrev pub invariant-loop-removed : goal.invariant-loop-removed
-invariant-loop-removed l = l.has ≡ list_any (trusts_given l.repo) (reverse (take l.removed-index l.drops))

@@ -1,7 +1,0 @@
-use Rattle.std.proofs.Common.{◌≡◌, take, reverse}
-use Rattle.std.specs.Prelude.{map}
-use Rattle.race_core.specs.Checked.{candidate_given}
-use Rattle.race_core.proofs.gathering.answers.Given as goal
-
-abbrev pub invariant-loop-candidate : goal.invariant-loop-candidate
-invariant-loop-candidate l = l.candidates.items ≡ map (candidate_given l.repos (reverse l.entries) l.reading l.repo l.job) (take l.candidate-index l.asked)

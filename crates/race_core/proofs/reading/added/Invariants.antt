@@ -1,7 +1,0 @@
-use Rattle.std.proofs.Common.{◌≡◌}
-use Rattle.std.specs.Prelude.{map}
-use Rattle.run_model.specs.Logs.{ever}
-use Rattle.race_core.proofs.reading.added.Given as goal
-
-abbrev pub invariant-loop-entry : goal.invariant-loop-entry
-invariant-loop-entry l = l.lines ≡ ever (map (λ e. e.now) l.yielded) l.repo l.path

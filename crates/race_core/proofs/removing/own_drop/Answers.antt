@@ -1,8 +1,0 @@
-use Rattle.std.proofs.Common.{reverse}
-use Rattle.run_model.specs.Past.{decided}
-use Rattle.race_core.proofs.CheckedFacts.{own_same}
-use Rattle.race_core.proofs.removing.own_drop.Goals as goal
-
-pub returns-in_ok-items-in-Some : goal.returns-in_ok-items-in-Some
-returns-in_ok-items-in-Some c = own_same c.args.repos.now (reverse c.args.earlier.now) c.args.repo c.args.job c.in-Some.need c.in_ok-items-in-Some.items
-    (decided (reverse c.args.earlier.now) c.args.repo c.args.job) c.in-Some.ensures c.in_ok-items-in-Some.ensures

@@ -1,8 +1,0 @@
-use Rattle.std.proofs.Common.{◌≡◌, ℕ, take, reverse}
-use Rattle.std.specs.Prelude.{map}
-use Rattle.run_model.specs.Safety.{removals}
-use Rattle.race_core.specs.Checked.{drop_of}
-use Rattle.race_core.proofs.removing.removals.Given as goal
-
-abbrev pub invariant-loop-at : goal.invariant-loop-at
-invariant-loop-at l = reverse l.drops.items ≡ map drop_of (removals l.repos (reverse (take l.at l.entries)) l.key)

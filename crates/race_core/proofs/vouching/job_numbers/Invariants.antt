@@ -1,7 +1,0 @@
-use Rattle.std.proofs.Common.{◌≡◌, take, reverse}
-use Rattle.std.specs.Prelude.{map}
-use Rattle.run_model.specs.Past.{jobs}
-use Rattle.race_core.proofs.vouching.job_numbers.Given as goal
-
-abbrev pub invariant-loop-entry : goal.invariant-loop-entry
-invariant-loop-entry l = l.numbers.items ≡ map (λ j. j.number) (jobs (reverse (take l.entry-index l.entries)) l.repo)

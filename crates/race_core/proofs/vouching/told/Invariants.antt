@@ -1,7 +1,0 @@
-use Rattle.std.proofs.Common.{◌≡◌, take, reverse}
-use Rattle.run_model.specs.Drops.{reply}
-use Rattle.race_core.specs.Checked.{given_by}
-use Rattle.race_core.proofs.vouching.told.Given as goal
-
-abbrev pub invariant-loop-at : goal.invariant-loop-at
-invariant-loop-at l = l.given ≡ given_by (reply (reverse (take l.at l.entries)) l.repo l.job l.from)

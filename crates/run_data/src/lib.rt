@@ -1,0 +1,27 @@
+//! The plain data of runs of several repositories: jobs and their outcomes, entries, rows, set-ups and runs.
+#![tactic(auto)]
+
+mod entry;
+mod job;
+mod row;
+mod run;
+
+pub use entry::{By, Entry, EntryKind, FrameText, FrameView, LogFile};
+pub use job::{
+    CandidateCause, Cause, Denial, DropRefusal, Job, JobKind, Outcome, Proof, SourceCause,
+    SourceFailure, TransferRefusal,
+};
+pub use row::{Hold, HoldView, RowView};
+pub use run::{RepoView, Run, TreeMark};
+
+fn is_send<T: Send>() {}
+
+fn is_sync<T: Sync>() {}
+
+/// A run and its parts go from thread to thread.
+pub fn cross_threads() {
+    is_send::<Run>();
+    is_sync::<Run>();
+    is_send::<RowView>();
+    is_sync::<RowView>();
+}

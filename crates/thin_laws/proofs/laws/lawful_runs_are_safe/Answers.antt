@@ -1,0 +1,5 @@
+use Rattle.thin_laws.proofs.Latest.{lawful_safe}
+use Rattle.thin_laws.proofs.laws.lawful_runs_are_safe.Goals as goal
+
+pub returns : goal.returns
+returns c = lawful_safe

@@ -1,0 +1,5 @@
+use Rattle.thin_laws.proofs.ThinCauses.{thin_causes}
+use Rattle.thin_laws.proofs.laws.thin_refusals_have_causes.Goals as goal
+
+pub returns : goal.returns
+returns c = thin_causes

@@ -1,0 +1,12 @@
+use Rattle.std.proofs.Common.{◌≡◌, [], sym, subst, ap, ◌∙◌}
+use Rattle.std.specs.Prelude.{IfOk, unwrap_or}
+use Rattle.std.specs.Option.{option_copied}
+use Rattle.trust_groups.specs.Settings.{location_path}
+use Rattle.thin_laws.proofs.ReadingFacts.{path_without_key}
+use Rattle.thin_laws.proofs.reading.log_path.Goals as goal
+
+pub returns-in-None : goal.returns-in-None
+returns-in-None c =
+    subst (λ path. IfOk c.path_without_key.result (λ t. t ≡ path))
+    (sym path_without_key ∙ ap (λ o. location_path (unwrap_or (option_copied o) [])) (sym c.in-None.is))
+    c.path_without_key.ensures

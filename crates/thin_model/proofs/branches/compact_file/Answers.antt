@@ -1,0 +1,9 @@
+use Rattle.std.proofs.Common.{◌∙◌, sym, subst}
+use Rattle.union_merge.specs.LineSet.{IsLine}
+use Rattle.thin_model.proofs.BranchLemmas.{found_is_line}
+use Rattle.thin_model.proofs.branches.compact_file.Goals as goal
+
+pub replace_file-requires : goal.replace_file-requires
+replace_file-requires c =
+    subst IsLine (c.bytes.ensures ∙ sym c.bytes-2.ensures)
+    (found_is_line c.args.branch.now c.bytes.result.now c.in-Some.lines.now c.files.ensures.branch (sym c.in-Some.ensures))

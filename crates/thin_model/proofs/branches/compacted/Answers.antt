@@ -1,0 +1,22 @@
+use Rattle.std.proofs.Common.{◌∙◌, [], sym, ap, subst}
+use Rattle.annex_base.specs.Lists.{Each}
+use Rattle.log_lines.specs.Newest.{compacted}
+use Rattle.union_merge.specs.LineSet.{IsLine, union}
+use Rattle.thin_model.specs.Logs.{compact_lines}
+use Rattle.thin_model.proofs.BranchLemmas.{compacted_lines, compacted_set}
+use Rattle.thin_model.proofs.branches.compacted.Goals as goal
+
+pub from_lines-requires : goal.from_lines-requires
+from_lines-requires c =
+    let kind = c.in-Some.kind in
+    let are = c.in_ok-compact.ensures ∙ ap (compacted kind) (c.in_ok-lines.ensures ∙ c.lines.ensures.value) in
+    subst (Each IsLine) (sym are) (compacted_lines kind c.args.lines.now c.lines.ensures.set)
+
+pub returns : goal.returns
+returns c =
+    let kind = c.in-Some.kind in
+    let are = c.in_ok-compact.ensures ∙ ap (compacted kind) (c.in_ok-lines.ensures ∙ c.lines.ensures.value) in
+    c.from_lines.ensures
+    ∙ ap (union []) are
+    ∙ compacted_set kind c.args.lines.now c.lines.ensures.set
+    ∙ ap (λ of. compact_lines of c.args.lines.now) (sym c.in-Some.is)
