@@ -5,6 +5,9 @@ ghost use Rattle.std.specs.Prelude.{◌≡◌, take, drop};
 ghost use Rattle.hex.specs.Hex.{encode_lower};
 ghost use Rattle.md5.specs.Md5.{md5};
 
+mod location;
+
+pub use location::location_path;
 use md5::{Digest, Md5};
 
 /// The two hash directories of a name, the outer one first. Each is three lower-case hexadecimal digits, in ASCII.

@@ -4,6 +4,7 @@ use super::*;
 use crate::files::lines_of;
 use annex_base::{Level, NoMemory, RepoId, Text};
 use annex_key::Key;
+use hash_dirs::location_path;
 use log_lines::{LogKind, compact};
 use std::alloc::Global;
 use std::test::Fail;
