@@ -1,16 +1,17 @@
 -- The text of an identifier is 36 bytes of ASCII, and parses to the identifier alone.
-use Rattle.std.proofs.Common.{◌≡◌, ℕ, ◌+◌, ◌*◌, ◌<◌, ◌≤◌, Bool, true, false, ◌==◌, if◌then◌else◌, List, length, slice_index, Some, Option, unwrap_or, [], inl, refl, sym, ap, subst, ◌∙◌, arith}
-use Rattle.std.specs.Str.{IsAscii}
+use Rattle.std.proofs.Common.{◌≡◌, ℕ, ◌+◌, ◌*◌, ◌<◌, ◌≤◌, Bool, true, false, ◌==◌, if◌then◌else◌, List, length, slice_index, Some, None, Option, unwrap_or, [], inl, refl, sym, ap, subst, ◌∙◌, arith}
+use Rattle.std.specs.Str.{IsAscii, bytes_eq}
+use Rattle.std.specs.Cmp.Lexicographic.{bytes_decides}
 use Rattle.std.specs.List.{list_all}
 use Rattle.std.proofs.lemmas.Bool.{and_parts}
 use Rattle.std.proofs.lemmas.Bool.Decides.{nat_tests, Decides-eqb}
-use Rattle.std.proofs.lemmas.Option.{same_Some}
+use Rattle.std.proofs.lemmas.Option.{cond_some, same_Some}
 use Rattle.std.proofs.lemmas.List.Sums.{AllPass-from_list_all, list_all-from_AllPass}
 use Rattle.uuid.specs.Text.{parsed, parsed_simple, parsed_hyphenated, digits_of, by_index, byte_of_digits, is_hex_digit, value_of, lower, hyphen, hex_digit, nibble, digit_place, is_hyphen_place}
 use Rattle.uuid.proofs.RoundTrips.{parses_hyphenated}
 use Rattle.uuid.proofs.TextLemmas.{by_index_length, by_index_at, hyphenated_ascii}
-use Rattle.annex_base.specs.RepoText.{IsId, repo_text}
-use Rattle.annex_base.proofs.Options.{where_some}
+use Rattle.annex_base.specs.RepoText.{IsId, repo_text, repo_of}
+use Rattle.annex_base.proofs.Options.{bind_some, none_by, where_some}
 
 pub length-repo_text : (id : List ℕ) → length (repo_text id) ≡ 36
 length-repo_text id = by_index_length 36 _
@@ -55,6 +56,27 @@ parsed_id text word bytes spelled whole {found} is read =
     let long : length word ≡ 36 = ap length (whole ∙ spelled) ∙ length-repo_text bytes in
     let digits = where_some _ (parsed_simple (digits_of word)) found (sym (read ∙ parsed_at_36 word long)) in
     subst IsId (sym is) (simple_id (digits_of word) found (sym digits.1))
+
+-- ---- the identifier of a text
+
+pub repo_again : (text id : List ℕ) → IsId id → text ≡ repo_text id → repo_of text ≡ Some id
+unfolding repo_of
+repo_again text id is spelled =
+    let read : parsed text ≡ Some id = ap parsed spelled ∙ sym (parsed-repo_text id is) in
+    rw (read, (bytes_decides text (repo_text id)).1 spelled) refl
+
+pub repo_takes : (text id : List ℕ) → repo_of text ≡ Some id → IsId id × (text ≡ repo_text id)
+unfolding repo_of
+repo_takes text id e =
+    let read = bind_some (parsed text) _ id e in
+    let test = cond_some (bytes_eq text (repo_text read.0)) read.0 id read.2 in
+    let spelled : text ≡ repo_text read.0 = (bytes_decides text (repo_text read.0)).0 test.0 in (
+      subst IsId test.1 (parsed_id text text read.0 spelled refl refl (sym read.1)),
+      spelled ∙ ap repo_text test.1,
+    )
+
+pub repo_none : (text : List ℕ) → ((id : List ℕ) → IsId id → text ≡ repo_text id → ⊥) → repo_of text ≡ None
+repo_none text none = none_by (repo_of text) (λ id found. let is = repo_takes text id found in none id is.0 is.1)
 
 -- ---- what holds of every byte from the hyphen on holds of the text's bytes
 

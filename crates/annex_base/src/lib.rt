@@ -16,6 +16,7 @@ mod standard;
 mod tests;
 mod text;
 
+pub use crossing::crosses;
 pub use decimal::{parse_decimal, put_number};
 pub use gate::{Gate, OpenGate};
 pub use in_memory::{SliceSource, VecSink};
