@@ -12,8 +12,6 @@ mod repo;
 mod source;
 mod stamp;
 mod standard;
-#[cfg(test)]
-mod tests;
 mod text;
 
 pub use crossing::crosses;

@@ -27,5 +27,5 @@ fn log_path(alloc: Global, unchunked: &[u8], file: &[u8]) -> Result<Text, NoMemo
     path.push(b'/')?;
     path.extend_from_slice(file)?;
     path.extend_from_slice(b".log")?;
-    Text::new(alloc, &path)
+    Ok(Text::from_vec(path))
 }
