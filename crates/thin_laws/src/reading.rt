@@ -21,7 +21,6 @@ use hash_dirs::dirs_of;
 use log_lines::{LogKind, Topic, Value, newest_of};
 use run_data::{By, Entry, EntryKind, RepoView};
 use std::alloc::Global;
-use thin_model::file_path;
 use trust_groups::{file_name, location_path};
 
 /// How the logs see a repository: as trusted and claimed to have the job's key, as untrusted or dead, or as one that is to
@@ -273,7 +272,7 @@ fn adds_to(alloc: Global, entry: &Entry, repo: usize, path: &[u8]) -> Result<boo
     }
     match &entry.kind {
         EntryKind::Log { file } => {
-            let at = file_path(alloc, file)?;
+            let at = file.path(alloc)?;
             Ok(at.bytes() == path)
         }
         _ => Ok(false),
