@@ -6,7 +6,8 @@ use Rattle.run_data.specs.declared.entry.EntryKind.{EntryKind}
 use Rattle.run_data.specs.declared.entry.EntryKind.TheVariants.{Bar, Begin, Crash, End, Log}
 use Rattle.thin_model.specs.Past.{Running, is_of}
 use Rattle.thin_model.specs.Frames.{Sent}
-use Rattle.thin_model.specs.Logs.{file_path, is_step}
+use Rattle.run_data.specs.Files.{file_path}
+use Rattle.thin_model.specs.Logs.{is_step}
 
 -- the numbers of the running jobs after an entry, the newest first
 abbrev pub numbers_after : List ℕ → EntryKind → List ℕ

@@ -22,7 +22,6 @@ use hash_dirs::{dirs_of, location_path};
 use log_lines::{LogKind, Topic, Value, newest_of};
 use run_data::{By, Entry, EntryKind, RepoView};
 use std::alloc::Global;
-use thin_model::file_path;
 use trust_groups::file_name;
 
 /// How the logs see a repository: as trusted and claimed to have the job's key, as untrusted or dead, or as one that is to
@@ -274,7 +273,7 @@ fn adds_to(alloc: Global, entry: &Entry, repo: usize, path: &[u8]) -> Result<boo
     }
     match &entry.kind {
         EntryKind::Log { file } => {
-            let at = file_path(alloc, file)?;
+            let at = file.path(alloc)?;
             Ok(at.bytes() == path)
         }
         _ => Ok(false),

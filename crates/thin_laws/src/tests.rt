@@ -88,7 +88,7 @@ fn kind_of(alloc: Global, step: Step) -> Result<EntryKind, Fail> {
 fn file_of(alloc: Global, said: Said, key: Key) -> Result<LogFile, Fail> {
     match said {
         Has | HasNotLater => Ok(LogFile::Location(key)),
-        _ => Ok(LogFile::Named(Text::new(alloc, b"trust.log")?)),
+        _ => Ok(LogFile::Of(LogKind::Trust)),
     }
 }
 
