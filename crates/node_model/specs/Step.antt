@@ -9,5 +9,5 @@ use Rattle.node_model.specs.SessionStep.{session_step}
 use Rattle.node_model.specs.Turns.{job_step}
 
 -- none where no step is ready
-abbrev pub step_from : SetUp → State → Look → Option Made
-step_from s st k = first_of (owed_step s st k) (first_of (session_step s st k) (job_step s st k))
+abbrev pub step : SetUp → State → Look → Option Made
+step s st k = first_of (owed_step s st k) (first_of (session_step s st k) (job_step s st k))

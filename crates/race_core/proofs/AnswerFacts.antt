@@ -16,7 +16,7 @@ use Rattle.node_model.specs.Rows.{blocks, is_blocked}
 use Rattle.std.specs.List.{list_any}
 use Rattle.drop_proof.specs.declared.rule.Need.{Need}
 use Rattle.drop_proof.specs.Judging.{least_end}
-use Rattle.run_model.specs.States.{works, state_of, step}
+use Rattle.run_model.specs.States.{works, state_of}
 use Rattle.node_model.specs.Knows.{known}
 use Rattle.node_model.specs.DropStep.{in_time, until}
 use Rattle.node_model.specs.SetUp.{SetUp}
@@ -27,6 +27,7 @@ use Rattle.node_model.specs.Sessions.{line_in}
 use Rattle.node_model.specs.State.{State}
 use Rattle.run_model.specs.Frames.{Way, down_of, way_of}
 use Rattle.node_model.specs.Look.{Look, Made, entry_of}
+use Rattle.node_model.specs.Step.{step}
 use Rattle.node_model.specs.Found.{BySession, GivesAt, InTime, TakesAt, agrees}
 use Rattle.run_model.specs.Answers.{MayBar, MayRemove, MayObey, MayShare, OwnFree, SaysYes}
 use Rattle.race_core.proofs.Plain.{and_true, eqb_true}
@@ -88,7 +89,7 @@ below : (clock : ℕ) (end : Option ℕ) → in_time clock end ≡ true → (fir
 below clock None t first is = absurd (cc)
 below clock (Some n) t first is = let same : n ≡ first = cc in subst (λ q. clock < q) same (grind (arith, nat_tests))
 
-module _ (s : SetUp) (past : List Entry) (k : Look) (m : Made) (e : step s past k ≡ Some m) where
+module _ (s : SetUp) (past : List Entry) (k : Look) (m : Made) (e : step s (state_of s past) k ≡ Some m) where
   -- the session was asked this, and agreed
   says_yes : (x : BySession s (state_of s past) k m) (asked : Message) → x.asked ≡ Some asked → x.says ≡ agrees → SaysYes s.number (entry_of s.number k m) x.peer x.slot asked
   says_yes x asked is says = agrees_found s (state_of s past) k m x.peer x.slot asked

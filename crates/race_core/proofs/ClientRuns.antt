@@ -31,7 +31,7 @@ use Rattle.node_model.specs.OwedStep.{owed_step}
 use Rattle.node_model.specs.SessionStep.{here, session_step}
 use Rattle.node_model.specs.JobStep.{Turn, end_with, farewell, turn_of, others_of}
 use Rattle.node_model.specs.Turns.{job_step, slot_step}
-use Rattle.node_model.specs.Step.{step_from}
+use Rattle.node_model.specs.Step.{step}
 use Rattle.node_model.specs.AnyTime.{MayCome, close_at}
 use Rattle.run_model.specs.Run.{IsStep, ComesAnyTime, OwnRun}
 use Rattle.node_model.specs.Found.{ByJob, ByOwed, BySession, GivesAt, JobKind, SessionKind, TakesAt}
@@ -318,7 +318,7 @@ job_even s st k speaks m e =
     let x = some_was (λ slot. slot_step s st k (find (λ w. w.slot == slot) st.works)) slots m e in
     slot_even s st k speaks x.0 m (find (λ w. w.slot == x.0) st.works) refl x.2
 
-pub step_even : (s : SetUp) (st : State) (k : Look) → ((w : Work) → Member w st.works → Speaks (turn_of s st k w)) → (m : Made) → step_from s st k ≡ Some m
+pub step_even : (s : SetUp) (st : State) (k : Look) → ((w : Work) → Member w st.works → Speaks (turn_of s st k w)) → (m : Made) → step s st k ≡ Some m
     → ByOwed s st k m ⊎ (BySession s st k m ⊎ ByJobEven s st k m)
 step_even s st k speaks m e = elim (first_was (owed_step s st k) (first_of (session_step s st k) (job_step s st k)) m e) [
   | inl o ↦ inl (pays_found s st k m st.owed refl o)

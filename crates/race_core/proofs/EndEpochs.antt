@@ -19,7 +19,7 @@ use Rattle.node_model.specs.Ends.{same_bool, End, EndName, end_sends, end_takes,
 use Rattle.run_model.specs.Logs
 use Rattle.run_model.specs.Past.{Occurs, is_of}
 use Rattle.node_model.specs.SetUp.{SetUp, served}
-use Rattle.run_model.specs.States.{end_at, session, state_of, step}
+use Rattle.run_model.specs.States.{end_at, session, state_of}
 use Rattle.node_model.specs.Jobs.{Work, job_end}
 use Rattle.node_model.specs.Owed.{Owed, due}
 use Rattle.node_model.specs.Look.{Look, Made, entry_of, failing, unless}
@@ -27,6 +27,7 @@ use Rattle.node_model.specs.OwedStep.{owed_step, pays_first}
 use Rattle.node_model.specs.SessionStep.{here, on_frame, session_at, session_step}
 use Rattle.node_model.specs.JobStep.{turn_of}
 use Rattle.node_model.specs.Turns.{job_step}
+use Rattle.node_model.specs.Step.{step}
 use Rattle.node_model.specs.Found.{ByJob, JobTakes}
 use Rattle.node_model.specs.AnyTime.{MayCome, all_ends, close_at}
 use Rattle.run_model.specs.Run.{OwnPart, OwnRun}
@@ -125,7 +126,7 @@ come_well s past lines sent (Close peer slot client) x = subst (Each (IsClose s 
 come_well s past lines sent (Crash clock) x = subst (Each (IsClose s past)) (sym x.1) (each_flat (IsClose s past) (close_at s (state_of s past)) (close_well s past) (all_ends s))
 come_well s past lines sent kind x = absurd x
 
-step_speaks : (s : SetUp) (past : List Entry) (k : Look) (m : Made) → k.part < 2 ^ 62 → step s past k ≡ Some m → Speaks s past (entry_of s.number k m)
+step_speaks : (s : SetUp) (past : List Entry) (k : Look) (m : Made) → k.part < 2 ^ 62 → step s (state_of s past) k ≡ Some m → Speaks s past (entry_of s.number k m)
 step_speaks s past k m small e = elim (first_was (owed_step s (state_of s past) k) (Look.first_of (session_step s (state_of s past) k) (job_step s (state_of s past) k)) m e) [
   | inl o ↦ inl (owed_speaks s past k m (state_of s past).owed o)
   | inr r ↦ inr (rest (first_was (session_step s (state_of s past) k) (job_step s (state_of s past) k) m r))

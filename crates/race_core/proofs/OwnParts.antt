@@ -5,7 +5,7 @@ use Rattle.annex_base.specs.declared.kinds.Word.{Word}
 use Rattle.run_data.specs.declared.entry.Entry.{Entry}
 use Rattle.node_model.specs.Slots.{is_begin}
 use Rattle.node_model.specs.SetUp.{SetUp}
-use Rattle.node_model.specs.Step.{step_from}
+use Rattle.node_model.specs.Step.{step}
 use Rattle.node_model.specs.AnyTime.{MayCome}
 use Rattle.run_model.specs.Past.{begun}
 use Rattle.run_model.specs.States.{state_of}
@@ -21,7 +21,7 @@ part_same : (s : SetUp) (p q : List Entry) → state_of s p ≡ state_of s q →
 part_same s p q same words e part = record { known = part.known; does = does part.does }
   where
     does : IsStep s p words e ⊎ ComesAnyTime s p e → IsStep s q words e ⊎ ComesAnyTime s q e
-    does (inl x) = inl (record { look = x.look; made = x.made; makes = subst (λ st. step_from s st x.look ≡ Some x.made) same x.makes; is = x.is; words_are = x.words_are; part_small = x.part_small })
+    does (inl x) = inl (record { look = x.look; made = x.made; makes = subst (λ st. step s st x.look ≡ Some x.made) same x.makes; is = x.is; words_are = x.words_are; part_small = x.part_small })
     does (inr x) = inr (record { may = subst (λ st. MayCome s st e.lines e.sent e.kind) same x.may; takes_none = x.takes_none })
 
 -- what is its own part after its own entries is so after all, and the other way round

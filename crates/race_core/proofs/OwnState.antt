@@ -12,13 +12,13 @@ use Rattle.trust_groups.specs.Settings.{settings}
 use Rattle.union_merge.specs.Branch.{lines_at}
 use Rattle.node_model.specs.SetUp.{SetUp}
 use Rattle.node_model.specs.Ends.{EndName, end_after, sent_at, taken_at}
-use Rattle.run_model.specs.States.{end_at, content, session, rows_at, works, owes, state_of, step}
+use Rattle.run_model.specs.States.{end_at, content, session, rows_at, works, owes, state_of}
 use Rattle.node_model.specs.Sessions.{session_after}
 use Rattle.node_model.specs.Jobs.{works_after}
 use Rattle.node_model.specs.Owed.{owed_after}
 use Rattle.race_core.proofs.OwnPasts.{own_reading}
 use Rattle.node_model.specs.Look.{Look}
-use Rattle.node_model.specs.Step.{step_from}
+use Rattle.node_model.specs.Step.{step}
 use Rattle.race_core.proofs.Plain.{funext}
 
 -- the entries of r
@@ -123,5 +123,5 @@ state_own s past i = record {
 }
 
 -- and so is the step
-pub step_own : (s : SetUp) (past : List Entry) (k : Look) → step s past k ≡ step s (own s.number past) k
-step_own s past k = ap (λ st. step_from s st k) (state_own s past)
+pub step_own : (s : SetUp) (past : List Entry) (k : Look) → step s (state_of s past) k ≡ step s (state_of s (own s.number past)) k
+step_own s past k = ap (λ st. step s st k) (state_own s past)

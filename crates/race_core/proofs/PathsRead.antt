@@ -40,7 +40,7 @@ use Rattle.node_model.specs.DropStep.{asks_copy, asks_lock, asks_target, expired
 use Rattle.node_model.specs.Requests.{asks, goes_to}
 use Rattle.node_model.specs.TransferStep.{gains, first_get, first_put, next_get, next_source, sources, takes_bytes, takes_get, takes_put}
 use Rattle.node_model.specs.Turns.{awaits, by_partner, first_step, goes, goes_on, has_room, is_awaiting, job_step, judge_needs, judges, needs, next_needs, next_step, outcome_of, peer_needs, slot_step, takes, takes_answer, takes_frame, takes_text, target_needs, with_partner}
-use Rattle.node_model.specs.Step.{step_from}
+use Rattle.node_model.specs.Step.{step}
 use Rattle.race_core.proofs.Cases.{find_was}
 use Rattle.race_core.proofs.Plain.{funext}
 
@@ -352,7 +352,7 @@ slot-same s st k p same slot None is = refl
 slot-same s st k p same slot (Some w) is = turn-same s st k w p (same w (find_was (λ w. w.slot == slot) st.works w is).0) (partner w.what.peer w.phase)
 
 -- a step reads of the paths only those of the running jobs
-pub step_paths : (s : SetUp) (st : State) (k : Look) (p : ℕ → List (List ℕ)) → ((w : Work) → Member w st.works → p w.number ≡ s.paths w.number) → step_from (with_paths s p) st k ≡ step_from s st k
+pub step_paths : (s : SetUp) (st : State) (k : Look) (p : ℕ → List (List ℕ)) → ((w : Work) → Member w st.works → p w.number ≡ s.paths w.number) → step (with_paths s p) st k ≡ step s st k
 step_paths s st k p same = ap (λ x. first_of x (first_of (session_step (with_paths s p) st k) (job_step (with_paths s p) st k))) (owed-same s st k p st.owed)
     ∙ ap (λ f. first_of (owed_step s st k) (first_of (first_some f (served s)) (job_step (with_paths s p) st k)))
     (funext (λ c. session_at (with_paths s p) st k (server_end c.0 c.1)) (λ c. session_at s st k (server_end c.0 c.1)) (λ c. session-same s st k p (server_end c.0 c.1)))

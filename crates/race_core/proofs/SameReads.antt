@@ -15,7 +15,7 @@ use Rattle.node_model.specs.OwedStep.{owed_step}
 use Rattle.node_model.specs.SessionStep.{session_step}
 use Rattle.node_model.specs.JobStep.{Turn, turn_of, end_needs, end_with, ends}
 use Rattle.node_model.specs.DropStep.{removed}
-use Rattle.node_model.specs.Step.{step_from}
+use Rattle.node_model.specs.Step.{step}
 use Rattle.race_core.proofs.Cases.{find_was}
 use Rattle.race_core.proofs.TalkFacts.{Fits}
 use Rattle.node_model.specs.Turns.{goes, goes_on, has_room, is_awaiting, needs, job_step, slot_step, with_partner, awaits, by_partner}
@@ -150,7 +150,7 @@ module _ (s : SetUp) (st other : State) (k : Look) (fits : AllFit st) (agrees : 
       ∙ by_part w (m w refl) w.part refl ∙ sym (partner_is s other k w (partner w.what.peer w.phase))
 
   -- **so they make the same step**
-  pub step_same : step_from s st k ≡ step_from s other k
+  pub step_same : step s st k ≡ step s other k
   step_same i = first_of ((owed_is s st k (other.read 0) ∙ ap (λ (z : State). owed_step s z k) (read_same (other.read 0)) ∙ sym (owed_is s other k (other.read 0))) i)
       (first_of ((session_is s st k (other.read 0) ∙ ap (λ (z : State). session_step s z k) (read_same (other.read 0)) ∙ sym (session_is s other k (other.read 0))) i) (jobs_same i))
     where

@@ -17,7 +17,7 @@ use Rattle.node_model.specs.Ends.{same_bool, End, EndName, end_sends, end_takes,
 use Rattle.run_model.specs.Logs
 use Rattle.node_model.specs.Rows.{is_lost_ordered}
 use Rattle.node_model.specs.SetUp.{SetUp, served}
-use Rattle.run_model.specs.States.{end_at, session, state_of, step}
+use Rattle.run_model.specs.States.{end_at, session, state_of}
 use Rattle.node_model.specs.Jobs.{Work, job_end}
 use Rattle.run_data.specs.declared.entry.LogFile.TheVariants.{Location}
 use Rattle.node_model.specs.Owed.{Owed, due}
@@ -27,6 +27,7 @@ use Rattle.node_model.specs.OwedStep.{owed_step, pays_first}
 use Rattle.node_model.specs.SessionStep.{Reply, gives_made, gives_next, here, on_frame, reply_made, session_at, session_makes, session_step}
 use Rattle.node_model.specs.JobStep.{Turn, end_with, farewell, farewells, turn_of, others_of}
 use Rattle.node_model.specs.Turns.{job_step}
+use Rattle.node_model.specs.Step.{step}
 use Rattle.node_model.specs.Found.{AsksOne, ByJob, JobKind, JobTakes, agrees}
 use Rattle.p2p_wire.specs.Messages.{order_of, text_of}
 use Rattle.node_model.specs.AnyTime.{MayCome, all_ends, close_at}
@@ -257,7 +258,7 @@ BySessionAt s past e = (p q : ℕ) × Member (p, q) (served s) × (TakesHere s p
 abbrev pub ServerDoes : SetUp → List Entry → Entry → Type 0
 ServerDoes s past e = BySessionAt s past e ⊎ ((p q : ℕ) → Shuts (server_end p q) e)
 
-step_does : (s : SetUp) (past : List Entry) (k : Look) (m : Made) → k.part < 2 ^ 62 → step s past k ≡ Some m → ServerDoes s past (entry_of s.number k m)
+step_does : (s : SetUp) (past : List Entry) (k : Look) (m : Made) → k.part < 2 ^ 62 → step s (state_of s past) k ≡ Some m → ServerDoes s past (entry_of s.number k m)
 step_does s past k m small e = elim (first_was (owed_step s (state_of s past) k) (Look.first_of (session_step s (state_of s past) k) (job_step s (state_of s past) k)) m e) [
   | inl o ↦ inr (λ p q. owed_shuts s past k m (server_end p q) (state_of s past).owed o)
   | inr r ↦ rest (first_was (session_step s (state_of s past) k) (job_step s (state_of s past) k) m r)

@@ -13,12 +13,12 @@ use Rattle.run_model.specs.Logs.{before_step, is_step, kept, read_at, settings_o
 use Rattle.race_core.proofs.LogLemmas.{kept_reads_as_ever}
 use Rattle.node_model.specs.SetUp.{SetUp}
 use Rattle.node_model.specs.State.{State}
-use Rattle.run_model.specs.States.{state_of, works, step}
+use Rattle.run_model.specs.States.{state_of, works}
 use Rattle.node_model.specs.After.{has_read, read_after, state_after, states}
 use Rattle.node_model.specs.Files.{lines_after}
 use Rattle.node_model.specs.Jobs.{Drops, Fresh, Gets, Part, Phase, Puts, Work}
 use Rattle.node_model.specs.Look.{Look}
-use Rattle.node_model.specs.Step.{step_from}
+use Rattle.node_model.specs.Step.{step}
 use Rattle.run_model.specs.Run.{OwnPast}
 use Rattle.race_core.proofs.Plain.{eqb_refl, eqb_true}
 use Rattle.race_core.proofs.Cases.{find_was}
@@ -214,5 +214,5 @@ states_agree s (e ∷ past) h = go (states_agree s past (earlier s past e h)) (i
     go was false is = subst (λ st. Agrees st (states s (own s.number past))) (sym (other_is s past e is)) was
 
 -- **so a step is one from the state that is carried**
-pub step_states : (s : SetUp) (past : List Entry) (k : Look) → OwnPast s past → step s past k ≡ step_from s (states s (own s.number past)) k
+pub step_states : (s : SetUp) (past : List Entry) (k : Look) → OwnPast s past → step s (state_of s past) k ≡ step s (states s (own s.number past)) k
 step_states s past k h = step_same s (state_of s past) (states s (own s.number past)) k (works_fit s past h.run) (states_agree s past h)

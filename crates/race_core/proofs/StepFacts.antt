@@ -20,7 +20,7 @@ use Rattle.node_model.specs.OwedStep.{owed_step, pays_first}
 use Rattle.node_model.specs.SessionStep.{here, session_step}
 use Rattle.node_model.specs.JobStep.{turn_of}
 use Rattle.node_model.specs.Turns.{job_step}
-use Rattle.node_model.specs.Step.{step_from}
+use Rattle.node_model.specs.Step.{step}
 use Rattle.node_model.specs.Found.{ByJob, ByOwed, BySession, JobKind, SessionKind, StepFound}
 use Rattle.race_core.proofs.Cases.{first_was}
 use Rattle.race_core.proofs.SessionFacts.{session_found}
@@ -52,7 +52,7 @@ pays_found s st k m (o ∷ os) is e = go (failing k.fails (PutFile ∷ [])) (fai
         let it : call ≡ PutFile = cc in
         record { first = o; rest = os; owes_it = is; writes = inr (sym same ∙ ap lost it) }
 
-pub step_found : (s : SetUp) (st : State) (k : Look) (m : Made) → step_from s st k ≡ Some m → StepFound s st k m
+pub step_found : (s : SetUp) (st : State) (k : Look) (m : Made) → step s st k ≡ Some m → StepFound s st k m
 step_found s st k m e = elim (first_was (owed_step s st k) (Look.first_of (session_step s st k) (job_step s st k)) m e) [
   | inl o ↦ inl (pays_found s st k m st.owed refl o)
   | inr r ↦ inr (others r)
@@ -89,7 +89,7 @@ pub record JobMade (s : SetUp) (st : State) (k : Look) (m : Made) (kind : EntryK
   pub found : JobKind (turn_of s st k by.w) m kind
 
 -- an entry of a kind that writes no owed line is a session's or a job's
-pub kind_found : (s : SetUp) (st : State) (k : Look) (m : Made) (kind : EntryKind) → step_from s st k ≡ Some m → m.kind ≡ kind → (IsOwedKind kind → ⊥)
+pub kind_found : (s : SetUp) (st : State) (k : Look) (m : Made) (kind : EntryKind) → step s st k ≡ Some m → m.kind ≡ kind → (IsOwedKind kind → ⊥)
     → SessionMade s st k m kind ⊎ JobMade s st k m kind
 kind_found s st k m kind e is not = elim (step_found s st k m e) [
   | inl o ↦ absurd (not (owed_kind s st k m kind o is))
@@ -100,7 +100,7 @@ kind_found s st k m kind e is not = elim (step_found s st k m e) [
     made (inl x) = inl (record { by = x; found = subst (SessionKind (here s st k (server_end x.peer x.slot)) (st.sessions (server_end x.peer x.slot)).doing x.asked x.says) is x.found })
     made (inr x) = inr (record { by = x; found = subst (JobKind (turn_of s st k x.w) m) is x.found })
 
-module _ (s : SetUp) (st : State) (k : Look) (m : Made) (e : step_from s st k ≡ Some m) where
+module _ (s : SetUp) (st : State) (k : Look) (m : Made) (e : step s st k ≡ Some m) where
   -- a share for a peer: LOCKCONTENT found the content free
   pub share_found : (hold end p c : ℕ) (key : List ℕ) → m.kind ≡ Share hold end (Peer p c) key → SessionMade s st k m (Share hold end (Peer p c) key)
   share_found hold end p c key is = elim (kind_found s st k m (Share hold end (Peer p c) key) e is (λ x. x)) [

@@ -1,6 +1,6 @@
 -- Runs of several repositories: in which order entries stand, what each repository does by its own past, and how frames go
 -- from one to the other.
-use Rattle.run_model.specs.States.{state_of, step}
+use Rattle.run_model.specs.States.{state_of}
 use Rattle.std.specs.Prelude.{◌≡◌, ◌⊎◌, ℕ, ◌+◌, ◌<◌, ◌≤◌, ◌^◌, if◌then◌else◌, ◌==◌, nat_le, List, [], ◌∷◌, length, reverse, Option, Some, None, true}
 use Rattle.std.specs.List.{fold}
 use Rattle.annex_base.specs.Lists.{Each}
@@ -17,6 +17,7 @@ use Rattle.run_model.specs.Past.{Always, is_of, now}
 use Rattle.run_data.specs.Repos.{IsSetUp}
 use Rattle.node_model.specs.SetUp.{SetUp}
 use Rattle.node_model.specs.Look.{Look, Made, entry_of}
+use Rattle.node_model.specs.Step.{step}
 use Rattle.node_model.specs.AnyTime.{MayCome}
 use Rattle.run_model.specs.Frames.{MayTake, way_of}
 use Rattle.run_model.specs.Words.{word_told}
@@ -74,7 +75,7 @@ pub record Ordered (past : List Entry) (e : Entry) : Type 0 where
 pub record IsStep (s : SetUp) (past : List Entry) (words : ℕ → Option Word) (e : Entry) : Type 0 where
   pub look : Look
   pub made : Made
-  pub makes : step s past look ≡ Some made
+  pub makes : step s (state_of s past) look ≡ Some made
   pub is : e ≡ entry_of s.number look made
   pub words_are : look.words ≡ words
   pub part_small : look.part < 2 ^ 62

@@ -12,9 +12,7 @@ use Rattle.run_model.specs.Logs.{kept, read_at, settings_of}
 use Rattle.node_model.specs.Jobs.{Work, Rows, works_after}
 use Rattle.node_model.specs.SetUp.{SetUp}
 use Rattle.node_model.specs.Owed.{Owed, owed, owed_after}
-use Rattle.node_model.specs.Look.{Look, Made}
 use Rattle.node_model.specs.State.{State}
-use Rattle.node_model.specs.Step.{step_from}
 
 -- how an end of r stands
 abbrev pub end_at : List Entry → ℕ → EndName → End
@@ -67,6 +65,3 @@ state_of s past =
       logs = settings_of past r;
       read = λ j. settings_of (read_at past r j) r;
     }
-
-abbrev pub step : SetUp → List Entry → Look → Option Made
-step s past k = step_from s (state_of s past) k
