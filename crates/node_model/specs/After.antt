@@ -1,5 +1,5 @@
 -- The state of a repository after one entry of its own, by the state before it and the entry alone.
-use Rattle.std.specs.Prelude.{ℕ, ◌+◌, Bool, true, false, if◌then◌else◌, ◌==◌, List, [], ◌∷◌, find, Option, Some, None}
+use Rattle.std.specs.Prelude.{ℕ, ◌+◌, Bool, true, false, if◌then◌else◌, ◌==◌, List, [], ◌∷◌, find, Option, Some, None, ◌≡◌}
 use Rattle.annex_base.specs.Settings.{Settings}
 use Rattle.trust_groups.specs.Settings.{settings}
 use Rattle.run_data.specs.declared.entry.Entry.{Entry}
@@ -16,6 +16,7 @@ use Rattle.node_model.specs.Sessions.{new_session, session_after}
 use Rattle.node_model.specs.Jobs.{Drops, Fresh, Part, Phase, Work, works_after}
 use Rattle.node_model.specs.Owed.{owed_after}
 use Rattle.node_model.specs.State.{State}
+use Rattle.annex_base.specs.Lists.{Member}
 
 -- ---- logs
 
@@ -85,3 +86,10 @@ state_after s st e =
 abbrev pub states : SetUp → List Entry → State
 states s [] = first_state s
 states s (e ∷ past) = state_after s (states s past) e
+
+-- ---- states that agree
+
+-- one state has what the other has, but for what jobs have read that aren't at a drop
+pub record Agrees (st other : State) : Type 0 where
+  pub same : st ≡ record other { read = st.read }
+  pub reads : (w : Work) → Member w st.works → w.part ≡ Drops → st.read w.number ≡ other.read w.number

@@ -2,13 +2,7 @@
 //! no past and no run.
 #![tactic(auto)]
 
-ghost use Rattle.std.specs.Prelude.{◌≡◌, true};
+mod laws;
 
+pub use laws::crashes_keep_contents_and_holds;
 pub use run_data;
-
-/// The definitions stand here.
-pub fn stands() -> bool
-    ensures { result ≡ true }
-{
-    true
-}

@@ -1,9 +1,7 @@
 -- The causes of refusals that rest on a peer's answer: the target denied the order, a copy's peer rejected it or is filling the key.
-use Rattle.std.proofs.Common.{◌≡◌, ◌≢◌, ℕ, Bool, true, false, List, [], ◌∷◌, Option, Some, None, ◌⊎◌, inl, inr, refl, sym, ap, ◌∙◌, subst}
+use Rattle.std.proofs.Common.{◌≡◌, ℕ, Bool, true, false, List, [], Option, Some, None, ◌⊎◌, inl, inr, refl, sym, ap, ◌∙◌, subst}
 use Rattle.std.specs.Prelude.{◌||◌, ◌&&◌, bytes_eq, option_map, slice_get}
 use Rattle.std.specs.List.{list_any}
-use Rattle.annex_base.specs.Lists.{Member}
-use Rattle.annex_base.specs.declared.kinds.Found.{Found}
 use Rattle.annex_base.specs.declared.kinds.Found.TheVariants as found
 use Rattle.annex_base.specs.declared.kinds.Word.{Word}
 use Rattle.run_data.specs.declared.entry.Entry.{Entry}
@@ -11,25 +9,20 @@ use Rattle.run_data.specs.declared.entry.EntryKind.{EntryKind}
 use Rattle.run_data.specs.declared.entry.EntryKind.TheVariants.{Check, Fault, End as ends_job}
 use Rattle.run_data.specs.declared.entry.FrameView.{FrameView}
 use Rattle.run_data.specs.declared.job.Denial.{Denial}
-use Rattle.run_data.specs.declared.job.Denial.TheVariants as denials
-use Rattle.run_data.specs.declared.job.Outcome.{Outcome}
 use Rattle.run_data.specs.declared.job.Outcome.TheVariants.{Refused, TransferRefused}
-use Rattle.run_data.specs.declared.job.DropRefusal.{DropRefusal}
 use Rattle.run_data.specs.declared.job.DropRefusal.TheVariants as refusals
-use Rattle.run_data.specs.declared.job.TransferRefusal.{TransferRefusal}
 use Rattle.run_data.specs.declared.job.TransferRefusal.TheVariants as failures
 use Rattle.run_model.specs.Past.{Occurs, is_of}
-use Rattle.p2p_wire.specs.declared.message.Message.{Message}
 use Rattle.p2p_wire.specs.declared.message.Message.TheVariants.{Failure, Put, Remove, RemoveBefore, Valid}
 use Rattle.p2p_wire.specs.Messages.{order_of}
 use Rattle.run_model.specs.Said.{Said, Says, message_in}
-use Rattle.run_model.specs.Frames.{Flying, Sent, is_job, last_request, said_of, sender, sent, sent_of, taken, up_of, way_of}
+use Rattle.run_model.specs.Frames.{Flying, is_job, last_request, said_of, sent, sent_of, taken, up_of, way_of}
 use Rattle.run_model.specs.Causes.{Answers, FillsByPut, FoundFilled, Hears, SentBy, WasBusy, WasDenied, WasRejected, denied_by, rejects}
 use Rattle.node_model.specs.SetUp.{SetUp, served}
 use Rattle.run_model.specs.States.{state_of, works}
 use Rattle.node_model.specs.Ends.{server_end}
 use Rattle.run_model.specs.Words.{word_of, word_of_kind, word_told}
-use Rattle.node_model.specs.Jobs.{Denied, Gets, Work, running}
+use Rattle.node_model.specs.Jobs.{running}
 use Rattle.node_model.specs.Knows.{denial_of}
 use Rattle.node_model.specs.DropStep
 use Rattle.node_model.specs.SessionStep.{is_filled, session_fills}
@@ -38,7 +31,7 @@ use Rattle.race_core.proofs.JobSteps.{turn_at}
 use Rattle.race_core.proofs.GetsBegin.{no_step}
 use Rattle.race_core.proofs.FreshSteps.{of_kind}
 use Rattle.race_core.proofs.FillsStepped.{fills_by_get}
-use Rattle.race_core.proofs.Refusals.{Stands, TransferStands, target_in, target_is}
+use Rattle.race_core.proofs.Refusals.{TransferStands, target_in, target_is}
 use Rattle.race_core.proofs.Standing.{stands}
 use Rattle.race_core.proofs.DeniedWords.{DeniedAt, DeniedBy, denied_words}
 use Rattle.race_core.proofs.RefusalCauses.{DropSettled, Ending, drop_settled, ending, ending_words, job_of, transfer_settled}

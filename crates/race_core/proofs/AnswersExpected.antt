@@ -1,6 +1,6 @@
 -- In a run the answer that a job takes is one that its phase expects: to LOCKCONTENT, CHECKPRESENT, an order and VALID it is SUCCESS or
 -- FAILURE, to GETTIMESTAMP a TIMESTAMP.
-use Rattle.std.proofs.Common.{◌≡◌, ℕ, Bool, true, false, List, [], ◌∷◌, Option, Some, None, ◌⊎◌, inl, inr, refl, sym, ap, ◌∙◌, subst}
+use Rattle.std.proofs.Common.{◌≡◌, ℕ, true, false, List, Option, Some, None, ◌⊎◌, inl, inr, refl, sym, ap, ◌∙◌, subst}
 use Rattle.std.specs.Prelude.{option_map}
 use Rattle.annex_base.specs.Lists.{Each}
 use Rattle.run_data.specs.declared.entry.Entry.{Entry}
@@ -10,12 +10,12 @@ use Rattle.run_data.specs.declared.run.Run.{Run}
 use Rattle.run_data.specs.Repos.{IsSetUp}
 use Rattle.run_model.specs.Past.{is_of}
 use Rattle.p2p_wire.specs.declared.message.Message.{Message}
-use Rattle.p2p_wire.specs.declared.message.Message.TheVariants.{AuthSuccess, Version, CheckPresent, LockContent, GetTimestamp, Timestamp, Remove, RemoveBefore, Valid, Success, Failure}
+use Rattle.p2p_wire.specs.declared.message.Message.TheVariants.{CheckPresent, LockContent, GetTimestamp, Timestamp, Remove, RemoveBefore, Valid, Success, Failure}
 use Rattle.p2p_wire.specs.Messages.{order_of}
-use Rattle.run_model.specs.Said.{Said, Says, is_answer, message_in}
-use Rattle.run_model.specs.Frames.{Flying, MayTake, last_request, said_of, up_of, way_of}
+use Rattle.run_model.specs.Said.{Says, is_answer, message_in}
+use Rattle.run_model.specs.Frames.{Flying, last_request, said_of, up_of, way_of}
 use Rattle.node_model.specs.Sessions.{line_in}
-use Rattle.node_model.specs.Jobs.{AsksLock, AsksLook, AsksTime, Orders, Phase, PutsAnswer, Work, partner}
+use Rattle.node_model.specs.Jobs.{AsksLock, AsksLook, AsksTime, Orders, Phase, PutsAnswer, partner}
 use Rattle.run_model.specs.Run.{RunPast, RunStep, set_up}
 use Rattle.race_core.proofs.Plain.{some_inj}
 use Rattle.race_core.proofs.SaidDown.{Alike, said_is}

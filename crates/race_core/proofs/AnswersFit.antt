@@ -1,29 +1,26 @@
 -- In a run the answer that a job takes was sent by the entry of the server that took the job's last request on that way, and is one
 -- that the request may have.
-use Rattle.std.proofs.Common.{◌≡◌, ℕ, ◌+◌, Bool, true, false, List, [], ◌∷◌, length, Option, Some, None, ◌⊎◌, inl, inr, refl, sym, ap, ◌∙◌, subst}
+use Rattle.std.proofs.Common.{◌≡◌, ℕ, true, false, List, [], ◌∷◌, length, Some, inl, inr, refl, sym, ap, ◌∙◌, subst}
 use Rattle.std.specs.Prelude.{slice_get}
-use Rattle.annex_base.specs.Lists.{Each, Member}
+use Rattle.annex_base.specs.Lists.{Each}
 use Rattle.run_data.specs.declared.entry.Entry.{Entry}
 use Rattle.run_data.specs.declared.entry.EntryKind.{EntryKind}
 use Rattle.run_data.specs.declared.entry.FrameView.{FrameView}
-use Rattle.run_data.specs.declared.job.Denial.{Denial}
 use Rattle.run_data.specs.declared.run.Run.{Run}
 use Rattle.run_data.specs.Repos.{IsSetUp}
 use Rattle.run_model.specs.Past.{Occurs, is_of}
-use Rattle.run_model.specs.Causes.{denied_by}
 use Rattle.p2p_wire.specs.declared.message.Message.{Message}
-use Rattle.p2p_wire.specs.declared.message.Message.TheVariants.{CheckPresent, Failure, Put, Remove, RemoveBefore, Success, Valid}
-use Rattle.run_model.specs.Said.{Said, Says, completes, is_answer, is_request, message_in}
-use Rattle.run_model.specs.Frames.{Flying, MayTake, answers, down_of, last_request, said_of, sender_of, sent, taken, taken_if, up_of, way_from, way_of}
-use Rattle.run_model.specs.Run.{OwnPart, OwnPast, RunPast, RunStep, set_up}
+use Rattle.p2p_wire.specs.declared.message.Message.TheVariants.{Failure, Put, Remove, RemoveBefore, Valid}
+use Rattle.run_model.specs.Said.{Says, is_answer, is_request, message_in}
+use Rattle.run_model.specs.Frames.{Flying, MayTake, answers, last_request, said_of, sender_of, sent, taken, taken_if, up_of, way_from, way_of}
+use Rattle.run_model.specs.Run.{RunPast, RunStep, set_up}
 use Rattle.race_core.proofs.SaidDown.{Alike}
 use Rattle.race_core.proofs.SessionAnswers.{AnswerFits, Answering}
-use Rattle.race_core.specs.Own.{Meets, MessagePast}
 use Rattle.race_core.proofs.Flights.{sending, some_inj}
 use Rattle.race_core.proofs.Turns.{right_turn}
 use Rattle.race_core.proofs.Told.{message_at, one_answers, prefixes, sends_member, sends_on, up_at, way_sent, way_up}
 use Rattle.race_core.proofs.AnswerCauses.{FailsFor, FailuresFit}
-use Rattle.race_core.proofs.AnswersTurn.{AnswersInTurn, answers_turn, is_plain, plain_completes}
+use Rattle.race_core.proofs.AnswersTurn.{answers_turn, is_plain, plain_completes}
 use Rattle.race_core.proofs.FromStep.{meets, message_past, own_past, part_of}
 
 -- what stands at an entry of a run

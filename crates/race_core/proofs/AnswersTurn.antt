@@ -1,5 +1,5 @@
 -- Each answer of a session to a request comes in turn, and is one that the request may have.
-use Rattle.std.proofs.Common.{◌≡◌, ℕ, ◌+◌, Bool, true, false, List, [], ◌∷◌, length, Option, Some, None, ◌⊎◌, inl, inr, refl, sym, ap, ◌∙◌, subst, arith}
+use Rattle.std.proofs.Common.{◌≡◌, ℕ, ◌+◌, Bool, true, false, List, [], ◌∷◌, length, Option, Some, ◌⊎◌, inl, inr, refl, sym, ap, ◌∙◌, subst, arith}
 use Rattle.std.specs.Prelude.{if◌then◌else◌}
 use Rattle.std.proofs.lemmas.Bool.{true≢false}
 use Rattle.annex_base.specs.Lists.{Member}
@@ -10,9 +10,9 @@ use Rattle.run_data.specs.declared.entry.FrameText.{FrameText}
 use Rattle.run_data.specs.declared.entry.FrameText.TheVariants.{Opening, Closing, Bytes, Line}
 use Rattle.run_data.specs.Repos.{id_of}
 use Rattle.p2p_wire.specs.declared.message.Message.{Message}
-use Rattle.p2p_wire.specs.declared.message.Message.TheVariants.{AuthSuccess, Valid, Invalid, Failure}
+use Rattle.p2p_wire.specs.declared.message.Message.TheVariants.{AuthSuccess, Valid, Invalid}
 use Rattle.p2p_wire.specs.Messages.{message_of, text_of}
-use Rattle.run_model.specs.Said.{Says, completes, is_answer, is_request, message_in}
+use Rattle.run_model.specs.Said.{Says, completes, is_request, message_in}
 use Rattle.run_model.specs.Frames.{answers, down_of, taken_if, way_from, way_of}
 use Rattle.node_model.specs.SetUp.{SetUp}
 use Rattle.node_model.specs.Ends.{End, EndName, end_sends, end_takes, frames, is_opening, server_end}

@@ -20,7 +20,7 @@ use Rattle.node_model.specs.Rows.{is_lost_ordered, option_is}
 use Rattle.run_model.specs.Past.{is_of}
 use Rattle.node_model.specs.Ends.{same_bool, EndName, End, end_after, end_sends, end_takes, end_took, frames, sends_at, sent_at, server_end, taken_at, takes_at}
 use Rattle.node_model.specs.Look.{first_of, Look, Made, entry_of}
-use Rattle.node_model.specs.SetUp.{SetUp, others, slots}
+use Rattle.node_model.specs.SetUp.{SetUp, slots}
 use Rattle.run_model.specs.States.{end_at, rows_at, works, state_of}
 use Rattle.node_model.specs.Jobs.{Phase, Fresh, Rows, Work, job_end, new_work, partner, running, work_after, work_kind, works_after}
 use Rattle.p2p_wire.specs.declared.message.Message.{Message}

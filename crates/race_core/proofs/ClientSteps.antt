@@ -37,7 +37,7 @@ use Rattle.node_model.specs.TransferStep.{takes_get, takes_put, content_of, firs
 use Rattle.node_model.specs.Turns.{takes_answer, awaits, by_partner, goes_on, has_room, needs, with_partner, is_awaiting, first_step, goes, judges, next_step, outcome_of, takes, takes_frame, takes_text}
 use Rattle.race_core.proofs.Plain.{and_true, eqb_true}
 use Rattle.race_core.proofs.Cases.{find_was, if_found}
-use Rattle.race_core.proofs.ClientCounts.{Counts, last_for_copy, last_away, none_is, IsLive, LastIs, AskedFrom, Request, Stays, answers_it, asks_for, awaits_of, counts_takes, is_answering, request}
+use Rattle.race_core.proofs.ClientCounts.{Counts, last_away, none_is, IsLive, LastIs, AskedFrom, Request, Stays, answers_it, asks_for, awaits_of, counts_takes, is_answering, request}
 use Rattle.race_core.proofs.ClientTurns.{Even, EvenTo, made_entry, rows_of, talker, talker_phase}
 use Rattle.race_core.proofs.ClientLeaves.{Goes, Taking, asks_even, awaits_none, awaits_not, awaits_true, bytes_even, closes_even, first_even, hears_even, hears_to, keeps_even, lost_even, opens_even, over_even, sends_even, shut_even, still_even, tells_even, tells_to, took_other, wrong_even}
 

@@ -1,51 +1,44 @@
 -- The causes of refusals that rest on a closed connection: a drop lost its target, a copy's connection was closed, a get's sources gave nothing.
-use Rattle.std.proofs.Common.{◌≡◌, ◌≢◌, ℕ, ◌+◌, ◌≤◌, Bool, true, false, List, [], ◌∷◌, ◌++◌, Option, Some, None, ◌⊎◌, inl, inr, refl, sym, ap, ◌∙◌, subst, arith}
+use Rattle.std.proofs.Common.{◌≡◌, ◌≢◌, ℕ, Bool, true, false, List, [], ◌∷◌, ◌++◌, Option, Some, None, ◌⊎◌, inl, inr, refl, sym, ap, ◌∙◌, subst, arith}
 use Rattle.std.proofs.lemmas.Bool.Decides.{nat_tests}
-use Rattle.std.specs.Prelude.{if◌then◌else◌, ◌==◌, ◌||◌, length, map, slice_get, take}
+use Rattle.std.specs.Prelude.{if◌then◌else◌, ◌==◌, ◌||◌}
 use Rattle.std.specs.List.{list_any}
 use Rattle.annex_base.specs.Lists.{Each, Member}
-use Rattle.annex_base.specs.declared.kinds.Word.{Word}
-use Rattle.drop_proof.specs.declared.rule.Side.{Side}
 use Rattle.run_data.specs.declared.entry.Entry.{Entry}
-use Rattle.run_data.specs.declared.entry.EntryKind.{EntryKind}
-use Rattle.run_data.specs.declared.entry.EntryKind.TheVariants.{End as ends_job}
 use Rattle.run_data.specs.declared.entry.FrameView.{FrameView}
 use Rattle.run_data.specs.declared.entry.FrameText.{FrameText}
 use Rattle.run_data.specs.declared.entry.FrameText.TheVariants.{Opening, Closing, Bytes, Line}
 use Rattle.run_data.specs.declared.job.Outcome.{Outcome}
 use Rattle.run_data.specs.declared.job.Outcome.TheVariants.{Refused, TransferRefused}
-use Rattle.run_data.specs.declared.job.DropRefusal.{DropRefusal}
 use Rattle.run_data.specs.declared.job.DropRefusal.TheVariants as refusals
 use Rattle.run_data.specs.declared.job.SourceCause.{SourceCause}
 use Rattle.run_data.specs.declared.job.SourceCause.TheVariants as sources
 use Rattle.run_data.specs.declared.job.SourceFailure.{SourceFailure}
-use Rattle.run_data.specs.declared.job.TransferRefusal.{TransferRefusal}
 use Rattle.run_data.specs.declared.job.TransferRefusal.TheVariants as failures
 use Rattle.run_model.specs.Past.{Always, is_of}
 use Rattle.node_model.specs.Slots.{Running}
 use Rattle.p2p_wire.specs.declared.message.Message.{Message}
 use Rattle.p2p_wire.specs.declared.message.Message.TheVariants.{Failure, Get, Invalid, Valid}
 use Rattle.p2p_wire.specs.Messages.{message_of}
-use Rattle.run_model.specs.Said.{Said, Says, CloseIt, message_in}
+use Rattle.run_model.specs.Said.{Says, CloseIt}
 use Rattle.run_model.specs.Frames.{says}
-use Rattle.run_model.specs.Causes.{Answers, ClosedWith, Closes, FellShort, Hears, SourceCauseOf, is_failure}
+use Rattle.run_model.specs.Causes.{Answers, ClosedWith, FellShort, SourceCauseOf, is_failure}
 use Rattle.node_model.specs.SetUp.{SetUp}
-use Rattle.run_model.specs.States.{state_of, rows_at, works}
+use Rattle.run_model.specs.States.{rows_at, works}
 use Rattle.node_model.specs.Sessions.{line_in}
-use Rattle.node_model.specs.Jobs
-use Rattle.node_model.specs.Jobs.{Drops, Ends, Gets, GetsWord, Next, Part, Phase, Puts, Work, job_end, partner, running, source_cause, taken_message, work_kind}
+use Rattle.node_model.specs.Jobs.{Drops, Ends, Gets, GetsWord, Part, Phase, Puts, Work, job_end, partner, running, source_cause, taken_message, work_kind}
 use Rattle.node_model.specs.Look.{Made, waiting}
 use Rattle.node_model.specs.JobStep.{Turn, end_with, quietly, talk, wrong}
 use Rattle.node_model.specs.Turns.{awaits, by_partner, goes_on, has_room, is_awaiting, takes, takes_answer, takes_frame, takes_text, with_partner}
 use Rattle.run_model.specs.Run.{OwnPast, OwnRun}
 use Rattle.race_core.proofs.JobFacts.{frame_found}
-use Rattle.race_core.proofs.JobSteps.{Begins, Origin, Stays, Stepped, Steps, invariant, turn_at}
+use Rattle.race_core.proofs.JobSteps.{Origin, Steps, invariant, turn_at}
 use Rattle.race_core.proofs.JobKept.{kind_kept}
 use Rattle.race_core.proofs.TalkFacts.{Fits}
 use Rattle.race_core.proofs.WorkFits.{step_runs, works_fit}
 use Rattle.race_core.proofs.ClientCounts.{LastIs}
-use Rattle.race_core.proofs.EndReasons.{DropReason, OutcomeReason, Reason, SaysFirst, ShutOn, TransferReason, kind_reason}
-use Rattle.race_core.proofs.Carried.{AddsCause, AddsWord, Causes, kind_carries}
+use Rattle.race_core.proofs.EndReasons.{Reason, ShutOn, kind_reason}
+use Rattle.race_core.proofs.Carried.{AddsWord, Causes, kind_carries}
 use Rattle.race_core.proofs.Refusals.{answers_grow, answers_now, hears_grows, stepped_own, target_in, target_is, took_peer}
 use Rattle.race_core.proofs.Speaks.{hears}
 use Rattle.race_core.proofs.BySteps.{earlier}

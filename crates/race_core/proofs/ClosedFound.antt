@@ -1,5 +1,5 @@
 -- The causes of Lost, Closed and NoSource, where each connection that is found closed was closed by its peer or by an entry here.
-use Rattle.std.proofs.Common.{◌≡◌, ◌≢◌, ℕ, zero, suc, Bool, true, false, List, [], ◌∷◌, Option, Some, None, ◌⊎◌, inl, inr, refl, sym, ap, ◌∙◌, subst}
+use Rattle.std.proofs.Common.{◌≡◌, ℕ, zero, suc, Bool, List, [], ◌∷◌, Option, Some, None, inl, inr, refl, sym, ap, ◌∙◌, subst}
 use Rattle.std.specs.Prelude.{◌&&◌, length, map, slice_get, take}
 use Rattle.std.specs.List.{list_any}
 use Rattle.annex_base.specs.Lists.{Each, Member}
@@ -7,18 +7,13 @@ use Rattle.annex_base.specs.declared.kinds.Word.{Word}
 use Rattle.drop_proof.specs.declared.rule.Side.{Side}
 use Rattle.drop_proof.specs.declared.rule.Side.TheVariants.{Local, Remote}
 use Rattle.run_data.specs.declared.entry.Entry.{Entry}
-use Rattle.run_data.specs.declared.entry.EntryKind.{EntryKind}
 use Rattle.run_data.specs.declared.entry.EntryKind.TheVariants.{End as ends_job}
-use Rattle.run_data.specs.declared.entry.FrameView.{FrameView}
-use Rattle.run_data.specs.declared.job.Outcome.{Outcome}
 use Rattle.run_data.specs.declared.job.Outcome.TheVariants.{Refused, TransferRefused}
 use Rattle.run_data.specs.declared.job.DropRefusal.TheVariants as refusals
 use Rattle.run_data.specs.declared.job.SourceFailure.{SourceFailure}
 use Rattle.run_data.specs.declared.job.TransferRefusal.TheVariants as failures
-use Rattle.node_model.specs.Slots.{Running}
-use Rattle.run_model.specs.Past.{is_of}
 use Rattle.run_model.specs.Frames.{is_job}
-use Rattle.run_model.specs.Causes.{ClosedWith, FellShort, FoundNoSource, SourceCauseOf, WasClosed, WasLost, is_order, sources_of}
+use Rattle.run_model.specs.Causes.{FoundNoSource, SourceCauseOf, WasClosed, WasLost, is_order, sources_of}
 use Rattle.node_model.specs.SetUp.{SetUp}
 use Rattle.node_model.specs.Jobs
 use Rattle.node_model.specs.Jobs.{AsksTime, Denied, Drops, Ends, Fresh, Late, Next, Orders, Part, Phase, Removed, Work, partner, running, side_of}
@@ -29,7 +24,7 @@ use Rattle.node_model.specs.DropStep
 use Rattle.node_model.specs.DropStep.{removed, target}
 use Rattle.node_model.specs.Found.{Settled}
 use Rattle.node_model.specs.TransferStep.{sources}
-use Rattle.node_model.specs.Turns.{by_partner, outcome_of}
+use Rattle.node_model.specs.Turns.{outcome_of}
 use Rattle.run_model.specs.Run.{OwnPart, OwnPast}
 use Rattle.race_core.proofs.JobSteps.{turn_at}
 use Rattle.race_core.proofs.TalkFacts.{Fits}

@@ -1,40 +1,34 @@
 -- The word beside a refused order is that of the entry whose answer the job took.
-use Rattle.std.proofs.Common.{◌≡◌, ◌≢◌, ℕ, Bool, true, false, List, [], ◌∷◌, Option, Some, None, ◌⊎◌, inl, inr, refl, sym, ap, ◌∙◌, subst, arith}
-use Rattle.std.proofs.lemmas.Bool.Decides.{nat_tests}
-use Rattle.std.specs.Prelude.{if◌then◌else◌, ◌==◌, ◌&&◌, find, slice_get}
+use Rattle.std.proofs.Common.{◌≡◌, ℕ, true, false, List, ◌∷◌, Option, Some, inl, inr, refl, sym, ap, ◌∙◌, subst}
+use Rattle.std.specs.Prelude.{slice_get}
 use Rattle.annex_base.specs.Lists.{Member}
-use Rattle.annex_base.specs.declared.kinds.Word.{Word}
 use Rattle.drop_proof.specs.declared.rule.Side.TheVariants.{Remote}
 use Rattle.run_data.specs.declared.entry.Entry.{Entry}
-use Rattle.run_data.specs.declared.entry.FrameView.{FrameView}
-use Rattle.node_model.specs.Slots.{Running, job_of}
+use Rattle.node_model.specs.Slots.{Running}
 use Rattle.run_model.specs.Past.{is_of}
 use Rattle.node_model.specs.Rows.{option_is}
-use Rattle.p2p_wire.specs.declared.message.Message.{Message}
 use Rattle.p2p_wire.specs.declared.message.Message.TheVariants.{Failure}
 use Rattle.p2p_wire.specs.Messages.{order_of}
 use Rattle.run_model.specs.Said.{Says}
-use Rattle.run_model.specs.Frames.{Flying, sent, taken, way_of}
-use Rattle.run_model.specs.Causes.{Answers, Hears}
+use Rattle.run_model.specs.Frames.{sent, taken, way_of}
+use Rattle.run_model.specs.Causes.{Answers}
 use Rattle.node_model.specs.SetUp.{SetUp}
-use Rattle.run_model.specs.Words.{awaits_of, awaits_word, word_of, word_taken, word_told}
-use Rattle.node_model.specs.Jobs.{Denied, Orders, Phase, Work, partner, side_of, running, work_kind}
+use Rattle.run_model.specs.Words.{awaits_word, word_of, word_told}
+use Rattle.node_model.specs.Jobs.{Denied, Phase, Work, partner, side_of, running, work_kind}
 use Rattle.run_model.specs.States.{rows_at, works}
 use Rattle.run_model.specs.Run.{OwnPast, OwnRun}
-use Rattle.race_core.proofs.Cases.{find_was}
-use Rattle.race_core.proofs.JobSteps.{Begins, Origin, Stays, Steps, invariant, stepped_job}
+use Rattle.race_core.proofs.JobSteps.{Origin, Steps, invariant, stepped_job}
 use Rattle.race_core.proofs.JobKept.{kind_kept}
-use Rattle.race_core.proofs.WorkNumbers.{same_number_same_work}
 use Rattle.race_core.proofs.WorkFits.{step_runs, works_fit}
 use Rattle.race_core.proofs.TalkFacts.{Fits}
 use Rattle.race_core.proofs.Aims.{aims}
 use Rattle.race_core.proofs.PhasesFit.{target_peer}
-use Rattle.race_core.proofs.EndReasons.{HearsOnly, Reason, kind_reason}
-use Rattle.race_core.proofs.Refusals.{Stands, side_in, side_is, target_in, target_is, took_peer}
+use Rattle.race_core.proofs.EndReasons.{Reason, kind_reason}
+use Rattle.race_core.proofs.Refusals.{Stands, side_is, target_in, target_is, took_peer}
 use Rattle.race_core.proofs.Standing.{orders_remote, refused_order, stands}
 use Rattle.race_core.proofs.BySteps.{earlier}
 use Rattle.race_core.proofs.WordsTold.{word_now, word_still}
-use Rattle.race_core.proofs.Plain.{eqb_true, eqb_refl}
+use Rattle.race_core.proofs.Plain.{eqb_refl}
 use Rattle.race_core.proofs.PhaseFacts.{only_orders}
 
 -- the order was refused, and its word is the sender's

@@ -1,6 +1,6 @@
 -- The first step of a drop leads on: a drop that is to begin has read nothing.
 use Rattle.std.proofs.Common.{◌≡◌, ◌≢◌, ℕ, Bool, true, false, List, [], ◌∷◌, Option, Some, None, inl, inr, refl, sym, ap, ◌∙◌, subst}
-use Rattle.std.specs.Prelude.{if◌then◌else◌, not, ◌&&◌, ◌||◌, ◌+◌}
+use Rattle.std.specs.Prelude.{if◌then◌else◌, not, ◌&&◌, ◌+◌}
 use Rattle.std.specs.List.{list_all, list_any}
 use Rattle.annex_base.specs.Lists.{Member}
 use Rattle.annex_base.specs.declared.kinds.Call.{Call}
@@ -9,16 +9,13 @@ use Rattle.drop_proof.specs.declared.rule.Side.{Side}
 use Rattle.drop_proof.specs.declared.rule.Side.TheVariants.{Local, Remote}
 use Rattle.run_data.specs.declared.entry.Entry.{Entry}
 use Rattle.run_data.specs.declared.entry.EntryKind.{EntryKind}
-use Rattle.run_data.specs.declared.entry.EntryKind.TheVariants.{Share, Fault, End as ends_job}
+use Rattle.run_data.specs.declared.entry.EntryKind.TheVariants.{Fault, End as ends_job}
 use Rattle.run_data.specs.declared.job.Outcome.{Outcome}
 use Rattle.run_data.specs.declared.job.Outcome.TheVariants.{Refused}
 use Rattle.run_data.specs.declared.job.DropRefusal.{DropRefusal}
 use Rattle.run_data.specs.declared.job.DropRefusal.TheVariants as refusals
 use Rattle.run_model.specs.Past.{holds, is_of}
-use Rattle.node_model.specs.Rows.{is_lost_ordered, option_is}
-use Rattle.run_model.specs.Frames
-use Rattle.run_model.specs.Frames.{is_job}
-use Rattle.node_model.specs.Slots.{job_of}
+use Rattle.node_model.specs.Rows.{is_lost_ordered}
 use Rattle.run_model.specs.Logs.{before_step}
 use Rattle.node_model.specs.Evidence.{Standing, Asked, Claimed, Ignored}
 use Rattle.node_model.specs.SetUp.{SetUp}
@@ -33,7 +30,7 @@ use Rattle.run_model.specs.Run.{OwnRun}
 use Rattle.race_core.proofs.JobSteps.{Origin, Steps, invariant, turn_at}
 use Rattle.race_core.proofs.PhaseFacts.{GoodTo, is_fresh}
 use Rattle.race_core.proofs.WorkFits.{step_runs, steps_good, works_fit}
-use Rattle.race_core.proofs.Untouched.{asks_copy, begin_still, begins_later, fresh_is, has_asked, is_share}
+use Rattle.race_core.proofs.Untouched.{begin_still, begins_later, fresh_is}
 use Rattle.race_core.proofs.Starts.{starts_unasked}
 use Rattle.race_core.proofs.ClientTurns.{moved}
 use Rattle.race_core.proofs.ClientSteps.{attempts_even}

@@ -1,17 +1,15 @@
 -- A drop stands on connections with other repositories alone.
-use Rattle.std.proofs.Common.{◌≡◌, ◌≢◌, ℕ, ◌<◌, Bool, true, false, List, [], ◌∷◌, length, Option, Some, None, ◌⊎◌, inl, inr, refl, sym, ap, ◌∙◌, subst}
-use Rattle.std.proofs.lemmas.Bool.{true≢false}
+use Rattle.std.proofs.Common.{◌≡◌, ℕ, Bool, true, false, List, [], ◌∷◌, Option, Some, None, ◌⊎◌, inl, inr, refl, sym, ap, ◌∙◌, subst}
 use Rattle.annex_base.specs.Lists.{Member}
 use Rattle.annex_base.specs.declared.kinds.Word.{Word}
 use Rattle.run_data.specs.declared.entry.Entry.{Entry}
-use Rattle.run_data.specs.declared.entry.FrameView.{FrameView}
 use Rattle.run_data.specs.declared.entry.FrameText.TheVariants.{Opening}
 use Rattle.run_data.specs.declared.job.JobKind.{JobKind}
 use Rattle.run_data.specs.declared.job.Job.{Job}
 use Rattle.node_model.specs.Slots.{Running}
 use Rattle.run_model.specs.Past.{is_of}
 use Rattle.node_model.specs.SetUp.{SetUp, others}
-use Rattle.run_model.specs.States.{end_at, rows_at, works}
+use Rattle.run_model.specs.States.{rows_at, works}
 use Rattle.node_model.specs.Ends.{frames}
 use Rattle.node_model.specs.Jobs.{AsksLock, AsksLook, AsksTime, Drops, Fresh, Greets, Opens, Orders, Part, Phase, Work, job_end, partner, work_kind}
 use Rattle.node_model.specs.Jobs
@@ -20,7 +18,7 @@ use Rattle.node_model.specs.AnyTime.{IsPeer}
 use Rattle.run_model.specs.Run.{OwnPart, OwnRun}
 use Rattle.race_core.proofs.TalkFacts.{Fits}
 use Rattle.race_core.proofs.PhaseFacts.{Good, GoodTo}
-use Rattle.race_core.proofs.JobSteps.{Begins, Origin, Stays, Steps, invariant, turn_at}
+use Rattle.race_core.proofs.JobSteps.{Origin, Steps, invariant, turn_at}
 use Rattle.race_core.proofs.WorkFits.{step_kind, step_runs, step_sent, step_talk, steps_good, works_fit}
 use Rattle.race_core.proofs.JobKept.{kind_kept}
 use Rattle.race_core.proofs.Aims.{aims}

@@ -16,7 +16,6 @@ use Rattle.run_data.specs.declared.entry.FrameText.{FrameText}
 use Rattle.run_data.specs.declared.entry.FrameText.TheVariants.{Opening, Closing, Bytes, Line}
 use Rattle.run_data.specs.declared.entry.LogFile.TheVariants.{Location}
 use Rattle.node_model.specs.Ends.{same_bool, End, EndName, end_sends, end_takes, end_took, frames, is_opening, may_take, sends_at, sent_at, server_end, taken_at, takes_at}
-use Rattle.run_model.specs.Logs
 use Rattle.run_model.specs.Past.{Occurs, is_of}
 use Rattle.node_model.specs.SetUp.{SetUp, served}
 use Rattle.run_model.specs.States.{end_at, session, state_of}

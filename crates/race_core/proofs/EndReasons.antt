@@ -1,6 +1,5 @@
 -- How a job comes to a phase in which a refusal stands: by what its entry takes, sends and is.
-use Rattle.std.proofs.Common.{◌≡◌, ◌≢◌, ℕ, ◌+◌, ◌-◌, Bool, true, false, List, [], ◌∷◌, Option, Some, None, ◌⊎◌, inl, inr, refl, sym, ap, ◌∙◌, subst, arith}
-use Rattle.std.proofs.lemmas.Bool.Decides.{nat_tests}
+use Rattle.std.proofs.Common.{◌≡◌, ◌≢◌, ℕ, ◌+◌, ◌-◌, Bool, true, false, List, [], ◌∷◌, Option, Some, None, ◌⊎◌, inl, inr, refl, sym, ap, ◌∙◌, subst}
 use Rattle.std.specs.Prelude.{if◌then◌else◌, ◌==◌}
 use Rattle.annex_base.specs.declared.kinds.Call.{Call}
 use Rattle.annex_base.specs.declared.kinds.Call.TheVariants.{Unhold, PutFile}
@@ -21,7 +20,6 @@ use Rattle.run_data.specs.declared.job.TransferRefusal.{TransferRefusal}
 use Rattle.run_data.specs.declared.job.TransferRefusal.TheVariants as failures
 use Rattle.run_data.specs.declared.job.Cause.TheVariants as causes
 use Rattle.node_model.specs.Slots.{Running}
-use Rattle.node_model.specs.Rows.{option_is}
 use Rattle.p2p_wire.specs.declared.message.Message.{Message}
 use Rattle.p2p_wire.specs.declared.message.Message.TheVariants.{AlreadyHave, CheckPresent, Data, Error, Failure, Get, GetTimestamp, LockContent, Put, PutFrom, Remove, RemoveBefore, Success, Valid, Version}
 use Rattle.p2p_wire.specs.Messages.{order_of, message_of}

@@ -1,13 +1,11 @@
 -- What the steps found by which a job comes to a phase where a refusal stands: an old protocol, a key being filled, locks that expired.
-use Rattle.std.proofs.Common.{◌≡◌, ◌≢◌, ℕ, ◌/◌, ◌-◌, ◌+◌, ◌^◌, Bool, true, false, List, [], ◌∷◌, Option, Some, None, ◌⊎◌, inl, inr, refl, sym, ap, ◌∙◌, subst, arith}
-use Rattle.std.proofs.lemmas.Bool.Decides.{nat_tests}
+use Rattle.std.proofs.Common.{◌≡◌, ◌≢◌, ℕ, ◌/◌, ◌-◌, ◌+◌, ◌^◌, Bool, true, false, List, [], ◌∷◌, Option, Some, None, ◌⊎◌, inl, inr, refl, sym, ap, ◌∙◌, subst}
 use Rattle.std.specs.Prelude.{if◌then◌else◌, ◌==◌, nat_le, nat_lt, bytes_eq, codes}
 use Rattle.std.specs.List.{list_all}
 use Rattle.annex_base.specs.declared.kinds.Call.{Call}
 use Rattle.annex_base.specs.declared.kinds.Call.TheVariants as calls
 use Rattle.drop_proof.specs.declared.rule.Side.{Side}
 use Rattle.drop_proof.specs.declared.rule.Side.TheVariants.{Local, Remote}
-use Rattle.run_data.specs.declared.entry.By.{By}
 use Rattle.run_data.specs.declared.entry.EntryKind.{EntryKind}
 use Rattle.run_data.specs.declared.entry.EntryKind.TheVariants.{Fault, Talk, End as ends_job}
 use Rattle.run_data.specs.declared.entry.FrameView.{FrameView}
@@ -19,21 +17,20 @@ use Rattle.run_data.specs.declared.job.TransferRefusal.TheVariants as failures
 use Rattle.run_data.specs.declared.job.DropRefusal.TheVariants as refusals
 use Rattle.node_model.specs.Rows.{is_lost_ordered}
 use Rattle.p2p_wire.specs.declared.message.Message.{Message}
-use Rattle.p2p_wire.specs.declared.message.Message.TheVariants.{Error, Failure, Get, GetTimestamp, LockContent, Remove, RemoveBefore, Success, Timestamp, Version}
-use Rattle.p2p_wire.specs.Messages.{message_of, text_of}
+use Rattle.p2p_wire.specs.declared.message.Message.TheVariants.{Error, Get, GetTimestamp, RemoveBefore, Timestamp, Version}
+use Rattle.p2p_wire.specs.Messages.{message_of}
 use Rattle.node_model.specs.Sessions.{line_in}
 use Rattle.node_model.specs.Jobs.{AsksTime, Drops, Gets, Greets, Next, Part, Phase, Puts, PutsOffer, job_end, partner, side_of}
-use Rattle.node_model.specs.Calls.{to_release}
 use Rattle.node_model.specs.Look.{Made, waiting}
 use Rattle.node_model.specs.Knows.{enough_by, next_by}
-use Rattle.node_model.specs.JobStep.{Turn, attempts, by_me, clock_of, end_with, ends, farewells, hears, key_of, owns_share, quietly, says_to, sends_to, talk, wrong}
-use Rattle.node_model.specs.DropStep.{asks_copy, asks_lock, asks_target, first_end, in_time, expired, lacking, orders, removes, takes_drop, takes_time, target, times}
+use Rattle.node_model.specs.JobStep.{Turn, attempts, by_me, clock_of, end_with, ends, farewells, hears, key_of, quietly, says_to, sends_to, talk, wrong}
+use Rattle.node_model.specs.DropStep.{asks_copy, asks_lock, asks_target, first_end, in_time, expired, lacking, orders, takes_drop, takes_time, target, times}
 use Rattle.node_model.specs.Requests.{asks, goes_to}
 use Rattle.node_model.specs.TransferStep.{next_get, next_source}
 use Rattle.node_model.specs.Turns.{awaits, by_partner, goes, goes_on, has_room, judges, needs, next_step, takes, takes_answer, takes_frame, takes_text, with_partner}
 use Rattle.race_core.proofs.Cases.{if_found}
 use Rattle.race_core.proofs.ClientSteps.{attempts_even}
-use Rattle.race_core.proofs.HeardSteps.{took_as, takes_line}
+use Rattle.race_core.proofs.HeardSteps.{takes_line}
 use Rattle.race_core.proofs.Plain.{eqb_true}
 
 -- ---- the target's version is too old

@@ -12,7 +12,6 @@ use Rattle.run_data.specs.declared.entry.FrameView.{FrameView}
 use Rattle.run_data.specs.declared.entry.FrameText.{FrameText}
 use Rattle.run_data.specs.declared.entry.FrameText.TheVariants.{Opening, Closing, Bytes, Line}
 use Rattle.run_data.specs.declared.job.Job.{Job}
-use Rattle.run_model.specs.Past
 use Rattle.run_model.specs.Past.{Occurs, is_of, jobs, jobs_after}
 use Rattle.node_model.specs.Slots.{Running, free_slot, job_of}
 use Rattle.node_model.specs.Rows.{option_is}

@@ -1,36 +1,28 @@
 -- The causes of refusals that rest on a drop's evidence: its locks had expired, its target's protocol is old, or it lacks evidence.
-use Rattle.std.proofs.Common.{◌≡◌, ◌≢◌, ℕ, ◌+◌, ◌<◌, ◌≤◌, Bool, true, false, List, [], ◌∷◌, ◌++◌, Option, Some, None, ◌⊎◌, inl, inr, refl, sym, ap, ◌∙◌, subst, arith}
+use Rattle.std.proofs.Common.{◌≡◌, ℕ, ◌≤◌, Bool, true, false, List, [], ◌∷◌, Option, Some, None, ◌⊎◌, inl, inr, refl, sym, ap, ◌∙◌, subst, arith}
 use Rattle.std.proofs.lemmas.Bool.Decides.{nat_tests}
-use Rattle.std.specs.Prelude.{if◌then◌else◌, ◌==◌, ◌||◌, find, length, min, nat_lt}
+use Rattle.std.specs.Prelude.{if◌then◌else◌, ◌||◌, find, length, min, nat_lt}
 use Rattle.std.specs.List.{list_any, reduce}
 use Rattle.annex_base.specs.Lists.{Each, Member}
 use Rattle.annex_base.specs.declared.kinds.Word.{Word}
 use Rattle.drop_proof.specs.declared.evidence.Evidence.{Evidence}
 use Rattle.drop_proof.specs.declared.evidence.Kind.{Kind}
 use Rattle.drop_proof.specs.declared.evidence.Kind.TheVariants.{Locked, Trusted, Recent}
-use Rattle.drop_proof.specs.declared.rule.Need.{Need}
-use Rattle.drop_proof.specs.declared.rule.Side.{Side}
-use Rattle.drop_proof.specs.declared.rule.Side.TheVariants.{Local, Remote}
 use Rattle.drop_proof.specs.Judging.{ends, is_enough, least_end}
 use Rattle.run_data.specs.declared.entry.Entry.{Entry}
-use Rattle.run_data.specs.declared.entry.EntryKind.{EntryKind}
 use Rattle.run_data.specs.declared.entry.EntryKind.TheVariants.{End as ends_job}
 use Rattle.run_data.specs.declared.job.CandidateCause.{CandidateCause}
-use Rattle.run_data.specs.declared.job.Outcome.{Outcome}
 use Rattle.run_data.specs.declared.job.Outcome.TheVariants.{Refused}
-use Rattle.run_data.specs.declared.job.DropRefusal.{DropRefusal}
 use Rattle.run_data.specs.declared.job.DropRefusal.TheVariants as refusals
 use Rattle.run_data.specs.declared.job.Proof.{Proof}
 use Rattle.node_model.specs.Clocks.{ClockSet, runs_on}
-use Rattle.node_model.specs.Slots.{Running}
-use Rattle.run_model.specs.Past.{clock, is_of}
+use Rattle.run_model.specs.Past.{clock}
 use Rattle.run_model.specs.Logs.{need_read}
 use Rattle.run_data.specs.declared.job.Cause.{Cause}
 use Rattle.run_model.specs.Drops
 use Rattle.node_model.specs.Evidence.{Standing, gather, proof_of, Claimed, Ignored, Asked, Offer, Gives, Fails, candidates, failures, is_locked, pick, reached}
 use Rattle.run_model.specs.Drops.{asked, why, evidence, told_cause}
-use Rattle.run_model.specs.Causes
-use Rattle.run_model.specs.Causes.{FoundExpired, FoundLacking, FoundOld, IsCauseOf, JobOf, items}
+use Rattle.run_model.specs.Causes.{FoundExpired, FoundLacking, FoundOld, IsCauseOf, items}
 use Rattle.node_model.specs.SetUp.{SetUp}
 use Rattle.run_model.specs.States.{state_of, works}
 use Rattle.node_model.specs.Jobs
@@ -38,18 +30,15 @@ use Rattle.node_model.specs.Jobs.{AsksTime, Drops, Ends, Heard, Late, Next, Phas
 use Rattle.node_model.specs.Knows
 use Rattle.node_model.specs.Knows.{candidates_of, cause_by, causes_known, cause_heard, heard_offer, is_to_ask, is_unasked, known, knows_enough, need_of, next_of, offer_by, standing_of}
 use Rattle.node_model.specs.DropStep
-use Rattle.node_model.specs.JobStep.{Turn, clock_of}
-use Rattle.node_model.specs.Found.{Expires, Lacks, Settled}
+use Rattle.node_model.specs.Found.{Expires, Lacks}
 use Rattle.run_model.specs.Words.{word_told}
 use Rattle.run_model.specs.Run.{FramesPart, OwnPart, OwnPast}
 use Rattle.race_core.proofs.JobSteps.{turn_at}
 use Rattle.race_core.proofs.Aims.{aims, other_target}
-use Rattle.race_core.proofs.MovesBegun.{moves_begun}
-use Rattle.race_core.proofs.OpenEnds.{shut}
 use Rattle.race_core.proofs.EndSteps.{EnoughBy, next_enough}
-use Rattle.race_core.proofs.Refusals.{DropStands, ReleaseFailed, Stands, side_in, side_is, target_in, target_is}
+use Rattle.race_core.proofs.Refusals.{side_in, side_is, target_in, target_is}
 use Rattle.race_core.proofs.Standing.{stands}
-use Rattle.race_core.proofs.StillKnown.{Knew, KnewAt, knew}
+use Rattle.race_core.proofs.StillKnown.{KnewAt, knew}
 use Rattle.race_core.proofs.RefusalCauses.{DropSettled, Ending, drop_settled, ending, ending_words, job_of}
 use Rattle.race_core.specs.Own.{MessagePast}
 use Rattle.race_core.specs.Heard as heards

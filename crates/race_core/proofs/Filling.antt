@@ -1,10 +1,9 @@
 -- While a session takes the bytes of a key, the past has the entry by which it took PUT of the key and told to send, and nothing that
 -- wants an answer was taken on that opening since.
 use Rattle.std.proofs.Common.{◌≡◌, ℕ, ◌+◌, Bool, true, false, List, [], ◌∷◌, Option, Some, None, ◌⊎◌, inl, inr, refl, sym, ap, ◌∙◌, subst, arith}
-use Rattle.std.specs.Prelude.{if◌then◌else◌, ◌==◌, ◌&&◌, ◌||◌, bytes_eq, nat_lt, nat_le}
+use Rattle.std.specs.Prelude.{if◌then◌else◌, ◌==◌, ◌&&◌, bytes_eq}
 use Rattle.std.specs.List.{list_any}
 use Rattle.std.proofs.lemmas.Bool.{true≢false}
-use Rattle.std.proofs.lemmas.Bool.Decides.{nat_tests}
 use Rattle.annex_base.specs.declared.kinds.Word.{Word}
 use Rattle.run_data.specs.declared.entry.Entry.{Entry}
 use Rattle.run_data.specs.declared.entry.EntryKind.{EntryKind}
@@ -16,7 +15,7 @@ use Rattle.p2p_wire.specs.declared.message.Message.{Message}
 use Rattle.p2p_wire.specs.declared.message.Message.TheVariants.{LockContent, UnlockContent, Get, Put, PutFrom, Data, Valid, Invalid, Success, Failure, Error}
 use Rattle.p2p_wire.specs.Messages.{message_of}
 use Rattle.run_model.specs.Causes.{is_put_from}
-use Rattle.run_model.specs.Said.{Said, Says, is_request, message_in, said_line, wants_answer}
+use Rattle.run_model.specs.Said.{Says, is_request, message_in, said_line, wants_answer}
 use Rattle.run_model.specs.Frames.{says, taken_if}
 use Rattle.race_core.proofs.LogLemmas.{bytes_eq_tells}
 use Rattle.node_model.specs.SetUp.{SetUp}
@@ -28,7 +27,7 @@ use Rattle.run_model.specs.Run.{OwnPart, OwnRun}
 use Rattle.race_core.proofs.Counting.{Closes}
 use Rattle.race_core.proofs.EndMoves.{all_epoch, all_opened, end_gave, end_own, end_shuts, end_took-is, gave_none, may_epoch, opening_closed, own_induction, sends_all, sent_took, session_own, shuts_none, taken_none, takes_epoch, took_at, took_none}
 use Rattle.race_core.proofs.ServerEnds.{GivesHere, Shuts, TakesHere, at_server}
-use Rattle.race_core.proofs.SaidDown.{said_bytes, said_closing, said_is, said_line-is}
+use Rattle.race_core.proofs.SaidDown.{said_bytes, said_is, said_line-is}
 use Rattle.race_core.proofs.NewSessions.{closed_new}
 use Rattle.race_core.proofs.TurnFits.{closes_opened}
 use Rattle.race_core.proofs.WayCounts.{hits, in_count, in_other, one_if, way_in}

@@ -1,21 +1,20 @@
 -- A job that fills a key is a get, and has made a step.
-use Rattle.std.proofs.Common.{◌≡◌, ℕ, Bool, true, false, List, [], ◌∷◌, Option, Some, None, ◌⊎◌, inl, inr, refl, sym, ap, ◌∙◌, subst, arith}
-use Rattle.std.proofs.lemmas.Bool.Decides.{nat_tests}
-use Rattle.std.specs.Prelude.{◌==◌, ◌&&◌, ◌||◌, bytes_eq}
+use Rattle.std.proofs.Common.{◌≡◌, ℕ, true, false, List, ◌∷◌, ◌⊎◌, inl, inr, refl, sym, ap, ◌∙◌, subst}
+use Rattle.std.specs.Prelude.{◌==◌, ◌&&◌, bytes_eq}
 use Rattle.std.specs.List.{list_any}
 use Rattle.annex_base.specs.Lists.{Member}
 use Rattle.run_data.specs.declared.entry.Entry.{Entry}
 use Rattle.run_data.specs.declared.job.Job.{Job}
 use Rattle.node_model.specs.Slots.{Running}
-use Rattle.run_model.specs.Past.{begun_job, is_of, jobs, runs}
+use Rattle.run_model.specs.Past.{is_of, jobs}
 use Rattle.run_model.specs.Logs.{has_stepped, is_step}
 use Rattle.run_model.specs.Causes.{FillsByGet, gets}
 use Rattle.race_core.proofs.LogLemmas.{bytes_eq_tells}
 use Rattle.node_model.specs.SetUp.{SetUp}
-use Rattle.node_model.specs.Jobs.{Fresh, Gets, Work, running, work_kind}
+use Rattle.node_model.specs.Jobs.{Fresh, Gets, Work, running}
 use Rattle.run_model.specs.States.{rows_at, works}
 use Rattle.run_model.specs.Run.{OwnPast, OwnRun}
-use Rattle.race_core.proofs.JobSteps.{Begins, Origin, Stays, Steps, invariant}
+use Rattle.race_core.proofs.JobSteps.{Origin, invariant}
 use Rattle.race_core.proofs.JobKept.{jobs_are, kind_kept}
 use Rattle.race_core.proofs.WorkNumbers.{running_member}
 use Rattle.race_core.proofs.WorkFits.{step_number, step_runs}

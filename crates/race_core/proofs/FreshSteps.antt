@@ -1,7 +1,6 @@
 -- The first step of a job, and of its drop, leaves its place: so where it stands there, it has made none.
-use Rattle.std.proofs.Common.{◌≡◌, ◌≢◌, ℕ, ◌+◌, ◌<◌, Bool, true, false, List, [], ◌∷◌, Option, Some, None, ◌⊎◌, inl, inr, refl, sym, ap, ◌∙◌, subst, arith}
-use Rattle.std.proofs.lemmas.Bool.Decides.{nat_tests}
-use Rattle.std.specs.Prelude.{if◌then◌else◌, ◌==◌, ◌&&◌, ◌||◌, not}
+use Rattle.std.proofs.Common.{◌≡◌, ◌≢◌, ℕ, ◌+◌, Bool, true, false, List, [], ◌∷◌, Option, Some, None, inl, inr, refl, sym, ap, ◌∙◌, subst}
+use Rattle.std.specs.Prelude.{if◌then◌else◌, ◌&&◌, ◌||◌, not}
 use Rattle.std.specs.List.{list_all, list_any}
 use Rattle.annex_base.specs.Lists.{Member}
 use Rattle.annex_base.specs.declared.kinds.Call.{Call}
@@ -10,7 +9,7 @@ use Rattle.drop_proof.specs.declared.rule.Side.{Side}
 use Rattle.drop_proof.specs.declared.rule.Side.TheVariants.{Local, Remote}
 use Rattle.run_data.specs.declared.entry.Entry.{Entry}
 use Rattle.run_data.specs.declared.entry.EntryKind.{EntryKind}
-use Rattle.run_data.specs.declared.entry.EntryKind.TheVariants.{Bar, Fault, Talk, End as ends_job}
+use Rattle.run_data.specs.declared.entry.EntryKind.TheVariants.{Fault, End as ends_job}
 use Rattle.run_data.specs.declared.entry.FrameText.TheVariants.{Opening}
 use Rattle.run_data.specs.declared.job.DropRefusal.{DropRefusal}
 use Rattle.run_data.specs.declared.job.Outcome.{Outcome}
@@ -33,16 +32,15 @@ use Rattle.node_model.specs.SetUp.{SetUp}
 use Rattle.node_model.specs.Jobs.{Drops, Fresh, Gets, Part, Phase, Puts, Work, drop_side, first_look, first_part, partner, running, says_some, side_of, work_kind}
 use Rattle.run_model.specs.States.{rows_at, works}
 use Rattle.node_model.specs.Calls.{to_hold, to_release}
-use Rattle.node_model.specs.Knows.{need_of, standing_of}
-use Rattle.node_model.specs.JobStep.{Turn, bar_there, by_me, clock_of, end_with, ends, farewells, is_there, key_of, me, owns_share, quietly, says_to, sends_to, talk}
-use Rattle.node_model.specs.DropStep.{bars, first_drop, first_local, first_remote, held_until, need_now, own_share, required_there, row_refusal, shares, tries_own}
+use Rattle.node_model.specs.JobStep.{Turn, bar_there, by_me, clock_of, end_with, ends, farewells, is_there, key_of, me, owns_share, quietly, sends_to, talk}
+use Rattle.node_model.specs.DropStep.{bars, first_drop, first_remote, held_until, own_share, required_there, row_refusal, shares, tries_own}
 use Rattle.node_model.specs.Requests.{asks, goes_to}
 use Rattle.node_model.specs.TransferStep.{first_put}
 use Rattle.node_model.specs.Turns.{by_partner, goes, goes_on, has_room, needs}
 use Rattle.run_model.specs.Run.{OwnPast, OwnRun}
 use Rattle.race_core.proofs.Cases.{if_found}
 use Rattle.race_core.proofs.Spoken.{put_read}
-use Rattle.race_core.proofs.JobSteps.{Begins, Origin, Stays, Stepped, Steps, invariant, turn_at}
+use Rattle.race_core.proofs.JobSteps.{Origin, Steps, invariant, turn_at}
 use Rattle.race_core.proofs.JobKept.{kind_kept}
 use Rattle.race_core.proofs.PhaseFacts.{GoodTo, is_fresh}
 use Rattle.race_core.proofs.WorkFits.{step_number, step_runs, steps_good, works_fit}
@@ -51,7 +49,6 @@ use Rattle.race_core.proofs.Starts.{starts_unasked}
 use Rattle.race_core.proofs.ClientTurns.{made_entry, moved}
 use Rattle.race_core.proofs.ClientSteps.{attempts_even}
 use Rattle.race_core.proofs.GetsBegin.{no_release, owns_none, unasked_unheld, unstepped}
-use Rattle.race_core.proofs.GetsBegin as gets_begin
 use Rattle.race_core.proofs.BySteps.{earlier}
 
 -- a job that is to begin its part, at another phase afterwards

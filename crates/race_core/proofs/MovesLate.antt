@@ -1,9 +1,8 @@
 -- **A drop of a move to a peer has not begun, as the entries tell, before its copy is done.**
-use Rattle.std.proofs.Common.{◌≡◌, ◌≢◌, ℕ, ◌+◌, ◌<◌, ◌≤◌, Bool, true, false, List, [], ◌∷◌, Option, Some, None, ◌⊎◌, inl, inr, refl, sym, ap, ◌∙◌, subst, arith}
+use Rattle.std.proofs.Common.{◌≡◌, ℕ, ◌+◌, ◌<◌, ◌≤◌, Bool, true, false, List, [], ◌∷◌, Option, Some, None, ◌⊎◌, inl, inr, refl, sym, ap, ◌∙◌, subst, arith}
 use Rattle.std.proofs.lemmas.Bool.Decides.{nat_tests}
-use Rattle.std.specs.Prelude.{if◌then◌else◌, ◌==◌, ◌&&◌, ◌||◌, not, option_map}
+use Rattle.std.specs.Prelude.{if◌then◌else◌, ◌==◌, ◌&&◌, not, option_map}
 use Rattle.annex_base.specs.Lists.{Member}
-use Rattle.annex_base.specs.declared.kinds.Word.{Word}
 use Rattle.run_data.specs.declared.entry.Entry.{Entry}
 use Rattle.run_data.specs.declared.entry.EntryKind.{EntryKind}
 use Rattle.run_data.specs.declared.entry.EntryKind.TheVariants.{Begin, Gain, Share, Bar, Order, Gone, Talk, Fault, End as ends_job}
@@ -16,18 +15,17 @@ use Rattle.run_data.specs.declared.job.JobKind.TheVariants as kinds
 use Rattle.run_data.specs.declared.job.Outcome.{Outcome}
 use Rattle.run_data.specs.declared.job.Outcome.TheVariants.{Copied}
 use Rattle.run_model.specs.Past.{begun, is_of}
-use Rattle.node_model.specs.Slots.{is_begin}
 use Rattle.node_model.specs.Rows.{option_is}
 use Rattle.p2p_wire.specs.declared.message.Message.{Message}
-use Rattle.p2p_wire.specs.declared.message.Message.TheVariants.{AlreadyHave, Success, Valid}
+use Rattle.p2p_wire.specs.declared.message.Message.TheVariants.{AlreadyHave, Success}
 use Rattle.p2p_wire.specs.Messages.{message_of}
-use Rattle.run_model.specs.Said.{Said, Says, message_in, said_line}
+use Rattle.run_model.specs.Said.{Said, message_in, said_line}
 use Rattle.run_model.specs.Frames.{last_request, said_of, up_of, way_of}
-use Rattle.run_model.specs.Logs.{ends_transfer, has_it, has_stepped, hears_has_it, in_drop, is_drop, is_quiet, is_step, starts_drop}
+use Rattle.run_model.specs.Logs.{has_it, has_stepped, hears_has_it, in_drop, is_drop, is_quiet, is_step, starts_drop}
 use Rattle.node_model.specs.SetUp.{SetUp}
-use Rattle.run_model.specs.States.{state_of, rows_at, works}
+use Rattle.run_model.specs.States.{rows_at, works}
 use Rattle.node_model.specs.Sessions.{line_in}
-use Rattle.node_model.specs.Ends.{EndName, end_after, takes_at}
+use Rattle.node_model.specs.Ends.{EndName, end_after}
 use Rattle.node_model.specs.Jobs
 use Rattle.node_model.specs.Jobs.{Drops, Ends, Fresh, Greets, Next, Opens, Part, Phase, Puts, PutsAnswer, PutsBytes, PutsOffer, PutsWord, Work, closed_part, first_part, job_end, partner, talks_on, transferred, work_kind}
 use Rattle.node_model.specs.Look.{Made}
@@ -36,10 +34,9 @@ use Rattle.node_model.specs.JobStep
 use Rattle.node_model.specs.TransferStep.{takes_put}
 use Rattle.node_model.specs.Found.{JobKind}
 use Rattle.node_model.specs.Turns.{by_partner, takes, takes_answer, takes_frame}
-use Rattle.run_model.specs.Run.{OwnPart, OwnPast, OwnRun}
+use Rattle.run_model.specs.Run.{OwnPast, OwnRun}
 use Rattle.race_core.proofs.Cases.{if_found}
-use Rattle.race_core.proofs.JobFacts
-use Rattle.race_core.proofs.JobSteps.{Begins, Origin, Stays, Stepped, Steps, invariant, stepped_found, turn_at}
+use Rattle.race_core.proofs.JobSteps.{Origin, Steps, invariant, turn_at}
 use Rattle.race_core.proofs.JobNumbers.{begins_next}
 use Rattle.race_core.proofs.WorkNumbers.{number_begun}
 use Rattle.race_core.proofs.PhaseFacts.{GoodTo, is_fresh, readies_place}

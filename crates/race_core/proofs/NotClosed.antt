@@ -1,5 +1,5 @@
 -- A job that is to begin, or to go on to its next peer, doesn't end as one whose connection was closed.
-use Rattle.std.proofs.Common.{◌≡◌, ◌≢◌, ℕ, ◌+◌, Bool, true, false, List, [], ◌∷◌, Option, Some, None, refl, sym, ap, ◌∙◌, subst}
+use Rattle.std.proofs.Common.{◌≡◌, ℕ, ◌+◌, Bool, true, false, List, [], ◌∷◌, Option, Some, None, refl, subst}
 use Rattle.std.specs.Prelude.{if◌then◌else◌, ◌==◌, nat_lt}
 use Rattle.std.specs.List.{list_all}
 use Rattle.annex_base.specs.declared.kinds.Call.{Call}
@@ -7,7 +7,7 @@ use Rattle.annex_base.specs.declared.kinds.Call.TheVariants as calls
 use Rattle.drop_proof.specs.declared.rule.Side.{Side}
 use Rattle.drop_proof.specs.declared.rule.Side.TheVariants.{Local, Remote}
 use Rattle.run_data.specs.declared.entry.EntryKind.{EntryKind}
-use Rattle.run_data.specs.declared.entry.EntryKind.TheVariants.{Bar, End as ends_job}
+use Rattle.run_data.specs.declared.entry.EntryKind.TheVariants.{End as ends_job}
 use Rattle.run_data.specs.declared.entry.FrameView.{FrameView}
 use Rattle.run_data.specs.declared.entry.FrameText.TheVariants.{Opening}
 use Rattle.run_data.specs.declared.job.DropRefusal.{DropRefusal}
@@ -18,16 +18,15 @@ use Rattle.run_data.specs.declared.job.TransferRefusal.TheVariants as failures
 use Rattle.node_model.specs.Rows.{is_lost_ordered}
 use Rattle.node_model.specs.Evidence.{Standing, Asked}
 use Rattle.p2p_wire.specs.declared.message.Message.TheVariants.{Get, GetTimestamp}
-use Rattle.p2p_wire.specs.Messages.{text_of}
 use Rattle.node_model.specs.Jobs.{Drops, Fresh, Gets, Next, Part, Phase, Puts, is_move, partner, side_of}
 use Rattle.node_model.specs.Calls.{to_hold}
 use Rattle.node_model.specs.Look.{Made}
 use Rattle.node_model.specs.Knows.{enough_by, next_by}
 use Rattle.node_model.specs.JobStep.{Turn, attempts, bar_there, by_me, clock_of, end_with, ends, farewells, is_there, key_of, me, quietly, says_to, sends_to, talk}
-use Rattle.node_model.specs.DropStep.{asks_copy, asks_lock, asks_target, bars, expired, first_drop, first_end, first_remote, held_until, in_time, lacking, need_now, own_share, removes, required_there, row_refusal, shares, target, tries_own}
+use Rattle.node_model.specs.DropStep.{asks_copy, asks_lock, asks_target, bars, expired, first_drop, first_end, first_remote, held_until, in_time, lacking, own_share, required_there, row_refusal, shares, target, tries_own}
 use Rattle.node_model.specs.Requests.{asks, goes_to}
 use Rattle.node_model.specs.TransferStep.{first_get, first_put, next_get, next_source}
-use Rattle.node_model.specs.Turns.{by_partner, first_step, goes, goes_on, has_room, judges, needs, next_step}
+use Rattle.node_model.specs.Turns.{by_partner, first_step, goes, has_room, judges, needs, next_step}
 use Rattle.race_core.proofs.Cases.{if_found}
 use Rattle.race_core.proofs.ClientSteps.{attempts_even}
 

@@ -1,5 +1,5 @@
 -- A drop that lost its target says that it ordered exactly where an order entry of it stands.
-use Rattle.std.proofs.Common.{◌≡◌, ◌≢◌, ℕ, ◌+◌, ◌-◌, ◌/◌, ◌<◌, ◌^◌, Bool, true, false, List, [], ◌∷◌, Option, Some, None, ◌⊎◌, inl, inr, refl, sym, ap, ◌∙◌, subst}
+use Rattle.std.proofs.Common.{◌≡◌, ℕ, ◌+◌, ◌-◌, ◌^◌, Bool, true, false, List, [], ◌∷◌, Option, Some, None, ◌⊎◌, inl, inr, refl, sym, ap, ◌∙◌, subst}
 use Rattle.std.specs.Prelude.{if◌then◌else◌, ◌==◌, ◌&&◌, ◌||◌, nat_lt}
 use Rattle.std.specs.List.{list_any}
 use Rattle.std.proofs.lemmas.Bool.{true≢false}
@@ -11,7 +11,7 @@ use Rattle.drop_proof.specs.declared.rule.Side.{Side}
 use Rattle.drop_proof.specs.declared.rule.Side.TheVariants.{Local, Remote}
 use Rattle.run_data.specs.declared.entry.Entry.{Entry}
 use Rattle.run_data.specs.declared.entry.EntryKind.{EntryKind}
-use Rattle.run_data.specs.declared.entry.EntryKind.TheVariants.{Bar, Fault, Gain, Gone, Order, Share, Talk}
+use Rattle.run_data.specs.declared.entry.EntryKind.TheVariants.{Bar, Fault, Gain, Gone, Order, Share}
 use Rattle.run_data.specs.declared.entry.FrameView.{FrameView}
 use Rattle.run_data.specs.declared.entry.FrameText.{FrameText}
 use Rattle.run_data.specs.declared.entry.FrameText.TheVariants.{Opening, Closing, Bytes, Line}
@@ -21,20 +21,20 @@ use Rattle.run_data.specs.declared.job.DropRefusal.TheVariants as refusals
 use Rattle.p2p_wire.specs.declared.message.Message.{Message}
 use Rattle.p2p_wire.specs.declared.message.Message.TheVariants.{Version, CheckPresent, LockContent, Remove, RemoveBefore, GetTimestamp, Timestamp, Get, Put, PutFrom, AlreadyHave, Data, Valid, Success, Failure, Error}
 use Rattle.p2p_wire.specs.Messages.{order_of, message_of, text_of}
-use Rattle.run_model.specs.Past.{Occurs, is_of}
+use Rattle.run_model.specs.Past.{is_of}
 use Rattle.node_model.specs.Rows.{option_is}
 use Rattle.run_model.specs.Frames.{is_job}
 use Rattle.node_model.specs.Slots.{job_of}
 use Rattle.run_model.specs.Causes.{is_order}
 use Rattle.node_model.specs.SetUp.{SetUp}
-use Rattle.run_model.specs.States.{state_of, rows_at, works}
+use Rattle.run_model.specs.States.{rows_at, works}
 use Rattle.node_model.specs.Ends.{end_after, frames}
 use Rattle.node_model.specs.Sessions.{line_in}
 use Rattle.node_model.specs.Jobs
 use Rattle.node_model.specs.Jobs.{AsksTime, Drops, Ends, Fresh, Gets, GetsBytes, GetsWord, Greets, Orders, Part, Phase, Puts, Rows, Work, claims, closed_part, fault_of, fault_phase, first_look, gets_bytes, gets_more, hears_frame, job_end, learns, listens, partner, put_from, puts_answer, puts_bytes, puts_more, quiet, running, says, says_some, sends, side_of, taken_message, talks, talks_on, target_of, took, took_line, transferred, unreleased, word_taken, work_kind}
 use Rattle.node_model.specs.JobStep.{Turn, wrong}
 use Rattle.node_model.specs.DropStep.{first_end, takes_time, times}
-use Rattle.node_model.specs.Turns.{takes, takes_answer, takes_frame}
+use Rattle.node_model.specs.Turns.{takes_answer}
 use Rattle.node_model.specs.Found.{GivesOrder, HasDeadline, JobKind}
 use Rattle.run_model.specs.Run.{OwnPart, OwnPast, OwnRun}
 use Rattle.drop_proof.specs.declared.rule.Need.{Need}
@@ -44,15 +44,14 @@ use Rattle.race_core.proofs.PhaseFacts.{readies_place}
 use Rattle.race_core.proofs.Cases.{if_found}
 use Rattle.race_core.proofs.Plain.{and_true, eqb_refl}
 use Rattle.race_core.proofs.BySteps.{earlier}
-use Rattle.race_core.proofs.JobKept.{kind_kept}
-use Rattle.race_core.proofs.JobSteps.{Begins, Origin, Stays, Stepped, Steps, invariant, made_by, stepped_found, stepped_job, stepped_runs, turn_at}
+use Rattle.race_core.proofs.JobSteps.{Origin, Stepped, invariant, stepped_found, stepped_runs, turn_at}
 use Rattle.race_core.proofs.WorkFits.{step_number, step_runs, works_fit}
 use Rattle.race_core.proofs.HeardSteps.{takes_line}
 use Rattle.race_core.proofs.Decisions.{stepped_of}
 use Rattle.race_core.proofs.Speaks
 use Rattle.race_core.proofs.Makers.{taken_of}
 use Rattle.race_core.proofs.PhasesFit.{works_speak}
-use Rattle.race_core.proofs.OrdersSent.{NowOrders, Orderer, SentOrder, orderer}
+use Rattle.race_core.proofs.OrdersSent.{SentOrder, orderer}
 use Rattle.race_core.proofs.OrdersAnswered.{Ordered, orders_stand}
 use Rattle.race_core.proofs.HeardTells.{made_as, stepped_own}
 

@@ -1,13 +1,13 @@
 -- The cause that a remote drop's list has of its own repository is what its first step found; a refused look is heard as such.
-use Rattle.std.proofs.Common.{◌≡◌, ◌≢◌, ℕ, suc, ◌+◌, Bool, true, false, List, [], ◌∷◌, length, Option, Some, None, ◌⊎◌, inl, inr, refl, sym, ap, ◌∙◌, subst, arith}
+use Rattle.std.proofs.Common.{◌≡◌, ◌≢◌, ℕ, suc, Bool, true, false, List, [], ◌∷◌, length, Option, Some, None, ◌⊎◌, inl, inr, refl, sym, ap, ◌∙◌, subst, arith}
 use Rattle.std.specs.Prelude.{if◌then◌else◌}
 use Rattle.annex_base.specs.declared.kinds.Call.{Call}
 use Rattle.annex_base.specs.declared.kinds.Call.TheVariants.{PutFile, Unhold}
 use Rattle.drop_proof.specs.declared.rule.Side.{Side}
-use Rattle.drop_proof.specs.declared.rule.Side.TheVariants.{Local, Remote}
+use Rattle.drop_proof.specs.declared.rule.Side.TheVariants.{Remote}
 use Rattle.run_data.specs.declared.entry.Entry.{Entry}
 use Rattle.run_data.specs.declared.entry.EntryKind.{EntryKind}
-use Rattle.run_data.specs.declared.entry.EntryKind.TheVariants.{Bar, Begin, Fault, Gain, Gone, Order, Share, Talk, End as ends_job}
+use Rattle.run_data.specs.declared.entry.EntryKind.TheVariants.{Bar, Fault, Gain, Gone, Order, Share, Talk, End as ends_job}
 use Rattle.run_data.specs.declared.entry.FrameView.{FrameView}
 use Rattle.run_data.specs.declared.entry.FrameText.{FrameText}
 use Rattle.run_data.specs.declared.entry.FrameText.TheVariants.{Opening, Closing, Bytes, Line}
@@ -16,18 +16,17 @@ use Rattle.run_data.specs.declared.job.Cause.TheVariants as causes
 use Rattle.run_data.specs.declared.job.Outcome.{Outcome}
 use Rattle.p2p_wire.specs.declared.message.Message.{Message}
 use Rattle.p2p_wire.specs.declared.message.Message.TheVariants.{Failure}
-use Rattle.p2p_wire.specs.Messages.{message_of, text_of, order_of}
+use Rattle.p2p_wire.specs.Messages.{message_of}
 use Rattle.run_model.specs.Drops.{cause_own}
-use Rattle.node_model.specs.Ends.{frames}
 use Rattle.node_model.specs.Sessions.{line_in}
 use Rattle.node_model.specs.Jobs
 use Rattle.node_model.specs.Jobs.{AsksLook, Drops, Fresh, Heard, Lacks, Part, Phase, Rows, Unseen, Work, claims, fault_of, fault_phase, first_look, hears_frame, job_end, learns, partner, quiet, sends, side_of, taken_message, talks, talks_on, took, took_line, work_kind}
 use Rattle.node_model.specs.Look.{Made}
-use Rattle.node_model.specs.JobStep.{Turn, end_with, hears, talk}
+use Rattle.node_model.specs.JobStep.{Turn, hears}
 use Rattle.node_model.specs.Turns.{takes_answer, takes_frame}
 use Rattle.node_model.specs.Found.{JobKind}
-use Rattle.race_core.proofs.HeardLists.{LookTold, LockTold, OwnLacks, SameList, Talker, gained_list, listens_list, sends_list, talker_heard, talker_is}
-use Rattle.race_core.proofs.HeardSteps.{moved_listens, takes_line}
+use Rattle.race_core.proofs.HeardLists.{OwnLacks, SameList, Talker, gained_list, listens_list, sends_list, talker_is}
+use Rattle.race_core.proofs.HeardSteps.{takes_line}
 
 -- a list isn't one word longer than itself
 longer : {X : Type 0} (x : X) (xs : List X) → xs ≡ x ∷ xs → ⊥

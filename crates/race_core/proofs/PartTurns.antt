@@ -19,7 +19,6 @@ use Rattle.node_model.specs.Sessions.{line_in}
 use Rattle.node_model.specs.Ends.{end_after}
 use Rattle.node_model.specs.Jobs
 use Rattle.node_model.specs.Jobs.{AsksTime, Drops, Fresh, Gets, GetsWord, Orders, Part, Phase, Puts, PutsAnswer, PutsOffer, Rows, Work, claims, closed_part, fault_of, fault_phase, first_look, hears_frame, job_end, learns, listens, quiet, says, says_some, sends, side_of, talks, talks_on, target_of, took, took_line, unreleased, word_taken, work_kind}
-use Rattle.run_model.specs.States.{rows_at, works}
 use Rattle.race_core.proofs.Cases.{if_found}
 
 -- the answers by which the peer has the content

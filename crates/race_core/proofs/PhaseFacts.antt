@@ -25,7 +25,6 @@ use Rattle.node_model.specs.Sessions.{line_in}
 use Rattle.node_model.specs.Ends.{end_after}
 use Rattle.node_model.specs.Jobs
 use Rattle.node_model.specs.Jobs.{AsksLock, AsksLook, AsksTime, Denied, Drops, Ends, Fresh, GetsBytes, GetsData, GetsWord, Gets, Greets, Late, Next, Opens, Orders, Part, Phase, Puts, PutsAnswer, PutsBytes, PutsOffer, PutsWord, Removed, Rows, Work, claims, closed_part, fault_of, fault_phase, first_look, gained, hears_frame, job_end, learns, listens, quiet, says, says_some, sends, talks, talks_on, to_phase, took, took_line, transferred, unreleased, word_taken, work_kind}
-use Rattle.run_model.specs.States.{rows_at}
 use Rattle.race_core.proofs.Cases.{if_found}
 use Rattle.race_core.proofs.TalkFacts.{Fits}
 

@@ -1,8 +1,6 @@
 -- Over a repository's own part of a run within bounds: the words of its jobs are read as they are meant, and so what the phase of each
 -- running job says of requests and answers is so (J4).
 use Rattle.std.proofs.Common.{◌≡◌, ℕ, ◌<◌, ◌^◌, true, List, [], ◌∷◌, Option, Some, None, ◌⊎◌, inl, inr, refl, ap, arith}
-use Rattle.std.specs.Prelude.{nat_lt}
-use Rattle.std.proofs.lemmas.Bool.Decides.{nat_tests}
 use Rattle.annex_base.specs.Lists.{Member}
 use Rattle.annex_base.specs.declared.kinds.Word.{Word}
 use Rattle.drop_proof.specs.declared.rule.Side.TheVariants.{Local, Remote}

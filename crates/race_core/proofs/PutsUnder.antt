@@ -1,7 +1,7 @@
 -- While a copy is under way, no drop of it has begun, as the entries tell.
-use Rattle.std.proofs.Common.{◌≡◌, ◌≢◌, ℕ, ◌<◌, Bool, true, false, List, [], ◌∷◌, Option, Some, None, ◌⊎◌, inl, inr, refl, sym, ap, ◌∙◌, subst}
-use Rattle.std.specs.Prelude.{if◌then◌else◌, ◌==◌, ◌&&◌, ◌||◌, not}
-use Rattle.std.specs.List.{list_all, list_any}
+use Rattle.std.proofs.Common.{◌≡◌, ◌≢◌, ℕ, Bool, true, false, List, [], ◌∷◌, Option, Some, None, inl, inr, refl, sym, ap, ◌∙◌, subst}
+use Rattle.std.specs.Prelude.{if◌then◌else◌, ◌&&◌, not}
+use Rattle.std.specs.List.{list_all}
 use Rattle.annex_base.specs.Lists.{Member}
 use Rattle.annex_base.specs.declared.kinds.Call.{Call}
 use Rattle.annex_base.specs.declared.kinds.Call.TheVariants as calls
@@ -14,12 +14,11 @@ use Rattle.run_data.specs.declared.job.Outcome.TheVariants.{TransferRefused}
 use Rattle.run_data.specs.declared.job.TransferRefusal.TheVariants as failures
 use Rattle.node_model.specs.Rows.{is_lost_ordered}
 use Rattle.run_model.specs.Past.{is_of}
-use Rattle.run_model.specs.Logs.{has_stepped, is_step}
+use Rattle.run_model.specs.Logs.{has_stepped}
 use Rattle.p2p_wire.specs.declared.message.Message.TheVariants.{Put}
 use Rattle.p2p_wire.specs.Messages.{message_of, text_of}
 use Rattle.node_model.specs.SetUp.{SetUp}
-use Rattle.node_model.specs.Jobs
-use Rattle.node_model.specs.Jobs.{Drops, Ends, Fresh, Next, Part, Phase, Puts, Work, partner, says_some, work_kind}
+use Rattle.node_model.specs.Jobs.{Drops, Ends, Fresh, Next, Phase, Puts, Work, partner, says_some, work_kind}
 use Rattle.run_model.specs.States.{rows_at, works}
 use Rattle.node_model.specs.Calls.{to_release}
 use Rattle.node_model.specs.Look.{Made}
@@ -31,7 +30,7 @@ use Rattle.node_model.specs.Turns.{by_partner, goes, goes_on, has_room, needs}
 use Rattle.run_model.specs.Run.{OwnPast, OwnRun}
 use Rattle.race_core.proofs.Cases.{if_found}
 use Rattle.race_core.proofs.Spoken.{put_read}
-use Rattle.race_core.proofs.JobSteps.{Begins, Origin, Stays, Stepped, Steps, invariant, turn_at}
+use Rattle.race_core.proofs.JobSteps.{Origin, Steps, invariant, turn_at}
 use Rattle.race_core.proofs.PhaseFacts.{GoodTo, is_fresh}
 use Rattle.race_core.proofs.TalkFacts.{Fits}
 use Rattle.race_core.proofs.WorkFits.{step_kind, step_number, step_runs, steps_good, works_fit}

@@ -1,7 +1,6 @@
 -- The causes of refusals that a repository's own entries show: of its row, of a call of its store that failed, and of what a peer answered.
-use Rattle.std.proofs.Common.{◌≡◌, ◌≢◌, ℕ, ◌+◌, ◌<◌, ◌≤◌, Bool, true, false, List, [], ◌∷◌, Option, Some, None, ◌⊎◌, inl, inr, refl, sym, ap, ◌∙◌, subst, arith}
-use Rattle.std.proofs.lemmas.Bool.Decides.{nat_tests}
-use Rattle.std.specs.Prelude.{◌==◌, filter, find, nat_lt}
+use Rattle.std.proofs.Common.{◌≡◌, ◌≢◌, ℕ, true, false, List, [], ◌∷◌, Option, Some, None, ◌⊎◌, inl, inr, refl, sym, ap, ◌∙◌, subst}
+use Rattle.std.specs.Prelude.{◌==◌, filter, find}
 use Rattle.annex_base.specs.Lists.{Member}
 use Rattle.annex_base.specs.declared.kinds.Word.{Word}
 use Rattle.drop_proof.specs.declared.rule.Side.{Side}
@@ -10,7 +9,6 @@ use Rattle.run_data.specs.declared.entry.Entry.{Entry}
 use Rattle.run_data.specs.declared.entry.EntryKind.{EntryKind}
 use Rattle.run_data.specs.declared.entry.EntryKind.TheVariants.{End as ends_job}
 use Rattle.run_data.specs.declared.entry.FrameView.{FrameView}
-use Rattle.run_data.specs.declared.job.Job.{Job}
 use Rattle.run_data.specs.declared.job.JobKind.{JobKind as KindOfJob}
 use Rattle.run_data.specs.declared.job.JobKind.TheVariants as kinds
 use Rattle.run_data.specs.declared.job.Outcome.{Outcome}
@@ -22,39 +20,32 @@ use Rattle.run_data.specs.declared.job.TransferRefusal.{TransferRefusal}
 use Rattle.run_data.specs.declared.job.TransferRefusal.TheVariants as failures
 use Rattle.run_data.specs.declared.row.Hold.{Hold}
 use Rattle.node_model.specs.Slots.{Running}
-use Rattle.run_model.specs.Past.{begun_job, clock, holds, is_of}
+use Rattle.run_model.specs.Past.{clock, holds}
 use Rattle.node_model.specs.Rows.{blocks}
-use Rattle.p2p_wire.specs.declared.message.Message.{Message}
-use Rattle.p2p_wire.specs.declared.message.Message.TheVariants.{Failure, Put, Valid}
-use Rattle.run_model.specs.Said.{Says}
 use Rattle.run_model.specs.Causes
 use Rattle.run_model.specs.Causes.{Answers, AtFirst, FailedCall, FoundAbsent, FoundBarred, FoundHeld, FoundNotHere, HadFault, JobOf, WasBusy, puts}
-use Rattle.run_model.specs.Logs
 use Rattle.run_model.specs.Logs.{is_step}
 use Rattle.node_model.specs.SetUp.{SetUp, slots}
 use Rattle.run_model.specs.States.{state_of, works}
 use Rattle.node_model.specs.AnyTime.{IsPeer}
-use Rattle.node_model.specs.Jobs
-use Rattle.node_model.specs.Jobs.{Denied, Drops, Ends, Fresh, Late, Phase, Puts, Removed, Work, running, side_of}
+use Rattle.node_model.specs.Jobs.{Denied, Drops, Ends, Fresh, Late, Phase, Removed, Work, running, side_of}
 use Rattle.node_model.specs.Look.{Look, Made}
 use Rattle.node_model.specs.Knows.{obeyed, proof_by}
 use Rattle.node_model.specs.JobStep.{Turn}
 use Rattle.node_model.specs.DropStep
 use Rattle.node_model.specs.DropStep.{removed, target, until}
-use Rattle.node_model.specs.Found.{EndsJob, FirstLocal, JobKind, Judged, Settled}
+use Rattle.node_model.specs.Found.{Judged, Settled}
 use Rattle.node_model.specs.Turns.{job_step, outcome_of, slot_step}
 use Rattle.node_model.specs.OwedStep.{owed_step}
 use Rattle.node_model.specs.SessionStep.{here, session_step}
-use Rattle.run_model.specs.Run.{ByStep, IsBounded, IsStep, OwnPart, OwnPast}
+use Rattle.run_model.specs.Run.{IsStep, OwnPart, OwnPast}
 use Rattle.race_core.proofs.JobSteps.{OfNoJob, Stepped, come_no_job, owed_no_job, session_no_job, stepped_runs, turn_at}
 use Rattle.race_core.proofs.Cases.{first_was, some_was}
 use Rattle.race_core.proofs.SessionFacts.{session_found}
 use Rattle.race_core.proofs.Aims.{aims}
-use Rattle.race_core.proofs.Decisions.{kind_of, runs_begun, stepped_of}
-use Rattle.race_core.proofs.MovesBegun.{moves_begun}
-use Rattle.race_core.proofs.OpenEnds.{shut}
+use Rattle.race_core.proofs.Decisions.{kind_of, runs_begun}
 use Rattle.race_core.proofs.FreshSteps.{MovesLate, drop_unread, of_kind, puts_unstepped}
-use Rattle.race_core.proofs.Refusals.{DropStands, Stands, TransferStands, side_in, side_is}
+use Rattle.race_core.proofs.Refusals.{DropStands, Stands, TransferStands, side_is}
 use Rattle.race_core.proofs.Standing.{stands}
 use Rattle.race_core.proofs.AtTargets.{at_targets}
 use Rattle.race_core.proofs.Plain.{eqb_refl}

@@ -1,16 +1,13 @@
 -- Where a job stands refused, the entries tell why: by an invariant of the running jobs.
-use Rattle.std.proofs.Common.{◌≡◌, ◌≢◌, ℕ, ◌<◌, Bool, true, false, List, [], ◌∷◌, Option, Some, None, ◌⊎◌, inl, inr, refl, sym, ap, ◌∙◌, subst, arith}
+use Rattle.std.proofs.Common.{◌≡◌, ℕ, true, false, List, [], ◌∷◌, Option, Some, None, ◌⊎◌, inl, inr, refl, sym, ap, ◌∙◌, subst, arith}
 use Rattle.std.proofs.lemmas.Bool.Decides.{nat_tests}
-use Rattle.std.specs.Prelude.{if◌then◌else◌, ◌==◌, ◌&&◌, nat_lt, option_map, codes}
-use Rattle.annex_base.specs.Lists.{Member}
-use Rattle.annex_base.specs.declared.kinds.Call.TheVariants.{Unhold, PutFile}
+use Rattle.std.specs.Prelude.{◌==◌, ◌&&◌, nat_lt, option_map, codes}
+use Rattle.annex_base.specs.declared.kinds.Call.TheVariants.{Unhold}
 use Rattle.drop_proof.specs.declared.rule.Side.{Side}
 use Rattle.drop_proof.specs.declared.rule.Side.TheVariants.{Local, Remote}
-use Rattle.run_data.specs.declared.entry.By.{By}
 use Rattle.run_data.specs.declared.entry.By.TheVariants.{Job as by_job}
 use Rattle.run_data.specs.declared.entry.Entry.{Entry}
-use Rattle.run_data.specs.declared.entry.EntryKind.{EntryKind}
-use Rattle.run_data.specs.declared.entry.EntryKind.TheVariants.{Fault, Talk, Gain, Share, Bar, Gone, Order, End as ends_job}
+use Rattle.run_data.specs.declared.entry.EntryKind.TheVariants.{Fault}
 use Rattle.run_data.specs.declared.entry.FrameView.{FrameView}
 use Rattle.run_data.specs.declared.job.JobKind.{JobKind as KindOfJob}
 use Rattle.run_data.specs.declared.job.JobKind.TheVariants as kinds
@@ -21,40 +18,27 @@ use Rattle.run_data.specs.declared.job.DropRefusal.TheVariants as refusals
 use Rattle.run_data.specs.declared.job.TransferRefusal.{TransferRefusal}
 use Rattle.run_data.specs.declared.job.TransferRefusal.TheVariants as failures
 use Rattle.run_model.specs.Past.{Occurs, is_of}
-use Rattle.node_model.specs.Slots.{Running, job_of}
-use Rattle.node_model.specs.Rows.{option_is}
+use Rattle.node_model.specs.Slots.{Running}
 use Rattle.p2p_wire.specs.declared.message.Message.{Message}
 use Rattle.p2p_wire.specs.declared.message.Message.TheVariants.{Error, Failure, Put, Valid, Version}
 use Rattle.p2p_wire.specs.Messages.{order_of}
-use Rattle.run_model.specs.Said.{Said, Says, is_answer, message_in}
+use Rattle.run_model.specs.Said.{Said, Says, is_answer}
 use Rattle.run_model.specs.Frames.{Flying, is_job, last_request, said_of, up_of, way_of}
-use Rattle.run_model.specs.Logs.{before_step, in_drop, is_step}
-use Rattle.run_model.specs.Drops.{is_first_step, option_is_none}
-use Rattle.run_model.specs.Causes
+use Rattle.run_model.specs.Drops.{is_first_step}
 use Rattle.run_model.specs.Causes.{Answers, FailedCall, Hears, side_by, target_by}
 use Rattle.node_model.specs.SetUp.{SetUp}
 use Rattle.node_model.specs.Sessions.{line_in}
-use Rattle.node_model.specs.Ends.{takes_at}
 use Rattle.node_model.specs.Jobs
 use Rattle.node_model.specs.Jobs.{AsksTime, Denied, Drops, Ends, Fresh, Gets, Greets, Late, Next, Orders, Phase, Part, Puts, PutsAnswer, PutsOffer, Work, job_end, partner, running, work_kind}
-use Rattle.run_model.specs.States.{rows_at, works}
-use Rattle.run_model.specs.Run.{OwnPast, OwnRun}
-use Rattle.race_core.proofs.JobSteps.{Begins, Origin, Stays, Stepped, Steps, invariant, stepped_job, turn_at}
-use Rattle.race_core.proofs.JobKept.{kind_kept}
-use Rattle.race_core.proofs.WorkFits.{step_kind, step_runs, works_fit}
-use Rattle.race_core.proofs.TalkFacts.{Fits}
+use Rattle.run_model.specs.Run.{OwnPast}
+use Rattle.race_core.proofs.JobSteps.{Stepped, stepped_job}
 use Rattle.race_core.proofs.ClientCounts.{LastIs, Request, and_left, request}
 use Rattle.race_core.proofs.ClientWays.{asked_by}
 use Rattle.race_core.proofs.ClientAwaits.{taken_last}
-use Rattle.race_core.proofs.PhasesFit.{phases_fit}
-use Rattle.race_core.proofs.ClientKeeps.{all_keep}
-use Rattle.race_core.proofs.OpenEnds.{shut}
 use Rattle.race_core.proofs.Speaks.{hears}
-use Rattle.race_core.proofs.EndReasons.{HearsOnly}
 use Rattle.race_core.proofs.SaidDown.{said_is}
 use Rattle.race_core.proofs.Plain.{eqb_true}
-use Rattle.race_core.proofs.Makers.{TakenBy, taken_of}
-use Rattle.race_core.proofs.BySteps.{earlier}
+use Rattle.race_core.proofs.Makers.{taken_of}
 
 -- ---- the drop's side and target
 

@@ -1,4 +1,5 @@
 -- A step reads of the logs what its job's drop has read, and nothing for another part of a job.
+use Rattle.node_model.specs.After.{Agrees}
 use Rattle.std.proofs.Common.{◌≡◌, ◌≢◌, ℕ, Bool, true, false, Option, Some, None, refl, sym, ap, ◌∙◌}
 use Rattle.std.specs.Prelude.{if◌then◌else◌, find, ◌==◌}
 use Rattle.std.specs.List.{list_all}
@@ -124,11 +125,6 @@ module _ (s : SetUp) (st : State) (k : Look) (x y : Settings) where
   other_by w part apart fits (Some peer) = other_with w part apart fits peer (st.ends (job_end w peer)).opened
 
 -- ---- states that agree
-
--- one state has what the other has, but for what jobs have read that aren't at a drop
-pub record Agrees (st other : State) : Type 0 where
-  pub same : st ≡ record other { read = st.read }
-  pub reads : (w : Work) → Member w st.works → w.part ≡ Drops → st.read w.number ≡ other.read w.number
 
 -- each running job stands where its part can
 abbrev pub AllFit : State → Type 0

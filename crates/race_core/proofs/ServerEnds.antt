@@ -14,7 +14,6 @@ use Rattle.run_data.specs.declared.entry.FrameView.{FrameView}
 use Rattle.run_data.specs.declared.entry.FrameText.{FrameText}
 use Rattle.run_data.specs.declared.entry.FrameText.TheVariants.{Closing, Line}
 use Rattle.node_model.specs.Ends.{same_bool, End, EndName, end_sends, end_takes, frames, may_take, sends_at, sent_at, server_end, taken_at, takes_at}
-use Rattle.run_model.specs.Logs
 use Rattle.node_model.specs.Rows.{is_lost_ordered}
 use Rattle.node_model.specs.SetUp.{SetUp, served}
 use Rattle.run_model.specs.States.{end_at, session, state_of}

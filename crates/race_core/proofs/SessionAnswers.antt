@@ -2,7 +2,7 @@
 use Rattle.std.proofs.Common.{◌≡◌, ℕ, ◌+◌, ◌*◌, ◌/◌, ◌≤◌, Bool, true, false, List, [], ◌∷◌, Option, Some, None, ◌⊎◌, inl, inr, refl, sym, ap, ◌∙◌, subst, arith}
 use Rattle.std.proofs.lemmas.Bool.Decides.{nat_tests}
 use Rattle.std.proofs.lemmas.Bool.{true≢false}
-use Rattle.std.specs.Prelude.{if◌then◌else◌, ◌&&◌, bytes_eq, codes, min, nat_le, nat_lt}
+use Rattle.std.specs.Prelude.{if◌then◌else◌, bytes_eq, codes, min, nat_le, nat_lt}
 use Rattle.annex_base.specs.Lists.{Member}
 use Rattle.annex_base.specs.declared.kinds.Call.{Call}
 use Rattle.annex_base.specs.declared.kinds.Call.TheVariants as calls
@@ -11,22 +11,21 @@ use Rattle.run_data.specs.declared.entry.By.{By}
 use Rattle.run_data.specs.declared.entry.EntryKind.{EntryKind}
 use Rattle.run_data.specs.declared.entry.EntryKind.TheVariants.{Check, Fault, Gain, Release, Share, Talk}
 use Rattle.run_data.specs.declared.entry.FrameText.{FrameText}
-use Rattle.run_data.specs.declared.entry.FrameText.TheVariants.{Closing, Bytes, Line}
+use Rattle.run_data.specs.declared.entry.FrameText.TheVariants.{Closing, Line}
 use Rattle.run_data.specs.declared.job.Denial.{Denial}
 use Rattle.run_data.specs.declared.job.Denial.TheVariants as denials
 use Rattle.run_model.specs.Causes.{denied_by, rejects}
 use Rattle.p2p_wire.specs.declared.message.Message.{Message}
-use Rattle.p2p_wire.specs.declared.message.Message.TheVariants.{AuthSuccess, Version, CheckPresent, LockContent, UnlockContent, Remove, RemoveBefore, GetTimestamp, Timestamp, Get, Put, PutFrom, AlreadyHave, Data, Valid, Invalid, Success, Failure, Error}
+use Rattle.p2p_wire.specs.declared.message.Message.TheVariants.{Version, CheckPresent, LockContent, UnlockContent, Remove, RemoveBefore, GetTimestamp, Timestamp, Get, Put, PutFrom, AlreadyHave, Data, Valid, Invalid, Success, Failure, Error}
 use Rattle.p2p_wire.specs.Messages.{message_of, text_of}
 use Rattle.run_model.specs.Said.{Says, completes, is_answer, is_request, message_in, wants_answer}
-use Rattle.node_model.specs.SetUp.{gives_locks, version_of}
-use Rattle.node_model.specs.Sessions.{Doing, Waits, Guards, Gives, Gave, Wants, Takes, Took, Session}
+use Rattle.node_model.specs.Sessions.{Doing, Waits, Guards, Gave, Wants, Took, Session}
 use Rattle.node_model.specs.Calls.{to_commit, to_lock, to_offer, to_remove}
 use Rattle.node_model.specs.Look.{failing}
-use Rattle.node_model.specs.SessionStep.{Here, Reply, bar_on, by_of, bytes_left, check_answer, content_of, is_filled, is_held, is_here, lock_answer, now_of, on_frame, on_message, on_put, on_remove, on_remove_before, on_request, on_text, put_answer, refuses, remove_answer, reply, silent, tries, unexpected, valid_answer}
+use Rattle.node_model.specs.SessionStep.{Here, Reply, bar_on, by_of, bytes_left, check_answer, content_of, is_held, is_here, lock_answer, now_of, on_frame, on_message, on_put, on_remove, on_remove_before, on_request, on_text, put_answer, refuses, remove_answer, reply, silent, tries, unexpected, valid_answer}
 use Rattle.race_core.proofs.Cases.{if_found, unless_found}
-use Rattle.race_core.proofs.Counting.{Closes, Counts, GetCounts, Pieces, calm, get_counts, message_counts}
-use Rattle.race_core.proofs.SaidDown.{Alike, alike, alike_completes, odd_answer, said_bytes, said_closing, said_line-is, tells}
+use Rattle.race_core.proofs.Counting.{Closes, Counts, GetCounts, calm, get_counts, message_counts}
+use Rattle.race_core.proofs.SaidDown.{Alike, alike, alike_completes, odd_answer, said_closing, said_line-is, tells}
 use Rattle.race_core.proofs.SessionSays.{read_of}
 
 -- ---- the table

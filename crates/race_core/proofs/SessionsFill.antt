@@ -1,21 +1,15 @@
 -- A session that takes the bytes of a key has taken PUT of it, told to send, and took no request on that connection since.
-use Rattle.std.proofs.Common.{◌≡◌, ℕ, ◌+◌, Bool, true, false, List, Option, Some, None, sym, ap, ◌∙◌, subst}
-use Rattle.std.specs.Prelude.{◌&&◌}
-use Rattle.std.specs.List.{list_any}
+use Rattle.std.proofs.Common.{◌≡◌, ◌+◌, List, sym, subst}
 use Rattle.run_data.specs.declared.entry.Entry.{Entry}
-use Rattle.run_data.specs.declared.entry.FrameView.{FrameView}
-use Rattle.run_model.specs.Past.{Occurs, is_of}
-use Rattle.p2p_wire.specs.declared.message.Message.TheVariants.{Put}
-use Rattle.run_model.specs.Said.{Says, is_request, message_in}
-use Rattle.run_model.specs.Frames.{Way, says, taken_if, way_of}
+use Rattle.run_model.specs.Said.{is_request}
+use Rattle.run_model.specs.Frames.{Way, taken_if}
 use Rattle.node_model.specs.SetUp.{SetUp}
-use Rattle.run_model.specs.States.{end_at, session, state_of}
+use Rattle.run_model.specs.States.{end_at, session}
 use Rattle.node_model.specs.Ends.{server_end}
 use Rattle.node_model.specs.Sessions.{is_filling}
-use Rattle.node_model.specs.SessionStep.{session_fills}
 use Rattle.run_model.specs.Run.{OwnPast}
 use Rattle.race_core.proofs.Plain.{and_true}
-use Rattle.race_core.proofs.Filling.{Filling, puts_stand}
+use Rattle.race_core.proofs.Filling.{puts_stand}
 use Rattle.race_core.proofs.AnswerCauses.{SessionsFill}
 use Rattle.race_core.proofs.SessionOwn.{taken_up, way_at}
 

@@ -35,11 +35,9 @@ use Rattle.race_core.proofs.Cases.{if_found}
 use Rattle.race_core.proofs.JobKept.{kind_kept}
 use Rattle.race_core.proofs.JobSteps.{Origin, Steps, invariant, turn_at}
 use Rattle.race_core.proofs.WorkFits.{step_runs, works_fit, steps_good}
-use Rattle.std.specs.List.{range_with_len}
 use Rattle.run_data.specs.declared.job.SourceCause.{SourceCause}
 use Rattle.run_data.specs.declared.job.SourceFailure.{SourceFailure}
 use Rattle.node_model.specs.Slots.{Running}
-use Rattle.node_model.specs.Evidence.{but}
 use Rattle.node_model.specs.TransferStep.{sources}
 use Rattle.race_core.proofs.TalkFacts.{Fits}
 use Rattle.race_core.proofs.GetSpeaks.{Place, gets_tell}

@@ -1,14 +1,12 @@
 -- **Where a job stands refused, the entries tell why**: by induction over its repository's own part of a run.
-use Rattle.std.proofs.Common.{◌≡◌, ◌≢◌, ℕ, ◌<◌, Bool, true, false, List, [], ◌∷◌, Option, Some, None, ◌⊎◌, inl, inr, refl, sym, ap, ◌∙◌, subst, arith}
+use Rattle.std.proofs.Common.{◌≡◌, ◌≢◌, ℕ, Bool, true, false, List, [], ◌∷◌, Option, Some, None, ◌⊎◌, inl, inr, refl, sym, ap, ◌∙◌, subst, arith}
 use Rattle.std.proofs.lemmas.Bool.Decides.{nat_tests}
-use Rattle.std.specs.Prelude.{if◌then◌else◌, ◌==◌, ◌&&◌, not, nat_lt, bytes_eq, codes}
+use Rattle.std.specs.Prelude.{◌&&◌, nat_lt, codes}
 use Rattle.annex_base.specs.Lists.{Member}
 use Rattle.annex_base.specs.declared.kinds.Call.TheVariants.{Unhold}
-use Rattle.annex_base.specs.declared.kinds.Word.{Word}
 use Rattle.drop_proof.specs.declared.rule.Side.{Side}
 use Rattle.drop_proof.specs.declared.rule.Side.TheVariants.{Remote}
 use Rattle.run_data.specs.declared.entry.By.{By}
-use Rattle.run_data.specs.declared.entry.By.TheVariants.{Job as by_job}
 use Rattle.run_data.specs.declared.entry.Entry.{Entry}
 use Rattle.run_data.specs.declared.entry.EntryKind.{EntryKind}
 use Rattle.run_data.specs.declared.entry.EntryKind.TheVariants.{Fault, Talk, Gain, Share, Bar, Gone, Order, End as ends_job}
@@ -23,39 +21,36 @@ use Rattle.node_model.specs.Slots.{Running}
 use Rattle.run_model.specs.Past.{is_of}
 use Rattle.node_model.specs.Rows.{option_is}
 use Rattle.p2p_wire.specs.declared.message.Message.{Message}
-use Rattle.p2p_wire.specs.declared.message.Message.TheVariants.{Error, Failure, GetTimestamp, Put, Valid, Version}
+use Rattle.p2p_wire.specs.declared.message.Message.TheVariants.{Error, Failure, Put, Valid, Version}
 use Rattle.p2p_wire.specs.Messages.{order_of}
-use Rattle.run_model.specs.Said.{Said, Says}
+use Rattle.run_model.specs.Said.{Says}
 use Rattle.run_model.specs.Logs.{before_step, in_drop, is_step}
-use Rattle.run_model.specs.Drops.{is_first_step, option_is_none}
+use Rattle.run_model.specs.Drops.{option_is_none}
 use Rattle.run_model.specs.Causes.{Answers, FailedCall, Hears}
 use Rattle.race_core.proofs.LogLemmas.{bytes_eq_tells}
 use Rattle.node_model.specs.SetUp.{SetUp}
 use Rattle.run_model.specs.States.{state_of, rows_at, works}
-use Rattle.node_model.specs.Sessions.{line_in}
 use Rattle.node_model.specs.Jobs
 use Rattle.node_model.specs.Jobs.{AsksTime, Denied, Drops, Ends, Fresh, Greets, Late, Next, Orders, Part, Phase, Puts, PutsAnswer, PutsOffer, Work, partner, running, work_kind}
 use Rattle.node_model.specs.Look.{Made}
 use Rattle.node_model.specs.JobStep.{Turn, end_with}
 use Rattle.node_model.specs.Knows.{knows_enough, next_of}
 use Rattle.node_model.specs.Found.{JobKind}
-use Rattle.node_model.specs.Turns.{by_partner, takes_frame, with_partner}
-use Rattle.run_model.specs.Run.{OwnPart, OwnPast, OwnRun}
-use Rattle.race_core.proofs.JobSteps.{Begins, Origin, Stays, Stepped, Steps, invariant, turn_at}
+use Rattle.node_model.specs.Turns.{by_partner, takes_frame}
+use Rattle.run_model.specs.Run.{OwnPast, OwnRun}
+use Rattle.race_core.proofs.JobSteps.{Origin, Steps, invariant, turn_at}
 use Rattle.race_core.proofs.JobKept.{kind_kept}
 use Rattle.race_core.proofs.PhaseFacts.{is_fresh, only_offer, only_orders}
 use Rattle.race_core.proofs.WorkFits.{step_kind, step_runs, works_fit}
 use Rattle.race_core.proofs.TalkFacts.{Fits}
 use Rattle.race_core.proofs.Aims.{aims}
-use Rattle.race_core.proofs.MovesBegun.{moves_begun}
 use Rattle.race_core.proofs.PhasesFit.{target_peer}
 use Rattle.race_core.proofs.ClientCounts.{LastIs, Request, request}
-use Rattle.race_core.proofs.OpenEnds.{shut}
 use Rattle.race_core.proofs.HeardSteps.{took_as}
-use Rattle.race_core.proofs.EndReasons.{CallFailed, DropReason, HearsOnly, IsTalking, OutcomeReason, Reason, Reasoned, TransferReason, kind_reason}
+use Rattle.race_core.proofs.EndReasons.{CallFailed, DropReason, HearsOnly, IsTalking, OutcomeReason, Reason, TransferReason, kind_reason}
 use Rattle.race_core.proofs.EndSteps.{IsTalkBy, Old, Silent, busy_text, greets_old, next_old}
 use Rattle.race_core.proofs.TargetAsks.{order_remote, time_remote}
-use Rattle.race_core.proofs.Carried.{CarriesOn, Learns, kind_carries}
+use Rattle.race_core.proofs.Carried.{Learns, kind_carries}
 use Rattle.race_core.proofs.Refusals.{DropStands, OutcomeStands, Stands, TransferStands, answers_now, hears_now, hears_grows, side_in, side_is, stands_grows, target_in, target_is}
 use Rattle.race_core.proofs.AtTargets.{at_targets}
 use Rattle.race_core.proofs.BySteps.{earlier}

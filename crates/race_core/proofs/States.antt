@@ -14,7 +14,7 @@ use Rattle.race_core.proofs.LogLemmas.{kept_reads_as_ever}
 use Rattle.node_model.specs.SetUp.{SetUp}
 use Rattle.node_model.specs.State.{State}
 use Rattle.run_model.specs.States.{state_of, works}
-use Rattle.node_model.specs.After.{has_read, read_after, state_after, states}
+use Rattle.node_model.specs.After.{has_read, read_after, state_after, states, Agrees}
 use Rattle.node_model.specs.Files.{lines_after}
 use Rattle.node_model.specs.Jobs.{Drops, Fresh, Gets, Part, Phase, Puts, Work}
 use Rattle.node_model.specs.Look.{Look}
@@ -34,7 +34,7 @@ use Rattle.race_core.proofs.AtTargets.{at_targets}
 use Rattle.race_core.proofs.StateAfter.{after_is, funext, kept_after, other_is}
 use Rattle.race_core.proofs.NotDropping.{comes_unread, future_reads, still_unread}
 use Rattle.race_core.proofs.DropLeaves.{fresh_unread}
-use Rattle.race_core.proofs.SameReads.{Agrees, step_same}
+use Rattle.race_core.proofs.SameReads.{step_same}
 
 -- ---- the work with a number
 

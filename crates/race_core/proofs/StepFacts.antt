@@ -10,7 +10,6 @@ use Rattle.run_data.specs.declared.entry.By.TheVariants.{Script, Job as by_job, 
 use Rattle.run_data.specs.declared.entry.LogFile.{LogFile}
 use Rattle.run_data.specs.declared.entry.LogFile.TheVariants.{Location}
 use Rattle.run_data.specs.declared.job.Outcome.{Outcome}
-use Rattle.run_model.specs.Logs
 use Rattle.node_model.specs.SetUp.{SetUp}
 use Rattle.node_model.specs.Ends.{server_end}
 use Rattle.node_model.specs.Owed.{Owed, due}

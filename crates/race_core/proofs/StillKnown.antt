@@ -1,30 +1,25 @@
 -- A drop that is to end by an old protocol, or for its time, knows enough still, and its first end is what it was.
-use Rattle.std.proofs.Common.{◌≡◌, ◌≢◌, ℕ, ◌+◌, ◌<◌, Bool, true, false, List, [], ◌∷◌, Option, Some, None, ◌⊎◌, inl, inr, refl, sym, ap, ◌∙◌, subst, arith}
-use Rattle.std.proofs.lemmas.Bool.Decides.{nat_tests}
+use Rattle.std.proofs.Common.{◌≡◌, ℕ, true, false, List, [], ◌∷◌, Some, ◌⊎◌, inl, inr, refl, sym, ap, ◌∙◌, subst}
 use Rattle.std.specs.Prelude.{◌==◌, length, nat_lt}
 use Rattle.annex_base.specs.Lists.{Member}
 use Rattle.annex_base.specs.Settings.{Settings}
 use Rattle.annex_base.specs.declared.kinds.Call.TheVariants.{Unhold}
 use Rattle.drop_proof.specs.declared.evidence.Evidence.{Evidence}
 use Rattle.drop_proof.specs.declared.rule.Need.{Need}
-use Rattle.drop_proof.specs.declared.rule.Side.{Side}
 use Rattle.drop_proof.specs.declared.rule.Side.TheVariants.{Remote}
-use Rattle.drop_proof.specs.Judging.{is_enough, least_end}
+use Rattle.drop_proof.specs.Judging.{least_end}
 use Rattle.run_data.specs.declared.entry.By.{By}
 use Rattle.run_data.specs.declared.entry.By.TheVariants.{Job as by_job}
 use Rattle.run_data.specs.declared.entry.Entry.{Entry}
-use Rattle.run_data.specs.declared.entry.EntryKind.{EntryKind}
 use Rattle.run_data.specs.declared.entry.EntryKind.TheVariants.{Fault}
 use Rattle.run_data.specs.declared.job.Job.{Job}
-use Rattle.run_data.specs.declared.job.Outcome.{Outcome}
 use Rattle.run_data.specs.declared.job.Outcome.TheVariants.{Refused}
-use Rattle.run_data.specs.declared.job.DropRefusal.{DropRefusal}
 use Rattle.run_data.specs.declared.job.DropRefusal.TheVariants as refusals
 use Rattle.node_model.specs.Clocks.{ClockSet, runs_on}
 use Rattle.run_model.specs.Past.{Occurs, clock, clock_set, is_of}
 use Rattle.node_model.specs.Slots.{Running}
 use Rattle.run_data.specs.Repos.{id_of}
-use Rattle.run_model.specs.Logs.{before_step, in_drop, read_at, settings_of}
+use Rattle.run_model.specs.Logs.{read_at, settings_of}
 use Rattle.node_model.specs.Evidence.{candidates, gather, reached, standing_by}
 use Rattle.node_model.specs.SetUp.{SetUp}
 use Rattle.node_model.specs.State.{State}
@@ -32,27 +27,22 @@ use Rattle.run_model.specs.States.{state_of, rows_at, works}
 use Rattle.node_model.specs.Jobs
 use Rattle.node_model.specs.Jobs.{AsksTime, Drops, Ends, Greets, Heard, Late, Next, Orders, Part, Phase, Work, partner, running, side_of, target_of, work_kind}
 use Rattle.node_model.specs.Knows.{is_unasked, known, knows_enough, next_of, offer_by, standing_of, reading}
-use Rattle.node_model.specs.JobStep.{Turn, end_with}
-use Rattle.node_model.specs.DropStep.{first_end, target}
+use Rattle.node_model.specs.JobStep.{Turn}
 use Rattle.node_model.specs.Found.{JobKind}
-use Rattle.node_model.specs.Look.{Made}
-use Rattle.node_model.specs.Turns.{by_partner}
 use Rattle.run_model.specs.Run.{OwnPast, OwnRun}
-use Rattle.race_core.proofs.JobSteps.{Begins, Origin, Stays, Steps, invariant, turn_at}
+use Rattle.race_core.proofs.JobSteps.{Origin, Steps, invariant, turn_at}
 use Rattle.race_core.proofs.JobKept.{kind_kept}
 use Rattle.race_core.proofs.ClockKept.{clock_kept, clock_other, stepped_stands}
-use Rattle.race_core.proofs.PhaseFacts.{GoodTo, is_fresh, only_time}
+use Rattle.race_core.proofs.PhaseFacts.{is_fresh, only_time}
 use Rattle.race_core.proofs.TalkFacts.{Fits}
 use Rattle.race_core.proofs.WorkFits.{step_kind, step_number, step_runs, steps_good, works_fit}
 use Rattle.race_core.proofs.Aims.{aims, other_target}
 use Rattle.race_core.proofs.Targets.{at_target, next_but}
-use Rattle.race_core.proofs.MovesBegun.{moves_begun}
 use Rattle.race_core.proofs.PhasesFit.{target_peer}
-use Rattle.race_core.proofs.OpenEnds.{shut}
-use Rattle.race_core.proofs.EndReasons.{DropReason, HearsOnly, IsTalking, OutcomeReason, Reason, kind_reason}
+use Rattle.race_core.proofs.EndReasons.{DropReason, Reason, kind_reason}
 use Rattle.race_core.proofs.EndSteps.{LateBy, Old, TooLate, time_late_by}
 use Rattle.race_core.proofs.Carried.{ListOrNext, kind_carries}
-use Rattle.race_core.proofs.Refusals.{Stands, side_in, side_is}
+use Rattle.race_core.proofs.Refusals.{Stands, side_is}
 use Rattle.race_core.proofs.Standing.{old_at, old_on, stands}
 use Rattle.race_core.proofs.AtTargets.{at_targets, enough_same}
 use Rattle.race_core.proofs.DropReads.{stays_read, step_read, told_of}

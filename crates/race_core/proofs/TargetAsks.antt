@@ -1,5 +1,5 @@
 -- Only a remote drop asks for a time, or orders.
-use Rattle.std.proofs.Common.{◌≡◌, ◌≢◌, ℕ, Bool, true, false, List, [], ◌∷◌, Option, Some, None, ◌⊎◌, inl, inr, refl, sym, ap, ◌∙◌, subst}
+use Rattle.std.proofs.Common.{◌≡◌, ◌≢◌, ℕ, List, [], ◌∷◌, Option, Some, None, inl, inr, refl, sym, ap, ◌∙◌, subst}
 use Rattle.annex_base.specs.Lists.{Member}
 use Rattle.annex_base.specs.declared.kinds.Word.{Word}
 use Rattle.drop_proof.specs.declared.rule.Side.{Side}
@@ -12,23 +12,21 @@ use Rattle.run_data.specs.declared.entry.FrameText.{FrameText}
 use Rattle.run_data.specs.declared.entry.FrameText.TheVariants.{Opening, Closing, Bytes, Line}
 use Rattle.run_data.specs.declared.job.Outcome.{Outcome}
 use Rattle.p2p_wire.specs.declared.message.Message.{Message}
-use Rattle.p2p_wire.specs.declared.message.Message.TheVariants.{CheckPresent, Data, Failure, Get, GetTimestamp, LockContent, Put, Remove, RemoveBefore, Success, Valid, Version}
+use Rattle.p2p_wire.specs.declared.message.Message.TheVariants.{CheckPresent, Data, Failure, Get, GetTimestamp, LockContent, Put, Success, Valid, Version}
 use Rattle.p2p_wire.specs.Messages.{order_of, message_of, text_of}
-use Rattle.run_model.specs.Said.{Says, message_in}
-use Rattle.node_model.specs.SetUp.{SetUp, others}
+use Rattle.node_model.specs.SetUp.{SetUp}
 use Rattle.node_model.specs.Sessions.{line_in}
 use Rattle.node_model.specs.Ends.{End, EndName, frames}
 use Rattle.node_model.specs.Jobs
 use Rattle.node_model.specs.Jobs.{AsksLock, Drops, Gets, Greets, Next, Opens, Part, Phase, Puts, Work, job_end, side_of, target_of}
-use Rattle.run_model.specs.States.{works}
 use Rattle.node_model.specs.Look.{Made}
-use Rattle.node_model.specs.JobStep.{Turn, end_with, me}
+use Rattle.node_model.specs.JobStep.{Turn, end_with}
 use Rattle.node_model.specs.DropStep.{target}
 use Rattle.node_model.specs.Found.{JobKind}
 use Rattle.run_model.specs.Run.{OwnPart, OwnRun}
 use Rattle.race_core.proofs.ReadAs.{IsJobs, SameHead}
-use Rattle.race_core.proofs.JobSteps.{Stepped, Steps, turn_at}
-use Rattle.race_core.proofs.TalkFacts.{DropAsks, Fits, GetAsks, PartAsks, PartSays, PutAsks, SaysOne, TalkKind}
+use Rattle.race_core.proofs.JobSteps.{Steps, turn_at}
+use Rattle.race_core.proofs.TalkFacts.{DropAsks, Fits, GetAsks, PartAsks, PartSays, PutAsks, TalkKind}
 use Rattle.race_core.proofs.WorkFits.{drop_is, drop_jobs, get_jobs, head_of, put_jobs, step_kind, step_sent, step_talk}
 use Rattle.race_core.proofs.JobLines.{job_said, orders_order, order_jobs}
 use Rattle.race_core.proofs.OpenEnds.{job_sends_to}

@@ -13,7 +13,7 @@ use Rattle.run_data.specs.declared.entry.EntryKind.TheVariants.{Gain, Share, Bar
 use Rattle.run_data.specs.declared.entry.Entry.{Entry}
 use Rattle.run_data.specs.declared.entry.EntryKind.{EntryKind}
 use Rattle.std.proofs.Common.{◌≡◌, ◌≢◌, ℕ, Bool, true, false, Option, Some, None, ◌⊎◌, inl, inr, refl, sym, ◌∙◌, subst, arith, ap, List, []}
-use Rattle.std.specs.Prelude.{◌==◌, find, filter, length, not, if◌then◌else◌}
+use Rattle.std.specs.Prelude.{◌==◌, find, filter, not, if◌then◌else◌}
 use Rattle.std.specs.List.{range_with_len}
 use Rattle.std.proofs.lemmas.Bool.Decides.{nat_tests}
 use Rattle.annex_base.specs.Lists.{Member}
@@ -31,8 +31,6 @@ use Rattle.node_model.specs.Evidence.{candidates}
 use Rattle.p2p_wire.specs.declared.message.Message.{Message}
 use Rattle.p2p_wire.specs.declared.message.Message.TheVariants.{Failure, GetTimestamp, Remove, RemoveBefore, Success, Version, CheckPresent, LockContent}
 use Rattle.p2p_wire.specs.Messages.{message_of, order_of, text_of}
-use Rattle.node_model.specs.SetUp.{SetUp}
-use Rattle.node_model.specs.State.{State}
 use Rattle.node_model.specs.Jobs
 use Rattle.node_model.specs.Jobs.{AsksLock, AsksLook, AsksTime, Denied, Drops, Ends, Fresh, Gets, GetsBytes, GetsData, GetsWord, Greets, Late, Next, Opens, Orders, Part, Phase, Puts, PutsAnswer, PutsBytes, PutsOffer, PutsWord, Removed, Rows, Work, claims, closed_part, fault_of, fault_phase, first_look, hears_frame, job_end, learns, listens, quiet, says, says_some, sends, side_of, talks, talks_on, target_of, to_phase, took, took_line, unreleased, work_kind}
 use Rattle.node_model.specs.Knows.{enough_by, next_by, Reading, asks_by}

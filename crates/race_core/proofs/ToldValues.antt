@@ -27,15 +27,13 @@ use Rattle.run_model.specs.Frames.{Flying, Sent, is_job, last_request, said_of, 
 use Rattle.run_model.specs.Logs.{before_step, in_drop, is_step}
 use Rattle.node_model.specs.Look.{first_of}
 use Rattle.run_model.specs.Drops.{cause_by_sender, cause_closed, cause_of_kind, cause_own, cause_said, cause_taken, cause_with, is_first_step, key_in, newer_cause, option_is_none, or_closed, or_fault, shuts, tells_cause, told_cause}
-use Rattle.node_model.specs.Evidence.{Asked, Fails, candidates}
-use Rattle.race_core.specs.Heard.{heard_cause}
+use Rattle.node_model.specs.Evidence.{Fails, candidates}
 use Rattle.node_model.specs.SetUp.{SetUp}
 use Rattle.node_model.specs.Sessions.{line_in}
-use Rattle.node_model.specs.Ends.{end_after}
-use Rattle.run_model.specs.States.{end_at, rows_at, works, state_of}
+use Rattle.run_model.specs.States.{end_at, rows_at, works}
 use Rattle.node_model.specs.Jobs
 use Rattle.node_model.specs.Jobs.{AsksLook, Drops, Fresh, Heard, Lacks, Orders, Part, Phase, Unseen, Work, heard_of, job_end, partner, running, side_of, target_of, work_kind}
-use Rattle.node_model.specs.Knows.{candidates_of, cause_heard, cause_of_word, heard_offer, standing_of}
+use Rattle.node_model.specs.Knows.{cause_heard, cause_of_word, heard_offer}
 use Rattle.run_model.specs.Words.{awaits_word, word_of, word_of_kind, word_told}
 use Rattle.node_model.specs.JobStep.{talk}
 use Rattle.run_model.specs.Run.{OwnPart, OwnPast, OwnRun, RunPast, RunStep, set_up}
@@ -61,7 +59,6 @@ use Rattle.race_core.proofs.HeardLists.{Changed, ClosedAt, FrameTold, OwnLacks, 
 use Rattle.race_core.proofs.HeardSteps.{moved_listens}
 use Rattle.race_core.proofs.ClientLeaves.{Taking}
 use Rattle.race_core.proofs.Decisions.{runs_begun, stepped_of}
-use Rattle.race_core.proofs.MovesBegun.{moves_begun}
 use Rattle.race_core.proofs.JobKept.{kind_kept}
 use Rattle.race_core.proofs.OwnTried.{other_apart}
 use Rattle.race_core.proofs.DropPartners.{partner_other}
@@ -74,7 +71,7 @@ use Rattle.race_core.proofs.Speaks
 use Rattle.race_core.proofs.HeardAgrees.{cause_if, refuses_look, takes_failure}
 use Rattle.race_core.proofs.HeardTells.{made_as, stepped_own, taken_peer}
 use Rattle.race_core.proofs.HeardCauses.{Told, shut_told, told_stays}
-use Rattle.race_core.proofs.HeardHolds.{Asking, Candidate, HoldsOf, gave_none, on_candidate, side_in, target_in}
+use Rattle.race_core.proofs.HeardHolds.{Candidate, HoldsOf, gave_none, on_candidate, target_in}
 use Rattle.race_core.proofs.HeardInduction.{heard_holds}
 use Rattle.race_core.proofs.Known.{cause_known}
 use Rattle.race_core.proofs.ConnectionOwn.{taken_from_step}

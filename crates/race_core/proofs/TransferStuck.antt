@@ -22,7 +22,6 @@ use Rattle.node_model.specs.Ends.{EndName, end_after, end_sends, end_took, frame
 use Rattle.node_model.specs.Sessions.{line_in}
 use Rattle.node_model.specs.Jobs
 use Rattle.node_model.specs.Jobs.{Drops, Fresh, Gets, Next, Part, Phase, Puts, PutsAnswer, PutsOffer, Rows, Work, claims, closed_part, first_look, hears_frame, is_move, job_end, learns, listens, partner, quiet, talks, talks_on, took, took_line, transferred, work_kind}
-use Rattle.run_model.specs.States.{rows_at, works}
 use Rattle.node_model.specs.Look.{Made}
 use Rattle.node_model.specs.JobStep.{Turn, end_with, is_there, me}
 use Rattle.node_model.specs.TransferStep.{next_source}

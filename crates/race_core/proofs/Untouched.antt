@@ -14,7 +14,7 @@ use Rattle.run_data.specs.declared.entry.FrameText.{FrameText}
 use Rattle.run_data.specs.declared.entry.FrameText.TheVariants.{Opening, Closing, Bytes, Line}
 use Rattle.run_data.specs.declared.job.Outcome.{Outcome}
 use Rattle.run_model.specs.Past.{Decision, begun, decided, decided_after, is_of}
-use Rattle.node_model.specs.Slots.{is_begin, job_by, job_of}
+use Rattle.node_model.specs.Slots.{is_begin, job_of}
 use Rattle.node_model.specs.Rows.{is_lost_ordered, option_is}
 use Rattle.run_model.specs.Drops.{done, done_kind}
 use Rattle.run_model.specs.Logs.{is_step}

@@ -1,9 +1,8 @@
 -- The word beside an answer that a job took from a repository: that of the sender of the answer to what it last awaited of it.
-use Rattle.std.proofs.Common.{◌≡◌, ◌≢◌, ℕ, Bool, true, false, List, [], ◌∷◌, Option, Some, None, ◌⊎◌, inl, inr, refl, sym, ap, ◌∙◌, subst, arith}
+use Rattle.std.proofs.Common.{◌≡◌, ℕ, Bool, true, false, List, [], ◌∷◌, Some, inl, inr, refl, sym, ap, ◌∙◌, arith}
 use Rattle.std.proofs.lemmas.Bool.Decides.{nat_tests}
 use Rattle.std.specs.Prelude.{if◌then◌else◌, ◌==◌, ◌&&◌, find, slice_get}
 use Rattle.annex_base.specs.Lists.{Member}
-use Rattle.annex_base.specs.declared.kinds.Word.{Word}
 use Rattle.run_data.specs.declared.entry.Entry.{Entry}
 use Rattle.run_data.specs.declared.entry.FrameView.{FrameView}
 use Rattle.run_model.specs.Past.{is_of}
@@ -12,7 +11,7 @@ use Rattle.node_model.specs.Slots.{job_of}
 use Rattle.run_model.specs.Frames.{sent, taken, way_of}
 use Rattle.node_model.specs.SetUp.{SetUp}
 use Rattle.run_model.specs.Words.{awaits_of, awaits_word, word_of, word_taken, word_told}
-use Rattle.node_model.specs.Jobs.{Phase, Work}
+use Rattle.node_model.specs.Jobs.{Work}
 use Rattle.run_model.specs.States.{works}
 use Rattle.run_model.specs.Run.{OwnRun}
 use Rattle.race_core.proofs.Cases.{find_was}

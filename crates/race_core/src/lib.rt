@@ -4,6 +4,7 @@
 
 mod entries;
 mod laws;
+mod steps;
 
 pub use entries::copies;
 pub use laws::{
@@ -12,3 +13,4 @@ pub use laws::{
     never_fewer_than_mincopies, runs_are_lawful, runs_are_safe,
 };
 pub use run_data;
+pub use steps::{carried_states_agree, steps_find_their_cause};

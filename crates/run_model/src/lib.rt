@@ -2,13 +2,7 @@
 //! them, the evidence of drops, removals, safe runs, runs, and the causes of refusals.
 #![tactic(auto)]
 
-ghost use Rattle.std.specs.Prelude.{◌≡◌, true};
+mod laws;
 
-pub use node_model;
-
-/// The definitions stand here.
-pub fn stands() -> bool
-    ensures { result ≡ true }
-{
-    true
-}
+pub use laws::others_change_nothing;
+pub use run_data;
