@@ -8,6 +8,7 @@ pub mod FaultLemmas
 pub mod BreakLemmas
 pub mod AnswerLemmas
 pub mod FileLemmas
+pub mod FileKeyLemmas
 pub mod ChunkLemmas
 pub mod TreeLemmas
 pub mod TreeLaws

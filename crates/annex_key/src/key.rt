@@ -1,4 +1,4 @@
-ghost use Rattle.std.specs.Prelude.{◌≡◌, ◌≢◌, ◌==◌, ◌↔◌, ◌⊎◌, ◌++◌, List, ℕ, IfOk, IsErrOf, MatchResult};
+ghost use Rattle.std.specs.Prelude.{◌≡◌, ◌≢◌, ◌==◌, ◌↔◌, ◌⊎◌, ◌++◌, List, ℕ, Some, None, IfOk, IsErrOf, MatchResult};
 ghost use Rattle.std.proofs.Common.{rules};
 ghost use Rattle.std.specs.Cmp.{partial_order_from_own_ties};
 ghost use Rattle.std.specs.Cmp.Rules.{comparing};
@@ -9,6 +9,7 @@ ghost use Rattle.std.specs.Str.{bytes_eq};
 ghost use Rattle.annex_key.specs.KeyText.{Parts, IsKey, IsKeyText, key_text, without_chunk, is_digest_backend};
 ghost use Rattle.annex_key.specs.Faults.{Breaks};
 ghost use Rattle.annex_key.specs.KeyFile.{file_text, BreaksFile};
+ghost use Rattle.annex_key.specs.FileKey.{key_of_file};
 ghost use Rattle.annex_key.specs.View.{told_fault, first_fault, backend_part, size_part, unchunked_text};
 
 use crate::escape::{escape, unescape};
@@ -99,6 +100,7 @@ impl Key {
         // Each fault stands exactly where its rule is broken first, unless memory runs out.
         ensures faults { (e : KeyFault) → e ≢ KeyFault.NoMemory → IsErrOf result e → BreaksFile e file.now }
         ensures first { (e : KeyFault) → BreaksFile e file.now → IsErrOf result e ⊎ IsErrOf result KeyFault.NoMemory }
+        ensures exact { MatchResult result (λ k. key_of_file file.now ≡ Some k) (λ e. e ≢ KeyFault.NoMemory → key_of_file file.now ≡ None) }
     {
         let text = unescape(alloc, file)?;
         Key::parse(alloc, &text)

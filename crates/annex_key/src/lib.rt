@@ -13,5 +13,5 @@ mod tree;
 
 pub use fault::KeyFault;
 pub use key::Key;
-pub use laws::names_are_unique;
+pub use laws::{files_name_their_keys, names_are_unique};
 pub use tree::Tree;

@@ -1,8 +1,10 @@
-//! The plain data of runs of several repositories: jobs and their outcomes, entries, rows, set-ups and runs.
+//! The plain data of runs of several repositories: jobs and their outcomes, entries and their log files, rows, set-ups and runs.
 #![tactic(auto)]
 
 mod entry;
+mod files;
 mod job;
+mod laws;
 mod row;
 mod run;
 
@@ -11,6 +13,7 @@ pub use job::{
     CandidateCause, Cause, Denial, DropRefusal, Job, JobKind, Outcome, Proof, SourceCause,
     SourceFailure, TransferRefusal,
 };
+pub use laws::files_have_their_paths;
 pub use row::{Hold, HoldView, RowView};
 pub use run::{RepoView, Run, TreeMark};
 

@@ -1,10 +1,6 @@
 -- How a table of branches changes by an entry.
-use Rattle.std.proofs.Common.{◌≡◌, ◌≢◌, inl, inr, ℕ, ◌<◌, Bool, true, false, cond, List, [], ◌∷◌, filter, length, set, slice_index_or, get_or-set_same, get_or-set_other, Option, Some, None, refl, sym, ap, subst, ◌∙◌}
-use Rattle.std.specs.Str.{bytes_eq}
-use Rattle.std.specs.BTreeMap.{BTreeMap, get, Updates}
+use Rattle.std.proofs.Common.{◌≡◌, ◌≢◌, inl, inr, ℕ, ◌<◌, Bool, List, [], ◌∷◌, filter, length, set, slice_index_or, get_or-set_same, get_or-set_other, Some, sym, ap, subst, ◌∙◌}
 use Rattle.std.proofs.lemmas.Bool.Decides.{eqb_tells}
-use Rattle.std.proofs.lemmas.Map.Text.{is_eq-slice_cmp}
-use Rattle.annex_base.specs.ByteOrder.{text_cmp}
 use Rattle.annex_base.specs.Lists.{Member, Each}
 use Rattle.log_lines.specs.declared.entry.LogKind.{LogKind}
 use Rattle.log_lines.specs.Newest.{compacted}
@@ -15,9 +11,7 @@ use Rattle.union_merge.specs.Branch.{Files, IsBranch, file_at, lines_at, with_fi
 use Rattle.union_merge.proofs.SetLemmas.{IsInOrder, order_nil, order_cons, order_head, order_tail, Each-member, Each-from_members, BeforeAll-member, BeforeAll-from_members, Member-union, union-left, union-right, union-in_order, union-is, union-nil}
 use Rattle.union_merge.proofs.BranchLemmas.{Paths, IsFile, Member-file_at, lines_at-is_set}
 use Rattle.run_data.specs.declared.entry.Entry.{Entry}
-use Rattle.run_data.specs.declared.entry.LogFile.{LogFile}
-use Rattle.run_data.specs.declared.entry.LogFile.TheVariants.{Named}
-use Rattle.thin_model.specs.Logs.{file_path, branch, branch_after, first_of, or_older}
+use Rattle.thin_model.specs.Logs.{branch, branch_after}
 
 abbrev Lines : Type 0
 Lines = List (List ℕ)
@@ -61,22 +55,6 @@ paths_are_lines (f ∷ files) path all (inr among) = paths_are_lines files path 
 -- a file that a branch has has a path
 pub found_is_line : (files : Files) (path : List ℕ) (lines : Lines) → IsBranch files → file_at files path ≡ Some lines → IsLine path
 found_is_line files path lines is found = paths_are_lines files path is.each (Member-file_at files path lines found)
-
--- ---- files by their paths
-
-cond-first_of : {X : Type 0} (b : Bool) (x : X) (o : Option X) → cond b (Some x) o ≡ first_of (cond b (Some x) None) o
-cond-first_of true x o = refl
-cond-first_of false x o = refl
-
-pub get-noted : (old new : BTreeMap (List ℕ) LogFile) (file : LogFile) (path : List ℕ) → Updates text_cmp old new (file_path file) (Some file) → get text_cmp new path ≡ first_of (cond (bytes_eq (file_path file) path) (Some file) None) (get text_cmp old path)
-get-noted old new file path updates =
-    updates.0 path
-    ∙ ap (λ (b : Bool). cond b (Some file) (get text_cmp old path)) (is_eq-slice_cmp (file_path file) path)
-    ∙ cond-first_of (bytes_eq (file_path file) path) file (get text_cmp old path)
-
-pub or_older-first_of : (newest older : Option LogFile) (path : List ℕ) (was : LogFile) → or_older older (Named path) ≡ was → or_older (first_of newest older) (Named path) ≡ or_older newest was
-or_older-first_of None older path was known = known
-or_older-first_of (Some file) older path was known = refl
 
 -- ---- the branches
 

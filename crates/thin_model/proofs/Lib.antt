@@ -1,5 +1,4 @@
 mod BranchLemmas
 pub mod LogLemmas
-pub mod PathLemmas
 pub mod Reading
 mod Tables

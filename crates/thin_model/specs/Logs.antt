@@ -1,41 +1,20 @@
 -- What the entries so far say of the log files of each repository (git-annex internals: branch files; when a drop reads them is
 -- the project's own).
-use Rattle.std.specs.Prelude.{ℕ, Bool, true, false, ◌&&◌, if◌then◌else◌, not, List, [], ◌∷◌, ◌++◌, Option, Some, None, bytes_eq, codes}
+use Rattle.std.specs.Prelude.{ℕ, Bool, false, ◌&&◌, if◌then◌else◌, List, [], ◌∷◌, ◌++◌, Option, Some, None, bytes_eq}
 use Rattle.std.specs.Option.{unwrap_or}
 use Rattle.annex_base.specs.Settings.{Settings}
 use Rattle.drop_proof.specs.declared.rule.Need.{Need}
 use Rattle.log_lines.specs.Newest.{compacted}
 use Rattle.log_lines.specs.declared.entry.LogKind.{LogKind}
-use Rattle.log_lines.specs.declared.entry.LogKind.TheVariants as kinds
 use Rattle.union_merge.specs.Branch.{Files, file_at, lines_at, with_file, merged_file}
-use Rattle.trust_groups.specs.Settings.{settings, location_path, file_name, numcopies, mincopies}
+use Rattle.trust_groups.specs.Settings.{settings}
 use Rattle.run_data.specs.declared.entry.Entry.{Entry}
 use Rattle.run_data.specs.declared.entry.EntryKind.{EntryKind}
 use Rattle.run_data.specs.declared.entry.EntryKind.TheVariants.{Begin, Log, Compact}
 use Rattle.run_data.specs.declared.entry.LogFile.{LogFile}
-use Rattle.run_data.specs.declared.entry.LogFile.TheVariants.{Location, Named}
+use Rattle.run_data.specs.Files.{file_path, kind_of}
 use Rattle.thin_model.specs.Past.{is_of, option_is}
 use Rattle.thin_model.specs.Frames.{job_of}
-
--- ---- files
-
--- where a file stands in a branch
-abbrev pub file_path : LogFile → List ℕ
-file_path (Location key) = location_path key
-file_path (Named name) = name
-
--- the kinds of log with a file of their own
-abbrev pub named_kinds : List LogKind
-named_kinds = kinds.Trust ∷ kinds.Uuid ∷ kinds.Group ∷ kinds.Preferred ∷ kinds.Required ∷ kinds.GroupPreferred ∷ kinds.Numcopies ∷ kinds.Mincopies ∷ []
-
-abbrev pub kind_named : List LogKind → List ℕ → Option LogKind
-kind_named [] name = None
-kind_named (kind ∷ kinds) name = if bytes_eq (file_name kind) name then Some kind else kind_named kinds name
-
--- what kind of log a file is
-abbrev pub kind_of : LogFile → Option LogKind
-kind_of (Location key) = Some kinds.Location
-kind_of (Named name) = kind_named named_kinds name
 
 -- ---- every line ever added
 
@@ -72,21 +51,6 @@ branch (e ∷ past) r = if is_of r e then branch_after (branch past r) e.kind e.
 -- the lines that r's file of this path has
 abbrev pub kept : List Entry → ℕ → List ℕ → List (List ℕ)
 kept past r path = lines_at (branch past r) path
-
--- ---- which file stands at a path
-
-abbrev pub file_in : List ℕ → EntryKind → Option LogFile
-file_in path (Log file) = if bytes_eq (file_path file) path then Some file else None
-file_in path _ = None
-
-abbrev pub or_older : Option LogFile → LogFile → LogFile
-or_older None older = older
-or_older (Some file) older = file
-
--- the file that stands at the path, as the newest log entry there names it
-abbrev pub file_named : List Entry → List ℕ → LogFile
-file_named [] path = Named path
-file_named (e ∷ past) path = or_older (file_in path e.kind) (file_named past path)
 
 -- ---- what a job reads
 

@@ -1,6 +1,6 @@
 -- Which entry may come next in a run that is made without messages: content from the script, and local drops one after
 -- the other, each whole, between waits; and lines of logs at any time (own). Each record says what such an entry found.
-use Rattle.std.specs.Prelude.{◌≡◌, ◌≢◌, ℕ, zero, ◌+◌, ◌<◌, ◌≤◌, ◌^◌, Bool, true, false, ◌&&◌, if◌then◌else◌, ◌==◌, List, [], ◌∷◌, length, reverse, Option, Some, None}
+use Rattle.std.specs.Prelude.{◌≡◌, ◌≢◌, ℕ, zero, ◌+◌, ◌<◌, ◌≤◌, ◌^◌, Bool, true, false, List, [], ◌∷◌, length, reverse, Option, Some, None}
 use Rattle.std.specs.List.{find}
 use Rattle.annex_base.specs.declared.kinds.Found.TheVariants.{Absent}
 use Rattle.annex_key.specs.View.{size_part}
@@ -23,9 +23,10 @@ use Rattle.run_data.specs.declared.job.Outcome.{Outcome}
 use Rattle.run_data.specs.declared.job.Outcome.TheVariants.{Dropped, Refused}
 use Rattle.run_data.specs.declared.job.DropRefusal.TheVariants.{NotPresent, Lacking}
 use Rattle.annex_base.specs.Lists.{Each, Member}
+use Rattle.run_data.specs.Files.{HasPath, file_path, kind_of}
 use Rattle.run_data.specs.Repos.{offset_of, fits_size}
 use Rattle.thin_model.specs.Past.{Running, Decision, Hold, jobs, decided, present, bar, holds, is_blocked, begun, made, now}
-use Rattle.thin_model.specs.Logs.{file_path, kind_of, kept, compact_lines, need_read}
+use Rattle.thin_model.specs.Logs.{kept, compact_lines, need_read}
 use Rattle.thin_model.specs.Drops.{evidence, candidates, proof_of, causes, waits}
 
 -- no job runs
@@ -154,9 +155,10 @@ pub record MayRelease (past : List Entry) (r hold : ℕ) (key : List ℕ) : Type
   pub opened : held.kept ≡ false
   pub first : (q : ℕ) → q < r → holds past q ≡ []
 
--- Lines may be added at any time: in byte order, each once, and none that the file has already.
+-- Lines may be added at any time to a file of a known kind: in byte order, each once, and none that the file has already.
 pub record MayLog (past : List Entry) (r : ℕ) (file : LogFile) (lines : List (List ℕ)) : Type 0 where
   pub known : kind_of file ≢ None
+  pub path : HasPath file
   pub set : IsLineSet lines
   pub new : Each (λ line. ¬ Member line (kept past r (file_path file))) lines
 

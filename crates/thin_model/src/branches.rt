@@ -1,40 +1,24 @@
-ghost use Rattle.std.specs.Prelude.{◌≡◌, ◌<◌, ◌≤◌, ℕ, List, [], ◌∷◌, Some, None, IfOk, OnOk, bytes_eq, find};
-ghost use Rattle.std.specs.BTreeMap.{get};
+//! The branches of a run's repositories, as the entries so far change them.
+ghost use Rattle.std.specs.Prelude.{◌≡◌, ◌<◌, ◌≤◌, ℕ, List, [], ◌∷◌, Some, None, IfOk, OnOk};
 ghost use Rattle.std.specs.Option.{option_copied};
-ghost use Rattle.annex_base.specs.ByteOrder.{text_cmp};
 ghost use Rattle.annex_base.specs.Lists.{Each};
-ghost use Rattle.log_lines.specs.declared.entry.LogKind.{LogKind};
 ghost use Rattle.union_merge.specs.LineSet.{IsLine};
 ghost use Rattle.union_merge.specs.Branch.{file_at, merged_file};
-ghost use Rattle.trust_groups.specs.Settings.{file_name};
 ghost use Rattle.run_data.specs.declared.entry.Entry.{Entry};
-ghost use Rattle.thin_model.specs.Logs.{file_path, kind_of, branch, branch_after, compact_lines, compact_file, file_in, file_named, first_of, named_kinds};
-ghost use Rattle.thin_model.specs.Branches.{HasBranches, HasPath, LogsToPath};
+ghost use Rattle.run_data.specs.Files.{file_path};
+ghost use Rattle.thin_model.specs.Logs.{branch, branch_after, compact_lines, compact_file};
+ghost use Rattle.thin_model.specs.Branches.{HasBranches, LogsToPath};
 
-use annex_base::{Line, NoMemory, Text};
+use annex_base::{Line, NoMemory};
 use log_lines::{LogKind, compact};
 use run_data::{Entry, EntryKind, LogFile};
 use std::alloc::Global;
-use std::collections::BTreeMap;
-use trust_groups::{file_name, location_path};
 use union_merge::{Branch, LineSet};
 
-const NAMED_KINDS: [LogKind; 8] = [
-    LogKind::Trust,
-    LogKind::Uuid,
-    LogKind::Group,
-    LogKind::Preferred,
-    LogKind::Required,
-    LogKind::GroupPreferred,
-    LogKind::Numcopies,
-    LogKind::Mincopies,
-];
-
-/// The branches of a run's repositories after some first entries of the run, and which file stands at each path.
+/// The branches of a run's repositories after some first entries of the run.
 #[derive(Debug, Drop)]
 pub struct Branches {
     branches: Vec<Branch>,
-    files: BTreeMap<Text, LogFile>,
     alloc: Global,
 }
 
@@ -47,11 +31,7 @@ impl Branches {
         for _ in 0..repositories {
             branches.push(Branch::new(alloc))?;
         }
-        Ok(Branches {
-            branches,
-            files: BTreeMap::new(alloc),
-            alloc,
-        })
+        Ok(Branches { branches, alloc })
     }
 
     /// The branch of the repository of this number; one that isn't there has none.
@@ -62,18 +42,6 @@ impl Branches {
         self.branches.get(repo as usize)
     }
 
-    /// The file that stands at the path of a branch, as the newest entry that added lines there names it. Where there is
-    /// none, the path is its name.
-    pub fn file(&self, path: &[u8]) -> Result<LogFile, NoMemory>
-        ensures { IfOk result (λ file. (repositories : ℕ) (past : List Entry) → HasBranches self.now repositories past → file ≡ file_named past path.now) }
-    {
-        let path = Text::new(self.alloc, path)?;
-        match self.files.get(&path) {
-            Some(file) => Ok(file.clone()?),
-            None => Ok(LogFile::Named(path)),
-        }
-    }
-
     /// Takes note of what one more entry changes: lines that are added to a file of one of the repositories, or a file
     /// that is compacted. Where memory is lacking, nothing is said of the branches any more.
     pub fn add(&mut self, entry: &Entry) -> Result<(), NoMemory>
@@ -81,7 +49,6 @@ impl Branches {
         requires lines { Each IsLine entry.now.lines }
         ensures { OnOk result ((repositories : ℕ) (past : List Entry) → HasBranches self.old repositories past → HasBranches self.new repositories (entry.now ∷ past)) }
     {
-        note_file(self.alloc, &mut self.files, &entry.kind)?;
         let Some(repo) = entry.repo else {
             return Ok(());
         };
@@ -93,55 +60,6 @@ impl Branches {
     }
 }
 
-/// What kind of log a file is; a file of another name is none (git-annex internals).
-pub fn kind_of(file: &LogFile) -> Option<LogKind>
-    ensures { result ≡ kind_of file.now }
-{
-    match file {
-        LogFile::Location(_) => Some(LogKind::Location),
-        LogFile::Named(name) => kind_named(name.bytes()),
-    }
-}
-
-fn kind_named(name: &[u8]) -> Option<LogKind>
-    ensures { result ≡ find (λ kind. bytes_eq (file_name kind) name.now) named_kinds }
-{
-    NAMED_KINDS
-        .iter()
-        .copied()
-        .find(|kind| file_name(*kind) == name)
-}
-
-/// Where a file stands in a branch (git-annex internals: location tracking, hashing).
-pub fn file_path(alloc: Global, file: &LogFile) -> Result<Text, NoMemory>
-    ensures value { IfOk result (λ t. t ≡ file_path file.now) }
-    ensures line { OnOk result (HasPath file.now → IsLine (file_path file.now)) }
-{
-    match file {
-        LogFile::Location(key) => {
-            // A key has no newline, so its path has none.
-            let _ = key.text();
-            location_path(alloc, key)
-        }
-        LogFile::Named(name) => Ok(name.clone()?),
-    }
-}
-
-// Remembers the file that an entry adds lines to.
-fn note_file(
-    alloc: Global,
-    files: &mut BTreeMap<Text, LogFile>,
-    kind: &EntryKind,
-) -> Result<(), NoMemory>
-    ensures { OnOk result ((path : List ℕ) → get text_cmp files.new path ≡ first_of (file_in path kind.now) (get text_cmp files.old path)) }
-{
-    if let EntryKind::Log { file } = kind {
-        let path = file_path(alloc, file)?;
-        files.insert(path, file.clone()?)?;
-    }
-    Ok(())
-}
-
 fn change(alloc: Global, branch: &mut Branch, entry: &Entry) -> Result<(), NoMemory>
     requires path { LogsToPath entry.now.kind }
     requires lines { Each IsLine entry.now.lines }
@@ -149,7 +67,7 @@ fn change(alloc: Global, branch: &mut Branch, entry: &Entry) -> Result<(), NoMem
 {
     match &entry.kind {
         EntryKind::Log { file } => {
-            let path = file_path(alloc, file)?;
+            let path = file.path(alloc)?;
             add_lines(alloc, branch, path.bytes(), entry.lines.as_slice())?;
         }
         EntryKind::Compact { file } => compact_file(alloc, branch, file)?,
@@ -180,11 +98,11 @@ fn compact_file(alloc: Global, branch: &mut Branch, file: &LogFile) -> Result<()
 {
     // The files of a branch have paths.
     let _ = branch.files();
-    let path = file_path(alloc, file)?;
+    let path = file.path(alloc)?;
     let Some(lines) = branch.file(path.bytes()) else {
         return Ok(());
     };
-    let kept = compacted(alloc, kind_of(file), lines)?;
+    let kept = compacted(alloc, file.kind(), lines)?;
     branch.replace_file(path.bytes(), &kept)?;
     Ok(())
 }

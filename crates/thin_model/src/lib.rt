@@ -4,7 +4,7 @@
 mod branches;
 mod contents;
 
-pub use branches::{Branches, file_path, kind_of};
+pub use branches::Branches;
 pub use contents::Contents;
 
 fn is_send<T: Send>() {}

@@ -17,6 +17,8 @@ fn log_entry(alloc: Global, repo: u32, key: &Key, bytes: &str) -> Result<Entry, 
     ensures path { IfOk result (λ e. LogsToPath e.kind) }
     ensures lines { IfOk result (λ e. Each IsLine e.lines) }
 {
+    // The grammar of the key is the path's.
+    let _ = key.text();
     let set = LineSet::from_bytes(alloc, bytes.as_bytes())?;
     let lines = copies(alloc, set.lines())?;
     Ok(Entry {
@@ -52,7 +54,7 @@ fn compact_entry(alloc: Global, repo: u32, key: &Key) -> Result<Entry, Fail>
 
 // The bytes of the key's location log in a repository's branch.
 fn log_of(alloc: Global, branches: &Branches, repo: u32, key: &Key) -> Result<Vec<u8>, Fail> {
-    let path = location_path(alloc, key)?;
+    let path = LogFile::Location(key.clone()?).path(alloc)?;
     let Some(branch) = branches.branch(repo) else {
         return Ok(Vec::new(alloc));
     };
@@ -128,59 +130,6 @@ fn lines_are_added_and_compacted_in_one_branch(rt: HostRuntime) -> Result<(), Fa
         let at_laptop = has_log(alloc, &branches, LAPTOP, &key, laptop)?;
         let at_server = has_log(alloc, &branches, SERVER, &key, server)?;
         assert!(rt; at_laptop && at_server, "after {repo}");
-    }
-    Ok(())
-}
-
-// Whether the file at the path is the key's location log.
-fn is_location_log(branches: &Branches, path: &[u8], key: &Key) -> Result<bool, Fail> {
-    Ok(match branches.file(path)? {
-        LogFile::Location(other) => other == *key,
-        LogFile::Named(_) => false,
-    })
-}
-
-#[test]
-fn a_file_is_told_by_the_newest_entry_at_its_path(rt: HostRuntime) -> Result<(), Fail> {
-    let alloc = rt.alloc();
-    let key = Key::parse(alloc, b"WORM-s3--abc")?;
-    let path = location_path(alloc, &key)?;
-    let mut branches = Branches::new(alloc, 1)?;
-    let before = is_location_log(&branches, path.bytes(), &key)?;
-    change_log(
-        alloc,
-        &mut branches,
-        LAPTOP,
-        &key,
-        Some("1s 1 22222222-2222-4222-8222-222222222222\n"),
-    )?;
-    let after = is_location_log(&branches, path.bytes(), &key)?;
-    assert!(rt; !before && after);
-    Ok(())
-}
-
-#[test]
-fn kinds_of_files(rt: HostRuntime) -> Result<(), Fail> {
-    let alloc = rt.alloc();
-    for (name, kind) in [
-        ("trust.log", Some(LogKind::Trust)),
-        ("uuid.log", Some(LogKind::Uuid)),
-        ("group.log", Some(LogKind::Group)),
-        ("preferred-content.log", Some(LogKind::Preferred)),
-        ("required-content.log", Some(LogKind::Required)),
-        ("group-preferred-content.log", Some(LogKind::GroupPreferred)),
-        ("numcopies.log", Some(LogKind::Numcopies)),
-        ("mincopies.log", Some(LogKind::Mincopies)),
-        ("remote.log", None),
-        ("trust.log2", None),
-        ("", None),
-    ] {
-        let file = LogFile::Named(Text::new(alloc, name.as_bytes())?);
-        assert_eq!(rt; kind_of(&file), kind, "at {name}");
-        assert!(rt;
-            file_path(alloc, &file)?.bytes() == name.as_bytes(),
-            "at {name}"
-        );
     }
     Ok(())
 }

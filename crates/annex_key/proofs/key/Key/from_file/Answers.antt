@@ -1,6 +1,8 @@
 use Rattle.std.proofs.Common.{◌≡◌, ◌∙◌, sym, ap}
 use Rattle.annex_key.specs.KeyFile.{file_text}
+use Rattle.annex_key.specs.KeyText.{IsKeyText}
 use Rattle.annex_key.proofs.FileLemmas as files
+use Rattle.annex_key.proofs.FileKeyLemmas as keys
 use Rattle.annex_key.proofs.key.Key.from_file.Goals as goal
 
 pub returns-in_err-text-clause-only : goal.returns-in_err-text-clause-only
@@ -23,3 +25,11 @@ returns-clause-faults c = files.file_faults c.args.file.now c.deref.result.now c
 
 pub returns-clause-first : goal.returns-clause-first
 returns-clause-first c = files.file_first c.args.file.now c.deref.result.now c.parse.result (spelled c) c.parse.ensures.faults
+
+pub returns-in_err-text-clause-exact : goal.returns-in_err-text-clause-exact
+returns-in_err-text-clause-exact c =
+    keys.exact c.args.file.now c.from_residual.result (keys.found_of_err (λ k. (c.args.file.now ≡ file_text k) × IsKeyText k) (λ d. d ≡ c.in_err-text.field-0.0) c.from_residual.result c.from_residual.ensures.1)
+    (returns-in_err-text-clause-only c)
+
+pub returns-clause-exact : goal.returns-clause-exact
+returns-clause-exact c = keys.exact c.args.file.now c.parse.result (returns-clause-found c) (returns-clause-only c)

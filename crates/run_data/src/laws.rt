@@ -1,0 +1,17 @@
+//! Laws on the log files of a branch, which no call depends on.
+ghost use Rattle.std.specs.Prelude.{◌≡◌, ◌≢◌, ℕ, List, None};
+ghost use Rattle.union_merge.specs.LineSet.{IsLine};
+ghost use Rattle.run_data.specs.declared.entry.LogFile.{LogFile};
+ghost use Rattle.run_data.specs.Files.{HasPath, file_of, file_path, kind_of};
+
+use annex_key::files_name_their_keys;
+
+/// A file is read off its path, and stands there.
+pub fn files_have_their_paths()
+    ensures path { (path : List ℕ) → file_path (file_of path) ≡ path }
+    ensures file { (file : LogFile) → HasPath file → kind_of file ≢ None → file_of (file_path file) ≡ file }
+    ensures line { (file : LogFile) → HasPath file → IsLine (file_path file) }
+    ensures has { (path : List ℕ) → IsLine path → HasPath (file_of path) }
+{
+    files_name_their_keys();
+}
