@@ -15,7 +15,8 @@ use Rattle.run_data.specs.declared.entry.LogFile.{LogFile}
 use Rattle.run_data.specs.declared.job.Job.{Job}
 use Rattle.run_data.specs.declared.job.JobKind.{JobKind}
 use Rattle.run_data.specs.declared.job.JobKind.TheVariants as kinds
-use Rattle.node_model.specs.Files.{compact_lines, file_path, kind_of}
+use Rattle.node_model.specs.Files.{compact_lines}
+use Rattle.run_data.specs.Files.{file_path, kind_of, HasPath}
 use Rattle.run_data.specs.Repos.{fits_size}
 use Rattle.node_model.specs.SetUp.{SetUp, others, slots}
 use Rattle.node_model.specs.Ends.{EndName, frames}
@@ -51,6 +52,7 @@ pub record MayGain (s : SetUp) (st : State) (size : ℕ) (key : List ℕ) : Type
 
 -- lines in byte order, each once, and none that the file has already
 pub record MayLog (s : SetUp) (st : State) (file : LogFile) (lines : List (List ℕ)) : Type 0 where
+  pub path : HasPath file
   pub known : kind_of file ≢ None
   pub set : IsLineSet lines
   pub new : Each (λ line. ¬ Member line (st.lines (file_path file))) lines

@@ -20,7 +20,7 @@ use Rattle.run_data.specs.declared.entry.FrameView.{FrameView}
 use Rattle.run_data.specs.declared.entry.LogFile.{LogFile}
 use Rattle.run_data.specs.declared.run.RepoView.{RepoView}
 use Rattle.run_data.specs.Repos.{id_of}
-use Rattle.node_model.specs.Files.{file_path}
+use Rattle.run_data.specs.Files.{file_path}
 use Rattle.p2p_wire.specs.declared.message.Message.{Message}
 use Rattle.p2p_wire.specs.declared.message.Message.TheVariants.{AlreadyHave, Success}
 use Rattle.node_model.specs.Sessions.{line_in}

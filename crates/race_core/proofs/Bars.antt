@@ -25,7 +25,7 @@ use Rattle.node_model.specs.SetUp.{SetUp}
 use Rattle.run_model.specs.States.{state_of, rows_at, works}
 use Rattle.node_model.specs.AnyTime.{MayCome}
 use Rattle.node_model.specs.Jobs
-use Rattle.node_model.specs.Jobs.{Puts, AsksTime, Drops, Fresh, Gets, Ends, Part, Phase, Rows, Work, fault_of, fault_phase, running, side_of, stores_fault, unreleased, work_kind}
+use Rattle.node_model.specs.Jobs.{Puts, AsksTime, Drops, Fresh, Gets, Part, Phase, Rows, Work, fault_of, fault_phase, running, side_of, unreleased, work_kind}
 use Rattle.node_model.specs.Look.{Made}
 use Rattle.node_model.specs.JobStep.{Turn, key_of}
 use Rattle.run_model.specs.Run.{IsStep, OwnPart, OwnRun}

@@ -13,7 +13,7 @@ use Rattle.node_model.specs.Ends.{EndName, End, end_after, end_sends, end_took, 
 use Rattle.node_model.specs.Rows.{option_is}
 use Rattle.node_model.specs.Sessions.{line_in}
 use Rattle.node_model.specs.Jobs
-use Rattle.node_model.specs.Jobs.{Part, Gets, Puts, Drops, Phase, Rows, Work, claims, closed_part, job_end, learns, partner, says, taken_message, talks, talks_on, took, work_kind}
+use Rattle.node_model.specs.Jobs.{Part, Gets, Puts, Drops, Phase, Rows, Work, claims, closed_part, job_end, learns, partner, talks, talks_on, work_kind}
 use Rattle.node_model.specs.Look.{Made, entry_of}
 use Rattle.node_model.specs.JobStep.{Turn, end_with, key_of, me}
 use Rattle.race_core.proofs.Cases.{if_found}

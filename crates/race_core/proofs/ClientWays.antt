@@ -12,7 +12,7 @@ use Rattle.p2p_wire.specs.Messages.{message_of}
 use Rattle.run_model.specs.Said.{said_line, message_in, is_request, is_answer}
 use Rattle.run_model.specs.Past.{Always, is_of}
 use Rattle.run_model.specs.Frames
-use Rattle.run_model.specs.Frames.{Way, Flying, flying, is_on, last_of, last_request, on_way, requests, says, sent_if, taken_if, takes_if}
+use Rattle.run_model.specs.Frames.{Way, Flying, flying, is_on, last_of, on_way, requests, says, taken_if, takes_if}
 use Rattle.node_model.specs.Ends.{same_bool, is_opening, end_takes, EndName, End, end_after, end_sends, end_took, may_take, sends_at, sent_at, taken_at, takes_at}
 use Rattle.run_model.specs.States.{end_at}
 use Rattle.node_model.specs.Sessions.{line_in}

@@ -16,7 +16,7 @@ use Rattle.run_model.specs.Frames.{is_job}
 use Rattle.run_model.specs.Causes.{FoundNoSource, SourceCauseOf, WasClosed, WasLost, is_order, sources_of}
 use Rattle.node_model.specs.SetUp.{SetUp}
 use Rattle.node_model.specs.Jobs
-use Rattle.node_model.specs.Jobs.{AsksTime, Denied, Drops, Ends, Fresh, Late, Next, Orders, Part, Phase, Removed, Work, partner, running, side_of}
+use Rattle.node_model.specs.Jobs.{AsksTime, Denied, Drops, Ends, Fresh, Late, Next, Orders, Phase, Removed, Work, partner, running, side_of}
 use Rattle.run_model.specs.States.{works}
 use Rattle.node_model.specs.Knows.{obeyed, proof_by}
 use Rattle.node_model.specs.JobStep.{Turn}

@@ -15,7 +15,7 @@ use Rattle.run_data.specs.declared.entry.EntryKind.TheVariants.{Gone, Order}
 use Rattle.run_data.specs.declared.entry.FrameText.TheVariants.{Line}
 use Rattle.run_data.specs.declared.entry.FrameView.{FrameView}
 use Rattle.run_data.specs.declared.job.Cause.{Cause}
-use Rattle.run_model.specs.Past.{Decision, clock, decided, is_of}
+use Rattle.run_model.specs.Past.{Decision, clock, decided}
 use Rattle.p2p_wire.specs.declared.message.Message.TheVariants.{Timestamp}
 use Rattle.p2p_wire.specs.Messages.{order_of, text_of}
 use Rattle.run_model.specs.Frames.{Way, up_of, way_from, way_of}

@@ -26,7 +26,7 @@ use Rattle.p2p_wire.specs.Messages.{order_of, message_of}
 use Rattle.node_model.specs.Sessions.{line_in}
 use Rattle.node_model.specs.Ends.{end_after}
 use Rattle.node_model.specs.Jobs
-use Rattle.node_model.specs.Jobs.{AsksLock, AsksLook, AsksTime, Denied, Drops, Ends, Fresh, GetsBytes, GetsData, GetsWord, Gets, Greets, Late, Next, Opens, Orders, Part, Phase, Puts, PutsAnswer, PutsBytes, PutsOffer, PutsWord, Removed, Rows, Work, claims, closed_part, fault_of, fault_phase, first_look, gained, hears_frame, is_move, is_ordered, job_end, learns, listens, partner, quiet, running, says, says_some, sends, side_of, stores_fault, talks, talks_on, target_of, to_phase, took, took_line, transferred, unreleased, word_taken, work_kind}
+use Rattle.node_model.specs.Jobs.{AsksLock, AsksLook, AsksTime, Denied, Drops, Ends, Fresh, GetsBytes, GetsData, GetsWord, Gets, Greets, Late, Next, Orders, Part, Phase, Puts, PutsAnswer, PutsBytes, PutsOffer, PutsWord, Rows, Work, claims, closed_part, fault_of, fault_phase, first_look, gained, hears_frame, is_move, is_ordered, job_end, learns, listens, partner, quiet, running, says, says_some, sends, side_of, stores_fault, talks, talks_on, target_of, to_phase, took, took_line, transferred, unreleased, word_taken, work_kind}
 use Rattle.race_core.proofs.Cases.{if_found}
 use Rattle.race_core.proofs.TalkFacts.{Fits}
 use Rattle.race_core.proofs.PhaseFacts.{is_fresh, readies_place}

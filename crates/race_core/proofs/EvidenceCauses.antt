@@ -21,12 +21,12 @@ use Rattle.run_model.specs.Logs.{need_read}
 use Rattle.run_data.specs.declared.job.Cause.{Cause}
 use Rattle.run_model.specs.Drops
 use Rattle.node_model.specs.Evidence.{Standing, gather, proof_of, Claimed, Ignored, Asked, Offer, Gives, Fails, candidates, failures, is_locked, pick, reached}
-use Rattle.run_model.specs.Drops.{asked, why, evidence, told_cause}
+use Rattle.run_model.specs.Drops.{asked, why, told_cause}
 use Rattle.run_model.specs.Causes.{FoundExpired, FoundLacking, FoundOld, IsCauseOf, items}
 use Rattle.node_model.specs.SetUp.{SetUp}
 use Rattle.run_model.specs.States.{state_of, works}
 use Rattle.node_model.specs.Jobs
-use Rattle.node_model.specs.Jobs.{AsksTime, Drops, Ends, Heard, Late, Next, Phase, Work, heard_of, running, side_of, target_of}
+use Rattle.node_model.specs.Jobs.{Drops, Ends, Heard, Late, Work, heard_of, running, side_of, target_of}
 use Rattle.node_model.specs.Knows
 use Rattle.node_model.specs.Knows.{candidates_of, cause_by, causes_known, cause_heard, heard_offer, is_to_ask, is_unasked, known, knows_enough, need_of, next_of, offer_by, standing_of}
 use Rattle.node_model.specs.DropStep

@@ -31,7 +31,7 @@ use Rattle.run_model.specs.States.{state_of, end_at, rows_at, works}
 use Rattle.node_model.specs.Sessions.{line_in}
 use Rattle.node_model.specs.Ends.{EndName, end_after, end_sends, end_took, frames, sent_at, taken_at}
 use Rattle.node_model.specs.Jobs
-use Rattle.node_model.specs.Jobs.{AsksLock, AsksLook, AsksTime, Drops, Fresh, Gets, Greets, Held, Lacks, Next, Opens, Orders, Part, Phase, Puts, Rows, Seen, Unseen, Work, heard_of, job_end, new_work, partner, running, work_kind}
+use Rattle.node_model.specs.Jobs.{AsksLock, AsksLook, AsksTime, Drops, Fresh, Gets, Greets, Held, Lacks, Next, Opens, Orders, Part, Phase, Puts, Seen, Unseen, Work, heard_of, job_end, partner, running, work_kind}
 use Rattle.node_model.specs.Knows.{candidates_of, is_to_ask, is_unasked, standing_of}
 use Rattle.node_model.specs.JobStep.{Turn, end_with}
 use Rattle.run_model.specs.Run.{OwnPast, OwnRun}

@@ -21,7 +21,7 @@ use Rattle.p2p_wire.specs.declared.message.Message.TheVariants.{AlreadyHave, Dat
 use Rattle.p2p_wire.specs.Messages.{message_of}
 use Rattle.node_model.specs.Ends.{end_after, EndName}
 use Rattle.node_model.specs.Jobs
-use Rattle.node_model.specs.Jobs.{AsksLock, AsksLook, Drops, Fresh, GetsData, GetsWord, Gets, Greets, Next, Orders, Part, Phase, Puts, PutsAnswer, PutsOffer, Rows, Work, claims, closed_part, fault_of, fault_phase, first_look, gained, hears_frame, job_end, learns, listens, quiet, running, says, says_some, sends, talks, talks_on, target_of, took, took_line, transferred, unreleased, word_taken, work_after, work_kind, works_after}
+use Rattle.node_model.specs.Jobs.{AsksLock, AsksLook, Drops, Fresh, GetsData, GetsWord, Gets, Greets, Next, Orders, Part, Phase, Puts, PutsAnswer, PutsOffer, Rows, Work, claims, closed_part, fault_of, fault_phase, first_look, gained, hears_frame, job_end, learns, listens, quiet, running, says, says_some, sends, talks, talks_on, target_of, took, took_line, transferred, unreleased, word_taken, work_kind}
 use Rattle.race_core.proofs.Cases.{if_found}
 use Rattle.run_data.specs.declared.entry.By.{By}
 use Rattle.run_data.specs.declared.job.Cause.{Cause}

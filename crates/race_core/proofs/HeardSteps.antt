@@ -10,7 +10,7 @@ use Rattle.p2p_wire.specs.declared.message.Message.TheVariants.{Success}
 use Rattle.node_model.specs.Sessions.{line_in}
 use Rattle.node_model.specs.Ends.{EndName, End, end_after, end_takes, end_took}
 use Rattle.node_model.specs.Jobs
-use Rattle.node_model.specs.Jobs.{Drops, Part, Gets, Phase, AsksLock, AsksLook, Held, Seen, Unseen, Heard, Work, claims, closed_part, job_end, learns, listens, partner, talks, talks_on, took}
+use Rattle.node_model.specs.Jobs.{Drops, Part, Phase, AsksLock, AsksLook, Held, Seen, Heard, Work, closed_part, job_end, listens, partner, talks_on, took}
 use Rattle.node_model.specs.Look.{Made, waiting}
 use Rattle.node_model.specs.JobStep.{Turn, end_with, hears, me, quietly, talk}
 use Rattle.node_model.specs.Turns.{awaits, goes, goes_on, has_room, is_awaiting, needs, takes, takes_answer, takes_frame, takes_text, with_partner}

@@ -25,7 +25,7 @@ use Rattle.race_core.proofs.HeardAgrees.{by_phase, takes_other, takes_success}
 use Rattle.node_model.specs.SetUp.{SetUp}
 use Rattle.node_model.specs.Sessions.{line_in}
 use Rattle.node_model.specs.Jobs
-use Rattle.node_model.specs.Jobs.{AsksLock, AsksLook, Drops, Gets, Held, Part, Phase, Puts, Seen, Unseen, Work, job_end, partner, work_kind, heard_of}
+use Rattle.node_model.specs.Jobs.{AsksLock, AsksLook, Drops, Gets, Held, Part, Phase, Puts, Seen, Work, work_kind}
 use Rattle.run_model.specs.States.{rows_at, works}
 use Rattle.node_model.specs.Look.{Made, entry_of}
 use Rattle.node_model.specs.JobStep.{Turn, end_with, hears as hears_it, talk}

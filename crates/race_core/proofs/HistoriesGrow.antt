@@ -36,7 +36,7 @@ module _ (s : SetUp) (p : ℕ → List (List ℕ)) where
   come_paths : (past : List Entry) (lines : List (List ℕ)) (sent : List FrameView) (kind : EntryKind) → MayCome s (state_of s past) lines sent kind → MayCome (with_paths s p) (state_of (with_paths s p) past) lines sent kind
   come_paths past lines sent (Begin job what) h = let m = h.0 in (record { number_is = m.number_is; slot_free = m.slot_free; peer = peer_paths what.kind what.peer m.peer; valid = m.valid }, h.1, h.2)
   come_paths past lines sent (Gain Script size key) h = let m = h.0 in (record { absent = m.absent; unfilled = m.unfilled; fits = m.fits; small = m.small }, h.1, h.2)
-  come_paths past lines sent (Log file) h = let m = h.0 in (record { known = m.known; set = m.set; new = m.new }, h.1)
+  come_paths past lines sent (Log file) h = let m = h.0 in (record { path = m.path; known = m.known; set = m.set; new = m.new }, h.1)
   come_paths past lines sent (Compact file) h = let m = h.0 in (record { shrinks = m.shrinks }, h.1, h.2)
   come_paths past lines sent (Fault call Script) h = h
   come_paths past lines sent (Close peer slot client) h = h

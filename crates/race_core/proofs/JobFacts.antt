@@ -24,7 +24,7 @@ use Rattle.p2p_wire.specs.declared.message.Message.TheVariants.{AuthSuccess, Ver
 use Rattle.p2p_wire.specs.Messages.{order_of, message_of, text_of}
 use Rattle.node_model.specs.Sessions.{line_in, reaches}
 use Rattle.node_model.specs.Jobs
-use Rattle.node_model.specs.Jobs.{Part, Gets, Puts, Drops, Phase, Fresh, Next, Opens, Greets, GetsData, GetsBytes, GetsWord, PutsOffer, PutsBytes, PutsWord, PutsAnswer, AsksLock, AsksLook, AsksTime, Removed, Denied, Late, Ends, is_move, Work, job_end, partner, side_of}
+use Rattle.node_model.specs.Jobs.{Part, Gets, Puts, Drops, Phase, Fresh, Next, Opens, Greets, GetsData, GetsBytes, GetsWord, PutsOffer, PutsBytes, PutsWord, PutsAnswer, AsksLock, AsksLook, AsksTime, is_move, Work, job_end, partner, side_of}
 use Rattle.node_model.specs.Calls.{to_commit, to_hold, to_release}
 use Rattle.node_model.specs.Look.{Look, Made, failing, waiting}
 use Rattle.node_model.specs.SessionStep.{bytes_left}

@@ -1,14 +1,8 @@
 -- The lines that are kept of a log say what all lines say that were ever added to it.
-use Rattle.std.proofs.Common.{◌≡◌, ◌≢◌, ◌⊎◌, inl, inr, ℕ, Bool, true, false, not, ◌&&◌, ◌==◌, List, [], ◌∷◌, ◌++◌, take, drop, codes, Option, Some, None, refl, sym, ap, subst, ◌∙◌, true≢false}
-use Rattle.std.specs.List.{list_all}
+use Rattle.std.proofs.Common.{◌≡◌, ◌≢◌, ◌⊎◌, inl, inr, ℕ, true, false, List, [], ◌∷◌, ◌++◌, Option, Some, None, refl, sym, ap, ◌∙◌, true≢false}
 use Rattle.std.specs.Str.{bytes_eq}
 use Rattle.std.proofs.lemmas.Bool.{cases_Bool}
-use Rattle.std.proofs.lemmas.List.Folds.{list_all-append}
 use Rattle.std.proofs.lemmas.Slice.Eq.{bytes_eq-Decides}
-use Rattle.hex.specs.Hex.{encode_lower}
-use Rattle.md5.specs.Md5.{md5}
-use Rattle.annex_key.specs.KeyFile.{file_text}
-use Rattle.annex_key.specs.View.{unchunked_text}
 use Rattle.log_lines.specs.declared.entry.LogKind.{LogKind}
 use Rattle.log_lines.specs.declared.entry.LogKind.TheVariants as kinds
 use Rattle.log_lines.specs.Newest.{newest, ReadAlike}
@@ -25,9 +19,11 @@ use Rattle.run_data.specs.declared.entry.Entry.{Entry}
 use Rattle.run_data.specs.declared.entry.EntryKind.{EntryKind}
 use Rattle.run_data.specs.declared.entry.EntryKind.TheVariants.{Log, Compact}
 use Rattle.run_data.specs.declared.entry.LogFile.{LogFile}
-use Rattle.run_data.specs.declared.entry.LogFile.TheVariants.{Location, Named}
+use Rattle.run_data.specs.declared.entry.LogFile.TheVariants.{Location, Of, Other}
+use Rattle.run_data.specs.Files.{file_path, kind_of}
+use Rattle.run_data.proofs.FileLemmas.{apart, one_kind}
+use Rattle.node_model.specs.Files.{compact_lines}
 use Rattle.run_model.specs.Past.{is_of}
-use Rattle.node_model.specs.Files.{file_path, named_kinds, kind_named, kind_of, compact_lines}
 use Rattle.run_model.specs.Logs.{added_by, ever, compact_file, branch_after, branch, kept, settings_of}
 
 abbrev Lines : Type 0
@@ -42,72 +38,19 @@ bytes_eq_tells x y = elim (cases_Bool (bytes_eq x y)) [
 
 -- ---- a path tells the kind of its log
 
-not_slash : ℕ → Bool
-not_slash b = not (b == 47)
-
-has_slash-front : (xs ys : List ℕ) → list_all not_slash xs ≡ false → list_all not_slash (xs ++ ys) ≡ false
-has_slash-front xs ys h = list_all-append not_slash xs ys ∙ ap (λ b. b && list_all not_slash ys) h
-
-has_slash-back : (xs ys : List ℕ) → list_all not_slash ys ≡ false → list_all not_slash (xs ++ ys) ≡ false
-has_slash-back xs ys h = list_all-append not_slash xs ys ∙ ap (λ b. list_all not_slash xs && b) h ∙ and_false (list_all not_slash xs)
-  where
-    and_false : (b : Bool) → (b && false) ≡ false
-    and_false true = refl
-    and_false false = refl
-
-location_has_slash : (key : List ℕ) → list_all not_slash (location_path key) ≡ false
-unfolding not_slash
-location_has_slash key =
-    let digits = encode_lower (md5 (unchunked_text key)) in
-    let dirs = take 3 digits ++ 47 ∷ take 3 (drop 3 digits) in
-    let file = 47 ∷ file_text key in
-    has_slash-front (dirs ++ file) (codes ".log") (has_slash-back dirs file refl)
-
-name_has_no_slash : (kind : LogKind) → list_all not_slash (file_name kind) ≡ true
-unfolding not_slash
-name_has_no_slash kinds.Location = refl
-name_has_no_slash kinds.Trust = refl
-name_has_no_slash kinds.Uuid = refl
-name_has_no_slash kinds.Group = refl
-name_has_no_slash kinds.Preferred = refl
-name_has_no_slash kinds.Required = refl
-name_has_no_slash kinds.GroupPreferred = refl
-name_has_no_slash kinds.Numcopies = refl
-name_has_no_slash kinds.Mincopies = refl
-
--- no location log has the name of another log
-apart : (key : List ℕ) (kind : LogKind) → file_name kind ≡ location_path key → ⊥
-apart key kind same = true≢false (sym (name_has_no_slash kind) ∙ ap (list_all not_slash) same ∙ location_has_slash key)
-
-named_kind : (kind : LogKind) → kind ≢ kinds.Location → kind_named named_kinds (file_name kind) ≡ Some kind
-named_kind kinds.Location other = absurd (other refl)
-named_kind kinds.Trust other = refl
-named_kind kinds.Uuid other = refl
-named_kind kinds.Group other = refl
-named_kind kinds.Preferred other = refl
-named_kind kinds.Required other = refl
-named_kind kinds.GroupPreferred other = refl
-named_kind kinds.Numcopies other = refl
-named_kind kinds.Mincopies other = refl
-
-none_named : (ks : List LogKind) (key : List ℕ) → kind_named ks (location_path key) ≡ None
-none_named [] key = refl
-none_named (kind ∷ ks) key = elim (bytes_eq_tells (file_name kind) (location_path key)) [
-  | inl same ↦ absurd (apart key kind same.1)
-  | inr other ↦ rw other.0 (none_named ks key)
-]
-
 -- each file at the path is of this kind, or of none
 abbrev IsOf : LogKind → List ℕ → Type 0
 IsOf kind path = (file : LogFile) → file_path file ≡ path → (kind_of file ≡ Some kind) ⊎ (kind_of file ≡ None)
 
 name_is_of : (kind : LogKind) → kind ≢ kinds.Location → IsOf kind (file_name kind)
 name_is_of kind other (Location key) is = absurd (apart key kind (sym is))
-name_is_of kind other (Named name) is = inl (subst (λ p. kind_named named_kinds p ≡ Some kind) (sym is) (named_kind kind other))
+name_is_of kind other (Of k) is = inl (ap Some (one_kind k kind other is))
+name_is_of kind other (Other name) is = inr refl
 
 location_is_of : (key : List ℕ) → IsOf kinds.Location (location_path key)
 location_is_of key (Location k) is = inl refl
-location_is_of key (Named name) is = inr (ap (kind_named named_kinds) is ∙ none_named named_kinds key)
+location_is_of key (Of kind) is = absurd (apart key kind is)
+location_is_of key (Other name) is = inr refl
 
 -- ---- what is kept of a file reads as all of it
 

@@ -19,7 +19,7 @@ use Rattle.p2p_wire.specs.declared.message.Message.TheVariants.{AlreadyHave, Suc
 use Rattle.node_model.specs.Sessions.{line_in}
 use Rattle.node_model.specs.SetUp.{SetUp}
 use Rattle.node_model.specs.Jobs
-use Rattle.node_model.specs.Jobs.{AsksTime, Drops, Fresh, Gets, GetsWord, Orders, Part, Phase, Puts, PutsAnswer, PutsOffer, Rows, Work, claims, closed_part, fault_of, fault_phase, first_look, hears_frame, job_end, learns, listens, quiet, says, says_some, sends, side_of, talks, talks_on, target_of, took, took_line, unreleased, word_taken, work_kind, partner}
+use Rattle.node_model.specs.Jobs.{Drops, Phase, PutsAnswer, PutsOffer, Work, claims, learns, talks_on, took, work_kind, partner}
 use Rattle.run_model.specs.States.{rows_at, works}
 use Rattle.node_model.specs.Found.{JobKind}
 use Rattle.run_model.specs.Run.{OwnPast}

@@ -27,9 +27,9 @@ use Rattle.run_model.specs.States.{rows_at, works}
 use Rattle.node_model.specs.Sessions.{line_in}
 use Rattle.node_model.specs.Ends.{EndName, end_after}
 use Rattle.node_model.specs.Jobs
-use Rattle.node_model.specs.Jobs.{Drops, Ends, Fresh, Greets, Next, Opens, Part, Phase, Puts, PutsAnswer, PutsBytes, PutsOffer, PutsWord, Work, closed_part, first_part, job_end, partner, talks_on, transferred, work_kind}
+use Rattle.node_model.specs.Jobs.{Drops, Ends, Fresh, Greets, Next, Opens, Part, Phase, Puts, PutsAnswer, PutsOffer, Work, closed_part, first_part, job_end, talks_on, transferred, work_kind}
 use Rattle.node_model.specs.Look.{Made}
-use Rattle.node_model.specs.JobStep.{Turn, end_with, me, talk, wrong}
+use Rattle.node_model.specs.JobStep.{Turn, end_with, me, wrong}
 use Rattle.node_model.specs.JobStep
 use Rattle.node_model.specs.TransferStep.{takes_put}
 use Rattle.node_model.specs.Found.{JobKind}

@@ -18,7 +18,7 @@ use Rattle.p2p_wire.specs.Messages.{message_of}
 use Rattle.run_model.specs.Said.{Says, is_answer, message_in, said_line}
 use Rattle.node_model.specs.Ends.{End, EndName, end_after, end_sends, end_takes, end_took, may_take, taken_at, takes_at}
 use Rattle.node_model.specs.Jobs
-use Rattle.node_model.specs.Jobs.{Denied, Drops, Ends, Gets, Orders, Part, Phase, Puts, Removed, Rows, Work, job_end, partner, running, side_of, talks, talks_on, work_kind}
+use Rattle.node_model.specs.Jobs.{Denied, Drops, Ends, Orders, Phase, Removed, job_end, partner, side_of}
 use Rattle.node_model.specs.Calls.{to_release}
 use Rattle.node_model.specs.Look.{Made, waiting}
 use Rattle.node_model.specs.JobStep.{Turn, by_me, end_with, ends, farewells, hears, me, owns_share, quietly, talk, wrong}

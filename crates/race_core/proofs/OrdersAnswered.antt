@@ -30,7 +30,7 @@ use Rattle.node_model.specs.Sessions.{line_in}
 use Rattle.node_model.specs.Ends.{End, EndName, end_after, end_sends, end_takes, end_took, frames, sends_at, sent_at, taken_at, takes_at}
 use Rattle.run_model.specs.States.{end_at, rows_at, works, state_of}
 use Rattle.node_model.specs.Jobs
-use Rattle.node_model.specs.Jobs.{Denied, Drops, Ends, Gets, Orders, Part, Phase, Puts, Removed, Rows, Work, job_end, partner, running, side_of, talks, talks_on, work_kind}
+use Rattle.node_model.specs.Jobs.{Denied, Drops, Ends, Gets, Orders, Part, Phase, Puts, Removed, Work, job_end, partner, running, side_of, talks, talks_on, work_kind}
 use Rattle.node_model.specs.OwedStep.{owed_step}
 use Rattle.node_model.specs.SessionStep.{session_step}
 use Rattle.node_model.specs.JobStep.{Turn, by_me, end_with, me, talk, turn_of}

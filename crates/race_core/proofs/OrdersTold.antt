@@ -28,10 +28,10 @@ use Rattle.node_model.specs.Slots.{job_of}
 use Rattle.run_model.specs.Causes.{is_order}
 use Rattle.node_model.specs.SetUp.{SetUp}
 use Rattle.run_model.specs.States.{rows_at, works}
-use Rattle.node_model.specs.Ends.{end_after, frames}
+use Rattle.node_model.specs.Ends.{end_after}
 use Rattle.node_model.specs.Sessions.{line_in}
 use Rattle.node_model.specs.Jobs
-use Rattle.node_model.specs.Jobs.{AsksTime, Drops, Ends, Fresh, Gets, GetsBytes, GetsWord, Greets, Orders, Part, Phase, Puts, Rows, Work, claims, closed_part, fault_of, fault_phase, first_look, gets_bytes, gets_more, hears_frame, job_end, learns, listens, partner, put_from, puts_answer, puts_bytes, puts_more, quiet, running, says, says_some, sends, side_of, taken_message, talks, talks_on, target_of, took, took_line, transferred, unreleased, word_taken, work_kind}
+use Rattle.node_model.specs.Jobs.{AsksTime, Drops, Ends, Fresh, Gets, GetsBytes, GetsWord, Greets, Orders, Part, Phase, Puts, Rows, Work, claims, closed_part, fault_of, fault_phase, first_look, gets_bytes, hears_frame, job_end, learns, listens, partner, put_from, puts_answer, puts_bytes, quiet, says, says_some, sends, side_of, taken_message, talks, talks_on, target_of, took, took_line, transferred, unreleased, word_taken, work_kind}
 use Rattle.node_model.specs.JobStep.{Turn, wrong}
 use Rattle.node_model.specs.DropStep.{first_end, takes_time, times}
 use Rattle.node_model.specs.Turns.{takes_answer}
@@ -52,7 +52,7 @@ use Rattle.race_core.proofs.Speaks
 use Rattle.race_core.proofs.Makers.{taken_of}
 use Rattle.race_core.proofs.PhasesFit.{works_speak}
 use Rattle.race_core.proofs.OrdersSent.{SentOrder, orderer}
-use Rattle.race_core.proofs.OrdersAnswered.{Ordered, orders_stand}
+use Rattle.race_core.proofs.OrdersAnswered.{orders_stand}
 use Rattle.race_core.proofs.HeardTells.{made_as, stepped_own}
 
 -- ---- a phase that has ordered

@@ -20,7 +20,7 @@ use Rattle.p2p_wire.specs.Messages.{message_of}
 use Rattle.run_model.specs.Drops.{cause_own}
 use Rattle.node_model.specs.Sessions.{line_in}
 use Rattle.node_model.specs.Jobs
-use Rattle.node_model.specs.Jobs.{AsksLook, Drops, Fresh, Heard, Lacks, Part, Phase, Rows, Unseen, Work, claims, fault_of, fault_phase, first_look, hears_frame, job_end, learns, partner, quiet, sends, side_of, taken_message, talks, talks_on, took, took_line, work_kind}
+use Rattle.node_model.specs.Jobs.{AsksLook, Drops, Fresh, Heard, Lacks, Part, Phase, Rows, Work, claims, fault_of, fault_phase, first_look, hears_frame, learns, partner, quiet, side_of, taken_message, talks, talks_on, took, took_line, work_kind}
 use Rattle.node_model.specs.Look.{Made}
 use Rattle.node_model.specs.JobStep.{Turn, hears}
 use Rattle.node_model.specs.Turns.{takes_answer, takes_frame}

@@ -18,7 +18,7 @@ use Rattle.p2p_wire.specs.Messages.{message_of}
 use Rattle.node_model.specs.Sessions.{line_in}
 use Rattle.node_model.specs.Ends.{end_after}
 use Rattle.node_model.specs.Jobs
-use Rattle.node_model.specs.Jobs.{AsksTime, Drops, Fresh, Gets, GetsWord, Orders, Part, Phase, Puts, PutsAnswer, PutsOffer, Rows, Work, claims, closed_part, fault_of, fault_phase, first_look, hears_frame, job_end, learns, listens, quiet, says, says_some, sends, side_of, talks, talks_on, target_of, took, took_line, unreleased, word_taken, work_kind}
+use Rattle.node_model.specs.Jobs.{AsksTime, Drops, Fresh, Gets, GetsWord, Orders, Part, Phase, Puts, PutsAnswer, PutsOffer, Rows, Work, closed_part, fault_of, fault_phase, first_look, hears_frame, job_end, listens, quiet, says, says_some, sends, side_of, talks, talks_on, target_of, took, took_line, unreleased, word_taken}
 use Rattle.race_core.proofs.Cases.{if_found}
 
 -- the answers by which the peer has the content

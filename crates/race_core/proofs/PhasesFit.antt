@@ -12,7 +12,7 @@ use Rattle.p2p_wire.proofs.MessageFacts.{sent_back}
 use Rattle.node_model.specs.SetUp.{SetUp}
 use Rattle.node_model.specs.AnyTime.{IsPeer}
 use Rattle.node_model.specs.Jobs
-use Rattle.node_model.specs.Jobs.{Drops, Work, job_end, new_work, side_of, target_of}
+use Rattle.node_model.specs.Jobs.{Drops, Work, side_of, target_of}
 use Rattle.run_model.specs.States.{works, state_of}
 use Rattle.node_model.specs.Look.{Look}
 use Rattle.node_model.specs.JobStep.{turn_of}

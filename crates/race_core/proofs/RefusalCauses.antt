@@ -23,13 +23,13 @@ use Rattle.node_model.specs.Slots.{Running}
 use Rattle.run_model.specs.Past.{clock, holds}
 use Rattle.node_model.specs.Rows.{blocks}
 use Rattle.run_model.specs.Causes
-use Rattle.run_model.specs.Causes.{Answers, AtFirst, FailedCall, FoundAbsent, FoundBarred, FoundHeld, FoundNotHere, HadFault, JobOf, WasBusy, puts}
+use Rattle.run_model.specs.Causes.{AtFirst, FailedCall, FoundAbsent, FoundBarred, FoundHeld, FoundNotHere, HadFault, JobOf, puts}
 use Rattle.run_model.specs.Logs.{is_step}
 use Rattle.node_model.specs.SetUp.{SetUp, slots}
 use Rattle.run_model.specs.States.{state_of, works}
 use Rattle.node_model.specs.AnyTime.{IsPeer}
 use Rattle.node_model.specs.Jobs.{Denied, Drops, Ends, Fresh, Late, Phase, Removed, Work, running, side_of}
-use Rattle.node_model.specs.Look.{Look, Made}
+use Rattle.node_model.specs.Look.{Look}
 use Rattle.node_model.specs.Knows.{obeyed, proof_by}
 use Rattle.node_model.specs.JobStep.{Turn}
 use Rattle.node_model.specs.DropStep

@@ -29,7 +29,7 @@ use Rattle.run_model.specs.Causes.{Answers, FailedCall, Hears, side_by, target_b
 use Rattle.node_model.specs.SetUp.{SetUp}
 use Rattle.node_model.specs.Sessions.{line_in}
 use Rattle.node_model.specs.Jobs
-use Rattle.node_model.specs.Jobs.{AsksTime, Denied, Drops, Ends, Fresh, Gets, Greets, Late, Next, Orders, Phase, Part, Puts, PutsAnswer, PutsOffer, Work, job_end, partner, running, work_kind}
+use Rattle.node_model.specs.Jobs.{AsksTime, Denied, Ends, Late, Orders, Phase, Work, partner, running}
 use Rattle.run_model.specs.Run.{OwnPast}
 use Rattle.race_core.proofs.JobSteps.{Stepped, stepped_job}
 use Rattle.race_core.proofs.ClientCounts.{LastIs, Request, and_left, request}

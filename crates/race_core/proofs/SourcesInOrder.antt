@@ -24,7 +24,7 @@ use Rattle.node_model.specs.SetUp.{SetUp}
 use Rattle.node_model.specs.Ends.{end_after}
 use Rattle.node_model.specs.Sessions.{line_in}
 use Rattle.node_model.specs.Jobs
-use Rattle.node_model.specs.Jobs.{AsksTime, Drops, Ends, Fresh, Gets, GetsBytes, GetsWord, Greets, Orders, Part, Phase, Puts, Rows, Work, claims, closed_part, fault_of, fault_phase, first_look, gets_bytes, gets_more, hears_frame, job_end, learns, listens, partner, put_from, puts_answer, puts_bytes, puts_more, quiet, running, says, says_some, sends, side_of, taken_message, talks, talks_on, target_of, took, took_line, transferred, unreleased, word_taken, work_kind}
+use Rattle.node_model.specs.Jobs.{AsksTime, Drops, Ends, Fresh, Gets, GetsBytes, GetsWord, Greets, Orders, Part, Phase, Puts, Rows, Work, claims, closed_part, fault_of, fault_phase, first_look, gets_bytes, gets_more, hears_frame, job_end, learns, listens, partner, put_from, puts_answer, puts_bytes, puts_more, quiet, says, says_some, sends, side_of, taken_message, talks, talks_on, target_of, took, took_line, transferred, unreleased, word_taken, work_kind}
 use Rattle.run_model.specs.States.{rows_at, works}
 use Rattle.node_model.specs.JobStep.{Turn}
 use Rattle.run_model.specs.Run.{OwnPast, OwnRun}

@@ -31,7 +31,7 @@ use Rattle.race_core.proofs.LogLemmas.{bytes_eq_tells}
 use Rattle.node_model.specs.SetUp.{SetUp}
 use Rattle.run_model.specs.States.{state_of, rows_at, works}
 use Rattle.node_model.specs.Jobs
-use Rattle.node_model.specs.Jobs.{AsksTime, Denied, Drops, Ends, Fresh, Greets, Late, Next, Orders, Part, Phase, Puts, PutsAnswer, PutsOffer, Work, partner, running, work_kind}
+use Rattle.node_model.specs.Jobs.{AsksTime, Denied, Drops, Ends, Greets, Late, Next, Orders, Phase, PutsOffer, Work, partner, running, work_kind}
 use Rattle.node_model.specs.Look.{Made}
 use Rattle.node_model.specs.JobStep.{Turn, end_with}
 use Rattle.node_model.specs.Knows.{knows_enough, next_of}

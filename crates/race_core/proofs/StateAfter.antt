@@ -14,7 +14,8 @@ use Rattle.node_model.specs.Clocks.{ClockSet, runs_on}
 use Rattle.run_model.specs.Past.{bar, begun, clock_set, holds, is_of, made, present, set_after}
 use Rattle.node_model.specs.Slots.{is_begin}
 use Rattle.run_model.specs.Logs.{branch, branch_after, compact_file, kept}
-use Rattle.node_model.specs.Files.{compact_lines, file_path, kind_of, lines_after}
+use Rattle.node_model.specs.Files.{compact_lines, lines_after}
+use Rattle.run_data.specs.Files.{file_path, kind_of}
 use Rattle.race_core.proofs.LogLemmas.{bytes_eq_tells, kept_reads_as_ever}
 use Rattle.node_model.specs.SetUp.{SetUp}
 use Rattle.run_model.specs.States.{end_at, content, session, works, owes, state_of}

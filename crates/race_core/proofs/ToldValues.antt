@@ -32,10 +32,9 @@ use Rattle.node_model.specs.SetUp.{SetUp}
 use Rattle.node_model.specs.Sessions.{line_in}
 use Rattle.run_model.specs.States.{end_at, rows_at, works}
 use Rattle.node_model.specs.Jobs
-use Rattle.node_model.specs.Jobs.{AsksLook, Drops, Fresh, Heard, Lacks, Orders, Part, Phase, Unseen, Work, heard_of, job_end, partner, running, side_of, target_of, work_kind}
+use Rattle.node_model.specs.Jobs.{AsksLook, Drops, Fresh, Heard, Lacks, Orders, Part, Phase, Unseen, Work, job_end, partner, running, side_of, target_of, work_kind}
 use Rattle.node_model.specs.Knows.{cause_heard, cause_of_word, heard_offer}
 use Rattle.run_model.specs.Words.{awaits_word, word_of, word_of_kind, word_told}
-use Rattle.node_model.specs.JobStep.{talk}
 use Rattle.run_model.specs.Run.{OwnPart, OwnPast, OwnRun, RunPast, RunStep, set_up}
 use Rattle.race_core.proofs.Plain.{and_true, eqb_refl, eqb_true, some_inj}
 use Rattle.race_core.proofs.BySteps.{earlier}
@@ -55,7 +54,7 @@ use Rattle.race_core.proofs.Makers.{TakenBy, taken_of, taker}
 use Rattle.race_core.proofs.ClientCounts.{LastIs, Request, request}
 use Rattle.race_core.proofs.ClientWays.{asked_by}
 use Rattle.race_core.proofs.ClientAwaits.{taken_last}
-use Rattle.race_core.proofs.HeardLists.{Changed, ClosedAt, FrameTold, OwnLacks, kind_changed, share_or, talker_is}
+use Rattle.race_core.proofs.HeardLists.{Changed, kind_changed, share_or, talker_is}
 use Rattle.race_core.proofs.HeardSteps.{moved_listens}
 use Rattle.race_core.proofs.ClientLeaves.{Taking}
 use Rattle.race_core.proofs.Decisions.{runs_begun, stepped_of}

@@ -21,7 +21,7 @@ use Rattle.p2p_wire.specs.Messages.{message_of}
 use Rattle.node_model.specs.Ends.{EndName, end_after, end_sends, end_took, frames, sent_at, taken_at}
 use Rattle.node_model.specs.Sessions.{line_in}
 use Rattle.node_model.specs.Jobs
-use Rattle.node_model.specs.Jobs.{Drops, Fresh, Gets, Next, Part, Phase, Puts, PutsAnswer, PutsOffer, Rows, Work, claims, closed_part, first_look, hears_frame, is_move, job_end, learns, listens, partner, quiet, talks, talks_on, took, took_line, transferred, work_kind}
+use Rattle.node_model.specs.Jobs.{Drops, Fresh, Gets, Part, Phase, Puts, PutsAnswer, PutsOffer, Work, claims, closed_part, first_look, hears_frame, is_move, job_end, learns, listens, partner, quiet, talks, talks_on, took, took_line, transferred}
 use Rattle.node_model.specs.Look.{Made}
 use Rattle.node_model.specs.JobStep.{Turn, end_with, is_there, me}
 use Rattle.node_model.specs.TransferStep.{next_source}

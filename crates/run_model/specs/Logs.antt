@@ -21,7 +21,8 @@ use Rattle.p2p_wire.specs.declared.message.Message.TheVariants.{AlreadyHave, Suc
 use Rattle.run_model.specs.Said.{Said, Says, message_in}
 use Rattle.node_model.specs.Slots.{job_by, job_of}
 use Rattle.run_model.specs.Frames.{last_request, said_of, up_of, way_of}
-use Rattle.node_model.specs.Files.{file_path, kind_of, compact_lines}
+use Rattle.run_data.specs.Files.{file_path, kind_of}
+use Rattle.node_model.specs.Files.{compact_lines}
 use Rattle.node_model.specs.Look.{first_of}
 
 -- ---- every line ever added
