@@ -20,7 +20,6 @@ use Rattle.run_model.specs.Run.{IsRun}
 use Rattle.race_core.specs.Places.{claim_at, count_at, removal_at, removals_at}
 use Rattle.race_core.proofs.Lists.{all-Member}
 use Rattle.race_core.proofs.Changes.{bytes_refl}
-use Rattle.race_core.proofs.Flights.{some_inj}
 use Rattle.race_core.proofs.Pasts.{past_more}
 use Rattle.race_core.proofs.FromStep.{runs_are_safe}
 
@@ -75,12 +74,12 @@ pub trusted_left : (run : Run) (key : List ℕ) (place : ℕ) (e : Entry) (x : R
     → Member item x.items → is_trusted item.kind ≡ true → claim_at run key (place + 1) item.repo ≡ true
 trusted_left run key place e x item h at is m l = stands_trusted run.repos (past_at run (place + 1)) key item l (item_stands run key place e x item h at is m)
 
-judged_some : (o : Option Removal) → judged o ≡ true → (x : Removal) × (o ≡ Some x) × (is_enough x.side x.need x.items ≡ true) × ((y : Removal) → o ≡ Some y → y ≡ x)
+judged_some : (o : Option Removal) → judged o ≡ true → (x : Removal) × (o ≡ Some x) × (is_enough x.side x.need x.items ≡ true)
 judged_some None h = cc
-judged_some (Some x) h = (x, refl, h, λ y e. some_inj y x (sym e))
+judged_some (Some x) h = (x, refl, h)
 
 pub one_drop : (run : Run) (key : List ℕ) (place : ℕ) (e : Entry) (by : By) → IsRun run → slice_get run.entries place ≡ Some e → e.kind ≡ Gone by key
-    → (x : Removal) × (removal_at run key place e ≡ Some x) × (is_enough x.side x.need x.items ≡ true) × ((y : Removal) → removal_at run key place e ≡ Some y → y ≡ x)
+    → (x : Removal) × (removal_at run key place e ≡ Some x) × (is_enough x.side x.need x.items ≡ true)
 one_drop run key place e by h at kind = judged_some (removal_at run key place e) own
   where
     own : judged (removal_at run key place e) ≡ true

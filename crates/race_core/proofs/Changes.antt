@@ -224,7 +224,7 @@ lasts-other number until m owner key e x k = go (x.number == m) refl
     go false f = refl
     go true f = let same : x.number ≡ m = eqb_true x.number m f in let it : m ≡ number = cc in let not_so : (number == number) ≡ false = rw it at e in absurd (true≢false (sym (eqb_refl number) ∙ not_so))
 
-same_owner_true : (a b : By) → same_owner a b ≡ true → a ≡ b
+pub same_owner_true : (a b : By) → same_owner a b ≡ true → a ≡ b
 same_owner_true Script Script e = refl
 same_owner_true (by_job i) (by_job j) e = ap (λ x. by_job x) (eqb_true i j e)
 same_owner_true (Peer p s) (Peer q t) e = let w = and_true (p == q) (s == t) e in let one : p ≡ q = eqb_true p q w.0 in let two : s ≡ t = eqb_true s t w.1 in cc

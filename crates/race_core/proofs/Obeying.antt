@@ -171,7 +171,7 @@ taken_count : (repos : List RepoView) (past : List Entry) (w : Way) → MessageP
 taken_count repos past w run = let t = taken_of is_answer past w (prefixes repos past w run) in
     subst (λ n. n ≤ length (answers past w)) (sym t.count) (filter_take (of_flying is_answer) (taken past w) (sent past w))
 
-ordered_open : (repos : List RepoView) (past : List Entry) (e : Entry) (r a : ℕ) (key : List ℕ) (k : Takes repos past e r a key) → (t : MayTake past (way_of r k.f) k.f) → (o : Ordered repos past r a key k.f k.deadline t.it) → done past a o.j ≡ false
+pub ordered_open : (repos : List RepoView) (past : List Entry) (e : Entry) (r a : ℕ) (key : List ℕ) (k : Takes repos past e r a key) → (t : MayTake past (way_of r k.f) k.f) → (o : Ordered repos past r a key k.f k.deadline t.it) → done past a o.j ≡ false
 ordered_open repos past e r a key k t o = elim (true_or_false (done past a o.j)) [ inl h ↦ absurd (ended (done_occurs past a o.j h)) | inr h ↦ h ]
   where
     w : Way

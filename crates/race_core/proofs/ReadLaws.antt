@@ -53,7 +53,7 @@ need_of_removal run key place r j x h w is =
 
 -- ---- evidence, in any run
 
-evidence_asked : (side : Side) (repos : List RepoView) (past : List Entry) (a j target : ℕ) (need : Need) → Each (λ i. asked repos past a j i.repo ≡ Gives i.kind) (evidence side repos past a j target need)
+pub evidence_asked : (side : Side) (repos : List RepoView) (past : List Entry) (a j target : ℕ) (need : Need) → Each (λ i. asked repos past a j i.repo ≡ Gives i.kind) (evidence side repos past a j target need)
 evidence_asked side repos past a j target need =
     evidence_each (λ i. asked repos past a j i.repo ≡ Gives i.kind) (λ c. Unit {0}) side repos past a j target need (λ c kind u g. g) (Each-any (candidates side (length repos) a target))
 

@@ -3,4 +3,6 @@ pub mod Heard
 pub mod Own
 pub mod Places
 pub mod Readings
+pub mod Removals
+pub mod Locks
 pub mod Merged

@@ -2,25 +2,20 @@
 
 ghost use Rattle.std.specs.Prelude.{◌≡◌, ◌≢◌, ℕ, ◌+◌, ◌<◌, ◌≤◌, true, List, Some, slice_get};
 ghost use Rattle.annex_base.specs.declared.kinds.Level.TheVariants as levels;
-ghost use Rattle.drop_proof.specs.Judging.{is_enough};
 ghost use Rattle.drop_proof.specs.declared.evidence.Evidence.{Evidence};
-ghost use Rattle.run_data.specs.declared.entry.By.{By};
 ghost use Rattle.run_data.specs.declared.entry.Entry.{Entry};
-ghost use Rattle.run_data.specs.declared.entry.EntryKind.TheVariants.{Bar, Gone};
 ghost use Rattle.run_data.specs.declared.run.Run.{Run};
 ghost use Rattle.run_model.specs.Causes.{HasCauses};
 ghost use Rattle.run_model.specs.Logs.{ever, kept, need_read, settings_of};
 ghost use Rattle.node_model.specs.Evidence.{is_locked, is_trusted};
 ghost use Rattle.annex_base.specs.Lists.{Member};
-ghost use Rattle.run_model.specs.Past.{is_of, present};
+ghost use Rattle.run_model.specs.Past.{present};
 ghost use Rattle.run_model.specs.Safety.{IsSafe, Removal, least_need, past_at, within};
-ghost use Rattle.run_model.specs.Frames.{Way};
-ghost use Rattle.race_core.specs.Merged.{Letter, MayMerge, merged};
 ghost use Rattle.run_model.specs.Run.{IsRun};
 ghost use Rattle.race_core.specs.Lawful.{IsLawful};
 ghost use Rattle.race_core.specs.Places.{claim_at, count_at, removal_at, removals_at};
-ghost use Rattle.race_core.specs.Readings.{IsLocalRemoval, IsReadBefore, Judge, claim_read, judge_at, key_read, level_read};
-ghost use Rattle.trust_groups.specs.Settings.{mincopies, numcopies, settings};
+ghost use Rattle.race_core.specs.Readings.{IsLocalRemoval, Judge, claim_read, judge_at, key_read, level_read};
+ghost use Rattle.trust_groups.specs.Settings.{settings};
 
 /// Each run is lawful: every entry finds what it has to.
 pub fn runs_are_lawful()
@@ -31,13 +26,6 @@ pub fn runs_are_lawful()
 /// its drop's evidence, and is one drop's (git-annex-mincopies).
 pub fn runs_are_safe()
     ensures { (run : Run) → IsRun run → IsSafe run }
-{}
-
-/// What repositories added each alone, behind a run, and merged in order of time, count and number, is a run: where each
-/// has made its entries as its own history allows, and each letter that it took comes from its sender's, in order.
-pub fn merged_histories_are_runs()
-    ensures { (run : Run) (news : List (List Entry)) (got : ℕ → Way → List Letter)
-        → IsRun run → MayMerge run news got → IsRun (merged run news) }
 {}
 
 /// Each lawful run is safe, whichever way its repositories talk (git-annex-mincopies).
@@ -67,16 +55,6 @@ pub fn drops_leave_their_evidence()
         → claim_at run key (place + 1) item.repo ≡ true }
 {}
 
-/// Each entry that takes a key away is the removal of exactly one drop, and the evidence of this drop was enough for
-/// what it needed, by the rule of `judge` in the crate `drop_proof` (git-annex-numcopies, git-annex-mincopies).
-pub fn each_removal_is_one_drops()
-    ensures { (run : Run) (key : List ℕ) (place : ℕ) (e : Entry) (by : By)
-        → IsRun run → slice_get run.entries place ≡ Some e → e.kind ≡ Gone by key
-        → (x : Removal) × (removal_at run key place e ≡ Some x)
-        × (is_enough x.side x.need x.items ≡ true)
-        × ((y : Removal) → removal_at run key place e ≡ Some y → y ≡ x) }
-{}
-
 /// What the lines that a repository keeps say is what all lines say that were ever added to its logs, whatever the entries
 /// are: a compaction, whenever it comes, changes nothing that a drop reads (git-annex internals: branch files).
 pub fn kept_lines_read_as_all()
@@ -104,10 +82,17 @@ pub fn ignored_never_count()
         → is_trusted item.kind ≡ true → claim_read run judge (key_read judge) item.repo ≡ true }
 {}
 
-/// The need of a local removal is what the logs of its repository gave as its drop read them (git-annex-numcopies,
-/// git-annex-mincopies).
+/// The need of a removal is what the logs of the repository that judged gave at its drop's first step, whichever side it
+/// removes on: of a removal by an order, the logs of the repository that sent it. The removal is of the key of the drop's
+/// job, as it stood then (git-annex-numcopies, git-annex-mincopies).
 pub fn drops_read_their_need()
-    ensures { (run : Run) (key : List ℕ) (place r j : ℕ) (x : Removal) → IsRun run
+    ensures judged { (run : Run) (key : List ℕ) (place : ℕ) (e : Entry) (x : Removal) (judge : Judge)
+        → IsRun run → slice_get run.entries place ≡ Some e → removal_at run key place e ≡ Some x
+        → judge_at run place e ≡ Some judge → x.need ≡ need_read judge.past judge.repo judge.job }
+    ensures key { (run : Run) (key : List ℕ) (place : ℕ) (e : Entry) (x : Removal) (judge : Judge)
+        → IsRun run → slice_get run.entries place ≡ Some e → removal_at run key place e ≡ Some x
+        → judge_at run place e ≡ Some judge → key_read judge ≡ key }
+    ensures local { (run : Run) (key : List ℕ) (place r j : ℕ) (x : Removal) → IsRun run
         → (w : IsLocalRemoval run key place r j) → removal_at run key place w.entry ≡ Some x
         → x.need ≡ need_read (past_at run place) r j }
 {}
