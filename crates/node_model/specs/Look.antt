@@ -1,0 +1,72 @@
+-- What a turn finds beside the repository's own past, and what it makes of it.
+use Rattle.std.specs.Prelude.{ℕ, Bool, ◌&&◌, ◌==◌, if◌then◌else◌, List, [], ◌∷◌, Option, Some, None, find}
+use Rattle.std.specs.List.{list_any}
+use Rattle.annex_base.specs.declared.kinds.Call.TheVariants.{PutFile}
+use Rattle.run_data.specs.declared.entry.Entry.{Entry}
+use Rattle.run_data.specs.declared.entry.EntryKind.{EntryKind}
+use Rattle.run_data.specs.declared.entry.FrameView.{FrameView}
+use Rattle.annex_base.specs.declared.kinds.Call.{Call}
+use Rattle.annex_base.specs.declared.kinds.Call.TheVariants as calls
+use Rattle.annex_base.specs.declared.kinds.Word.{Word}
+use Rattle.node_model.specs.Ends.{EndName, End, may_take, takes_at}
+
+abbrev pub first_of : {X : Type 0} → Option X → Option X → Option X
+first_of None other = other
+first_of (Some x) other = Some x
+
+pub record Look : Type 0 where
+  pub time : ℕ
+  pub count : ℕ
+  pub at_hand : List FrameView  -- the first frame at each end that has one
+  pub room : EndName → Bool  -- the ends that have room for a frame and a Close
+  pub fails : Option Call  -- the store call that fails
+  pub part : ℕ  -- the size of the part that the step asks for, and whether it matches its key
+  pub right : Bool
+  pub words : ℕ → Option Word  -- at a job's end: the words beside what each repository answered it
+
+-- the entry, but for its time, its count and its repository
+pub record Made : Type 0 where
+  pub kind : EntryKind
+  pub taken : Option FrameView
+  pub sent : List FrameView
+  pub lines : List (List ℕ)
+
+abbrev pub entry_of : ℕ → Look → Made → Entry
+entry_of r k m = record { time = k.time; count = k.count; repo = Some r; kind = m.kind; taken = m.taken; sent = m.sent; lines = m.lines }
+
+-- the frame that waits at an end that stands so
+abbrev pub waiting : End → Look → EndName → Option FrameView
+waiting c k a = find (λ f. takes_at a f && may_take c f) k.at_hand
+
+abbrev pub first_some : {X Y : Type 0} → (X → Option Y) → List X → Option Y
+first_some f [] = None
+first_some f (x ∷ xs) = first_of (f x) (first_some f xs)
+
+abbrev pub call_number : Call → ℕ
+call_number calls.Has = 0
+call_number calls.Size = 1
+call_number calls.Read = 2
+call_number calls.PartSize = 3
+call_number calls.ReadPart = 4
+call_number calls.Append = 5
+call_number calls.Commit = 6
+call_number calls.DropPart = 7
+call_number calls.Remove = 8
+call_number calls.Hold = 9
+call_number calls.Unhold = 10
+call_number calls.Holds = 11
+call_number calls.PutFile = 12
+call_number calls.File = 13
+
+abbrev pub same_call : Call → Call → Bool
+same_call c d = call_number c == call_number d
+
+-- the one of these calls that fails
+abbrev pub failing : Option Call → List Call → Option Call
+failing None cs = None
+failing (Some c) cs = if list_any (same_call c) cs then Some c else None
+
+-- what is made where a call fails, and else
+abbrev pub unless : {X : Type 0} → Option Call → (Call → X) → X → X
+unless None fault x = x
+unless (Some c) fault x = fault c

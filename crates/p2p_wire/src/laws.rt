@@ -1,0 +1,17 @@
+//! The laws of messages and lines. Each is the contract of a function that does nothing.
+
+ghost use Rattle.std.specs.Prelude.{◌≡◌, ℕ, ◌≤◌, List, length, Some};
+ghost use Rattle.p2p_wire.specs.declared.message.Message.{Message};
+ghost use Rattle.p2p_wire.specs.Messages.{IsShort, IsWire, message_of, text_of};
+
+/// Each message that is sent is read from its line, which has at most 8,192 bytes (git-annex P2P protocol; the limit is
+/// the project's own).
+pub fn sent_messages_are_read()
+    ensures read { (m : Message) → IsWire m → IsShort m → message_of (text_of m) ≡ Some m }
+    ensures short { (m : Message) → IsWire m → IsShort m → length (text_of m) ≤ 8192 }
+{}
+
+/// A line that is read as a message is that message's line (git-annex P2P protocol).
+pub fn lines_have_one_message()
+    ensures { (line : List ℕ) (m : Message) → message_of line ≡ Some m → text_of m ≡ line }
+{}

@@ -1,0 +1,102 @@
+-- In a run the answer that a job takes was sent by the entry of the server that took the job's last request on that way, and is one
+-- that the request may have.
+use Rattle.std.proofs.Common.{◌≡◌, ℕ, true, false, List, [], ◌∷◌, length, Some, inl, inr, refl, sym, ap, ◌∙◌, subst}
+use Rattle.std.specs.Prelude.{slice_get}
+use Rattle.annex_base.specs.Lists.{Each}
+use Rattle.run_data.specs.declared.entry.Entry.{Entry}
+use Rattle.run_data.specs.declared.entry.EntryKind.{EntryKind}
+use Rattle.run_data.specs.declared.entry.FrameView.{FrameView}
+use Rattle.run_data.specs.declared.run.Run.{Run}
+use Rattle.run_data.specs.Repos.{IsSetUp}
+use Rattle.run_model.specs.Past.{Occurs, is_of}
+use Rattle.p2p_wire.specs.declared.message.Message.{Message}
+use Rattle.p2p_wire.specs.declared.message.Message.TheVariants.{Failure, Put, Remove, RemoveBefore, Valid}
+use Rattle.run_model.specs.Said.{Says, is_answer, is_request, message_in}
+use Rattle.run_model.specs.Frames.{Flying, MayTake, answers, last_request, said_of, sender_of, sent, taken, taken_if, up_of, way_from, way_of}
+use Rattle.run_model.specs.Run.{RunPast, RunStep, set_up}
+use Rattle.race_core.proofs.SaidDown.{Alike}
+use Rattle.race_core.proofs.SessionAnswers.{AnswerFits, Answering}
+use Rattle.race_core.proofs.Flights.{sending, some_inj}
+use Rattle.race_core.proofs.Turns.{right_turn}
+use Rattle.race_core.proofs.Told.{message_at, one_answers, prefixes, sends_member, sends_on, up_at, way_sent, way_up}
+use Rattle.race_core.proofs.AnswerCauses.{FailsFor, FailuresFit}
+use Rattle.race_core.proofs.AnswersTurn.{answers_turn, is_plain, plain_completes}
+use Rattle.race_core.proofs.FromStep.{meets, message_past, own_past, part_of}
+
+-- what stands at an entry of a run
+pub step_at : (run : Run) (past : List Entry) (x : Entry) (before : List Entry) → RunPast (set_up run) past → Occurs past x before → RunStep (set_up run) before x × RunPast (set_up run) before
+step_at run [] x before h o = absurd o
+step_at run (e ∷ past) x before h (inl o) = subst (λ (p : List Entry). RunStep (set_up run) p x × RunPast (set_up run) p) (sym o.1) (subst (λ (y : Entry). RunStep (set_up run) past y) (sym o.0) h.0, h.1)
+step_at run (e ∷ past) x before h (inr o) = step_at run past x before h.1 o
+
+-- **the last request was taken by the sender of the answer**
+pub record AnswerOf (past : List Entry) (a : ℕ) (f : FrameView) (it : Flying) (k : Message) : Type 0 where
+  pub request : Flying
+  pub last : last_request past (up_of (way_of a f)) ≡ Some request
+  pub asked : Message
+  pub asked_is : said_of request ≡ Says asked
+  pub answering : Answering asked it.entry.kind k
+
+module _ (run : Run) (repos : Each IsSetUp run.repos) where
+  -- of an answer that is neither to an opening nor to GET
+  pub answer_of : (past : List Entry) (e : Entry) (a : ℕ) (f : FrameView) (k : Message) → RunPast (set_up run) past → RunStep (set_up run) past e → is_of a e ≡ true → e.taken ≡ Some f → f.up ≡ false
+      → message_in f.body ≡ Says k → is_plain k ≡ true → (t : MayTake past (way_of a f) f) → AnswerOf past a f t.it k
+  answer_of past e a f k h step is takes up says' plain t =
+      let w = way_of a f in
+      let x = t.it.entry in
+      let before = t.it.before in
+      let r = sender_of w in
+      let all = message_past run repos past h in
+      let s = sending past w (taken past w) t.it t.next in
+      let at = step_at run past x before h s.occurs in
+      let part = part_of (set_up run) before x r at.0 s.repo_is in
+      let g_up : t.it.frame.up ≡ false = up_at w x t.it.frame false s.sends up in
+      let g_says : message_in t.it.frame.body ≡ Says k = message_at t.it.frame.body f.body (Says k) t.body_is says' in
+      let turn = answers_turn (set_up run r) before part.words x t.it.frame k (own_past run repos r before at.1) part.own (sends_member w x t.it.frame s.sends) g_up g_says plain in
+      let way : way_from r t.it.frame ≡ w = way_sent w t.it.frame (sends_on w x t.it.frame s.sends) in
+      let up_way : way_of r turn.f ≡ up_of w = way_up r turn.f t.it.frame w way turn.back turn.from_client in
+      let asked' : MayTake before (way_of r turn.f) turn.f = part.frames.takes turn.f turn.takes_it in
+      let asked : MayTake before (up_of w) turn.f = subst (λ v. MayTake before v turn.f) up_way asked' in
+      let turn' : length (answers before w) ≡ taken_if is_request before (up_of w) =
+      subst (λ v. length (answers before v) ≡ taken_if is_request before (up_of w)) way (subst (λ v. length (answers before (way_from r t.it.frame)) ≡ taken_if is_request before v) up_way turn.turn) in
+      let answer : is_answer (message_in f.body) ≡ true = ap is_answer says' ∙ plain_completes k plain in
+      let awaits = ((meets run repos past e h step).own a is).awaits f takes up answer in
+      record {
+        request = asked.it;
+        last = right_turn past w f turn.f (prefixes run.repos past w all) (prefixes run.repos past (up_of w) all) (one_answers run.repos past w all) t answer awaits turn' asked turn.request;
+        asked = turn.asked;
+        asked_is = message_at asked.it.frame.body turn.f.body (Says turn.asked) asked.body_is turn.asked_is;
+        answering = turn.answering;
+      }
+
+-- ---- FAILURE
+
+alike_failure : (m : Message) → Alike m Failure → m ≡ Failure
+alike_failure Failure h = refl
+alike_failure m h = absurd h
+
+pub failure_fits : (asked : Message) (kind : EntryKind) → Answering asked kind Failure → AnswerFits asked kind Failure
+failure_fits asked kind x = subst (AnswerFits asked kind) (alike_failure x.m x.alike) x.fits
+
+fails_for : (asked : Message) (kind : EntryKind) → AnswerFits asked kind Failure → FailsFor (Says asked) kind
+fails_for (Remove key) kind x = x
+fails_for (RemoveBefore n key) kind x = x
+fails_for (Put file key) kind x = x
+fails_for Valid kind x = x
+fails_for asked kind x = tt
+
+module _ (run : Run) (repos : Each IsSetUp run.repos) where
+  -- what a FAILURE that a job takes answers
+  pub failure_of : (past : List Entry) → RunPast (set_up run) past → (r : ℕ) (x : Entry) (before : List Entry) → Occurs past x before → is_of r x ≡ true → (f : FrameView) → x.taken ≡ Some f → f.up ≡ false → message_in f.body ≡ Says Failure
+      → (it : Flying) → slice_get (sent before (way_of r f)) (taken before (way_of r f)) ≡ Some it → AnswerOf before r f it Failure
+  failure_of past h r x before o is f takes down says' it next =
+      let at = step_at run past x before h o in
+      let may = (part_of (set_up run) before x r at.0 is).frames.takes f takes in
+      subst (λ (z : Flying). AnswerOf before r f z Failure) (some_inj may.it it (sym may.next ∙ next)) (answer_of run repos before x r f Failure at.1 at.0 is takes down says' refl may)
+
+  -- **a FAILURE says what its sender found**
+  pub failures_fit : (past : List Entry) → RunPast (set_up run) past → FailuresFit past
+  failures_fit past h r x before o is f takes down says' asked it last next =
+      let y = failure_of past h r x before o is f takes down says' it next in
+      let same : y.request ≡ asked = some_inj y.request asked (sym y.last ∙ last) in
+      subst (λ q. FailsFor q it.entry.kind) (sym y.asked_is ∙ ap said_of same) (fails_for y.asked it.entry.kind (failure_fits y.asked it.entry.kind y.answering))

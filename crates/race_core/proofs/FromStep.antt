@@ -1,0 +1,121 @@
+-- Runs by steps are runs with messages, and so safe: each entry that is its repository's own part has the facts that runs with
+-- messages need.
+use Rattle.std.proofs.Common.{◌≡◌, ℕ, ◌≤◌, true, List, [], ◌∷◌, Option, Some, None, subst, arith}
+use Rattle.std.specs.Prelude.{reverse}
+use Rattle.annex_base.specs.Lists.{Each}
+use Rattle.annex_base.specs.declared.kinds.Word.{Word}
+use Rattle.run_data.specs.declared.entry.By.{By}
+use Rattle.run_data.specs.declared.entry.Entry.{Entry}
+use Rattle.run_data.specs.declared.entry.EntryKind.{EntryKind}
+use Rattle.run_data.specs.declared.entry.EntryKind.TheVariants.{Gone, Wait}
+use Rattle.run_data.specs.declared.run.Run.{Run}
+use Rattle.run_data.specs.Repos.{IsSetUp}
+use Rattle.run_model.specs.Past.{Always, is_of, now}
+use Rattle.node_model.specs.Rows.{option_is}
+use Rattle.run_model.specs.Safety.{IsSafe}
+use Rattle.node_model.specs.SetUp.{SetUp}
+use Rattle.run_model.specs.Run.{ByStep, FramesPart, IsBounded, IsRun, MayBe, Ordered, OwnPart, OwnPast, OwnRun, RunPast, RunStep, TimeIs, set_up}
+use Rattle.race_core.specs.Lawful.{IsLawful}
+use Rattle.race_core.specs.Own.{IsMessageRun, Meets, MessagePast, Own}
+use Rattle.race_core.proofs.Lists.{eqb_refl}
+use Rattle.race_core.proofs.MessageRuns.{message_lawful, message_safe}
+use Rattle.race_core.proofs.FoundOwn.{known_step, look_step, no_script_step, obeys_step, share_step, shares_with_step}
+use Rattle.race_core.proofs.SessionOwn.{answered_step, release_step}
+use Rattle.race_core.proofs.SendsOwn.{one_answer_step, one_request_step, sends_step}
+use Rattle.race_core.proofs.ConnectionOwn.{one_job_step, sent_to_step, taken_from_step}
+use Rattle.race_core.proofs.PhaseOwn.{awaits_step, bar_put_step, ends_step}
+use Rattle.race_core.proofs.DropOwn.{orders_step, removes_step}
+use Rattle.race_core.proofs.Told.{some_option}
+
+-- an entry that is its repository's own part, after the repository's own entries, has the facts that runs with messages need
+abbrev pub StepIsOwn : Type 0
+StepIsOwn = ByStep (λ s past e. Own s.repos s.number past e)
+
+pub step_is_own : StepIsOwn
+step_is_own s past words e h b is part = record {
+  known = known_step s past words e h b is part;
+  taken_from = taken_from_step s past words e h b is part;
+  sent_to = sent_to_step s past words e h b is part;
+  sends = sends_step s past words e h b is part;
+  one_request = one_request_step s past words e h b is part;
+  one_answer = one_answer_step s past words e h b is part;
+  answered = answered_step s past words e h b is part;
+  awaits = awaits_step s past words e h b is part;
+  one_job = one_job_step s past words e h b is part;
+  share = share_step s past words e h b is part;
+  shares_with = shares_with_step s past words e h b is part;
+  look = look_step s past words e h b is part;
+  release = release_step s past words e h b is part;
+  bar_put = bar_put_step s past words e h b is part;
+  removes = removes_step s past words e h b is part;
+  obeys = obeys_step s past words e h b is part;
+  no_script = no_script_step s past words e h b is part;
+  orders = orders_step s past words e h b is part;
+  ends = ends_step s past words e h b is part;
+}
+
+-- ---- an entry of a run
+
+-- time rises
+pub in_order : (before : ℕ) (e : Entry) (kind : EntryKind) (repo : Option ℕ) → TimeIs before e kind repo → before ≤ e.time
+in_order before e (Wait ms) None h = omega (arith, h)
+in_order before e kind (Some r) h = omega (arith, h)
+in_order before e _ None h = elim h [ ]
+
+-- only a wait has no repository
+somebody : (before : ℕ) (e : Entry) (by : By) (key : List ℕ) (repo : Option ℕ) → TimeIs before e (Gone by key) repo → (r : ℕ) × (option_is repo r ≡ true)
+somebody before e by key (Some r) h = (r, eqb_refl r)
+somebody before e by key None h = elim h [ ]
+
+-- what it does by itself, and the frames' part
+pub record Part (s : ℕ → SetUp) (past : List Entry) (r : ℕ) (e : Entry) : Type 0 where
+  pub words : ℕ → Option Word
+  pub own : OwnPart (s r) past words e
+  pub frames : FramesPart past r words e
+
+pub part_of : (s : ℕ → SetUp) (past : List Entry) (e : Entry) (r : ℕ) → RunStep s past e → is_of r e ≡ true → Part s past r e
+part_of s past e r x is =
+    let may : MayBe s past e (Some r) = subst (λ (o : Option ℕ). MayBe s past e o) (some_option e.repo r is) x.may in
+    record { words = may.0; own = may.1; frames = may.2 }
+
+bounded : (past : List Entry) (e : Entry) → Ordered past e → IsBounded e
+bounded past e o = record { in_time = o.in_time; small = o.small }
+
+-- ---- the past of one repository
+
+module _ (run : Run) (repos : Each IsSetUp run.repos) where
+  own_run : (r : ℕ) (past : List Entry) → RunPast (set_up run) past → OwnRun (set_up run r) past
+  own_run r [] h = tt
+  own_run r (e ∷ past) h = ((λ is. let p = part_of (set_up run) past e r h.0 is in (p.words, p.own)), own_run r past h.1)
+
+  all_bounded : (past : List Entry) → RunPast (set_up run) past → Always (λ p x. IsBounded x) past
+  all_bounded [] h = tt
+  all_bounded (e ∷ past) h = (bounded past e h.0.order, all_bounded past h.1)
+
+  pub own_past : (r : ℕ) (past : List Entry) → RunPast (set_up run) past → OwnPast (set_up run r) past
+  own_past r past h = record { repos = repos; run = own_run r past h; bounds = all_bounded past h }
+
+  -- ---- runs
+
+  pub meets : (past : List Entry) (e : Entry) → RunPast (set_up run) past → RunStep (set_up run) past e → Meets run.repos past e
+  meets past e h x = record {
+    order = in_order (now past) e e.kind e.repo x.order.time_is;
+    somebody = λ by key kind. somebody (now past) e by key e.repo (subst (λ (k : EntryKind). TimeIs (now past) e k e.repo) kind x.order.time_is);
+    own = λ r is. let p = part_of (set_up run) past e r x is in step_is_own (set_up run r) past p.words e (own_past r past h) (bounded past e x.order) is p.own;
+    frames = λ r f is takes. (part_of (set_up run) past e r x is).frames.takes f takes;
+  }
+
+  pub message_past : (past : List Entry) → RunPast (set_up run) past → MessagePast run.repos past
+  message_past [] h = tt
+  message_past (e ∷ past) h = (meets past e h.1 h.0, message_past past h.1)
+
+-- a run by steps is a run with messages
+pub runs_are_messages : (run : Run) → IsRun run → IsMessageRun run
+runs_are_messages run h = record { steps = message_past run h.repos (reverse run.entries) h.steps }
+
+-- and so it is lawful, and safe
+pub runs_are_lawful : (run : Run) → IsRun run → IsLawful run
+runs_are_lawful run h = message_lawful run (runs_are_messages run h)
+
+pub runs_are_safe : (run : Run) → IsRun run → IsSafe run
+runs_are_safe run h = message_safe run (runs_are_messages run h)

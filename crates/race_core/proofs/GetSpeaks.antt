@@ -1,0 +1,166 @@
+-- A get speaks, other than at its end, only to its partner, or to the source that it asks next.
+use Rattle.std.proofs.Common.{◌≡◌, ◌≢◌, ℕ, ◌-◌, Bool, true, false, List, [], ◌∷◌, Option, Some, None, ◌⊎◌, inl, inr, refl, sym, ap, subst}
+use Rattle.std.specs.Prelude.{if◌then◌else◌, ◌&&◌, nat_lt, nat_le, not}
+use Rattle.std.specs.List.{list_all}
+use Rattle.annex_base.specs.Lists.{Each, Member}
+use Rattle.annex_base.specs.declared.kinds.Call.{Call}
+use Rattle.annex_base.specs.declared.kinds.Call.TheVariants as calls
+use Rattle.run_data.specs.declared.entry.Entry.{Entry}
+use Rattle.run_data.specs.declared.entry.EntryKind.{EntryKind}
+use Rattle.run_data.specs.declared.entry.EntryKind.TheVariants.{Fault, Gain, End as ends_job}
+use Rattle.run_data.specs.declared.entry.FrameView.{FrameView}
+use Rattle.run_data.specs.declared.entry.FrameText.{FrameText}
+use Rattle.run_data.specs.declared.entry.FrameText.TheVariants.{Opening, Closing, Bytes, Line}
+use Rattle.run_data.specs.declared.job.Outcome.{Outcome}
+use Rattle.run_data.specs.declared.job.Outcome.TheVariants.{Got, TransferRefused}
+use Rattle.run_data.specs.declared.job.TransferRefusal.TheVariants as failures
+use Rattle.node_model.specs.Rows.{is_lost_ordered}
+use Rattle.p2p_wire.specs.declared.message.Message.{Message}
+use Rattle.p2p_wire.specs.declared.message.Message.TheVariants.{AuthSuccess, Version, Get, Data, Valid, Invalid, Success, Failure}
+use Rattle.p2p_wire.specs.Messages.{message_of, text_of}
+use Rattle.node_model.specs.SetUp.{SetUp}
+use Rattle.node_model.specs.Jobs.{Part, Gets, Puts, Drops, Phase, Fresh, Next, Opens, Greets, GetsData, GetsBytes, GetsWord, PutsBytes, PutsWord, job_end, partner, is_move}
+use Rattle.node_model.specs.Calls.{to_commit, to_release}
+use Rattle.node_model.specs.Look.{Made, failing, waiting}
+use Rattle.node_model.specs.JobStep.{Turn, attempts, by_me, end_with, ends, farewells, is_there, key_of, owns_share, quietly, says_to, sends_to, talk, wrong}
+use Rattle.node_model.specs.Requests.{asks, goes_to}
+use Rattle.node_model.specs.TransferStep.{first_get, gains, next_get, next_source, takes_bytes, takes_get}
+use Rattle.node_model.specs.Turns.{awaits, by_partner, first_step, goes, goes_on, has_room, is_awaiting, needs, next_step, outcome_of, takes, takes_answer, takes_frame, takes_text, with_partner}
+use Rattle.race_core.proofs.Cases.{if_found, unless_found}
+use Rattle.race_core.proofs.Plain.{each_member}
+use Rattle.race_core.proofs.TalkFacts.{Fits}
+use Rattle.race_core.proofs.JobSteps.{Stepped, turn_at}
+
+abbrev IsEnd : EntryKind → Type 0
+IsEnd (ends_job j outcome) = Unit {0}
+IsEnd kind = ⊥
+
+-- the peer is the partner, or the source that is asked next
+abbrev pub Place : Turn → ℕ → Type 0
+Place t peer = (partner t.w.what.peer t.w.phase ≡ Some peer) ⊎ (next_source t ≡ Some peer)
+
+abbrev Tells : Turn → Made → Type 0
+Tells t m = IsEnd m.kind ⊎ Each (λ g. Place t g.peer) m.sent
+
+attempts_tells : (t : Turn) (cs : List Call) (taken : Option FrameView) (m : Made) → Tells t m → Tells t (attempts t cs taken m)
+attempts_tells t cs taken m g = unless_found (Tells t) (failing t.look.fails cs) (λ call. quietly (Fault call (by_me t)) taken) m (λ call. inr tt) g
+
+one_tells : (t : Turn) (kind : EntryKind) (taken : Option FrameView) (peer : ℕ) (body : FrameText) → Place t peer → Tells t (sends_to t kind taken peer (body ∷ []))
+one_tells t kind taken peer body place = inr (place, tt)
+
+ends_tells : (t : Turn) (taken : Option FrameView) (outcome : Outcome) → Tells t (ends t taken outcome)
+ends_tells t taken outcome =
+    let lost = is_lost_ordered outcome in
+    attempts_tells t (to_release (owns_share t && not lost)) taken (record { kind = ends_job t.w.number outcome; taken = taken; sent = farewells t lost; lines = [] }) (inl tt)
+
+asks_tells : (t : Turn) (version : ℕ) (taken : Option FrameView) (peer : ℕ) (part : Part) → part ≡ Gets → Place t peer → Tells t (asks t version taken peer part)
+asks_tells t version taken peer Gets is place =
+    attempts_tells t (calls.PartSize ∷ []) taken (says_to t (talk t) taken peer (Get t.look.part [] (key_of t))) (one_tells t (talk t) taken peer (Line (text_of (Get t.look.part [] (key_of t)))) place)
+asks_tells t version taken peer Puts is place = absurd (cc)
+asks_tells t version taken peer Drops is place = absurd (cc)
+
+goes_to_tells : (t : Turn) (peer : ℕ) → t.w.part ≡ Gets → Place t peer → Tells t (goes_to t peer)
+goes_to_tells t peer is place = if_found (Tells t) (end_with t peer).opened (asks t t.w.version None peer t.w.part) (sends_to t (talk t) None peer (Opening ∷ []))
+    (λ o. asks_tells t t.w.version None peer t.w.part is place) (λ o. one_tells t (talk t) None peer Opening place)
+
+first_get_tells : (t : Turn) (here filled : Bool) (source : Option ℕ) → t.w.part ≡ Gets → next_source t ≡ source → Tells t (first_get t here filled source)
+first_get_tells t true filled source part is = if_found (Tells t) (is_move t.w.what.kind) (quietly (talk t) None) (ends t None (Got None None)) (λ e. inr tt) (λ e. ends_tells t None (Got None None))
+first_get_tells t false true source part is = ends_tells t None (TransferRefused failures.Busy)
+first_get_tells t false false None part is = inr tt
+first_get_tells t false false (Some peer) part is = goes_to_tells t peer part (inr is)
+
+next_get_tells : (t : Turn) (source : Option ℕ) → t.w.part ≡ Gets → next_source t ≡ source → Tells t (next_get t source)
+next_get_tells t None part is = ends_tells t None (TransferRefused (failures.NoSource t.w.causes))
+next_get_tells t (Some peer) part is = goes_to_tells t peer part (inr is)
+
+goes_tells : (t : Turn) → t.w.part ≡ Gets → (phase : Phase) → Fits Gets phase → Tells t (goes t phase)
+goes_tells t part Fresh f = subst (λ (q : Part). Tells t (first_step t q)) (sym part)
+    (attempts_tells t (calls.Has ∷ []) None (first_get t (is_there t) (t.filled (key_of t)) (next_source t)) (first_get_tells t (is_there t) (t.filled (key_of t)) (next_source t) part refl))
+goes_tells t part Next f = subst (λ (q : Part). Tells t (next_step t q)) (sym part) (next_get_tells t (next_source t) part refl)
+goes_tells t part (PutsBytes peer start at left) f = absurd f
+goes_tells t part (PutsWord peer start) f = absurd f
+goes_tells t part phase f = ends_tells t None (outcome_of t phase)
+
+-- ---- the steps that take a frame
+
+module _ (t : Turn) (f : FrameView) (peer : ℕ) (part : t.w.part ≡ Gets) (place : Place t peer) where
+  wrong_tells : Tells t (wrong t f peer)
+  wrong_tells = one_tells t (talk t) (Some f) peer Closing place
+
+  bytes_tells : (n : ℕ) (phase : Phase) → Tells t (takes_bytes t f peer n phase)
+  bytes_tells n (GetsBytes p start size left) =
+      if_found (Tells t) (nat_lt 0 n && nat_le n left) (attempts t (calls.Append ∷ []) (Some f) (quietly (talk t) (Some f))) (wrong t f peer)
+      (λ e. attempts_tells t (calls.Append ∷ []) (Some f) (quietly (talk t) (Some f)) (inr tt)) (λ e. wrong_tells)
+  bytes_tells n phase = wrong_tells
+
+  gains_tells : (size : ℕ) (right : Bool) → Tells t (gains t f peer size right)
+  gains_tells size true = one_tells t (Gain (by_me t) size (key_of t)) (Some f) peer (Line (text_of Success)) place
+  gains_tells size false = one_tells t (talk t) (Some f) peer (Line (text_of Failure)) place
+
+  get_tells : (phase : Phase) (m : Message) → Tells t (takes_get t f peer phase m)
+  get_tells (GetsData p start) (Data n) = inr tt
+  get_tells (GetsWord p start size) Valid = attempts_tells t (to_commit t.look.right) (Some f) (gains t f peer size t.look.right) (gains_tells size t.look.right)
+  get_tells (GetsWord p start size) Invalid = one_tells t (talk t) (Some f) peer (Line (text_of Failure)) place
+  get_tells phase m = wrong_tells
+
+  answer_tells : (q : Part) → q ≡ Gets → (phase : Phase) (m : Message) → Tells t (takes_answer t f peer q phase m)
+  answer_tells Gets is phase m = get_tells phase m
+  answer_tells Puts is phase m = absurd (cc)
+  answer_tells Drops is phase m = absurd (cc)
+
+  takes_tells : (phase : Phase) (m : Message) → Tells t (takes t f peer phase m)
+  takes_tells (Opens p) (AuthSuccess id) = one_tells t (talk t) (Some f) peer (Line (text_of (Version 3))) place
+  takes_tells (Greets p) (Version n) = if_found (Tells t) (nat_le n 3) (asks t n (Some f) peer t.w.part) (wrong t f peer) (λ e. asks_tells t n (Some f) peer t.w.part part place) (λ e. wrong_tells)
+  takes_tells phase m = answer_tells t.w.part part phase m
+
+  text_tells : (m : Option Message) → Tells t (takes_text t f peer m)
+  text_tells None = wrong_tells
+  text_tells (Some m) = takes_tells t.w.phase m
+
+  frame_tells : (body : FrameText) → Tells t (takes_frame t peer f body)
+  frame_tells Opening = wrong_tells
+  frame_tells Closing = inr tt
+  frame_tells (Bytes n) = bytes_tells n t.w.phase
+  frame_tells (Line text) = text_tells (message_of text)
+
+-- ---- the step
+
+module _ (t : Turn) (m : Made) (part : t.w.part ≡ Gets) (fit : Fits Gets t.w.phase) where
+  on_tells : goes_on t ≡ Some m → Tells t m
+  on_tells e = go (list_all (has_room t) (needs t t.w.phase)) e
+    where
+      go : (b : Bool) → (if b then Some (goes t t.w.phase) else None) ≡ Some m → Tells t m
+      go true g = let same : goes t t.w.phase ≡ m = cc in subst (Tells t) same (goes_tells t part t.w.phase fit)
+      go false g = absurd (cc)
+
+  awaits_tells : (peer : ℕ) → Place t peer → (f : Option FrameView) → awaits t peer f ≡ Some m → Tells t m
+  awaits_tells peer place None e = absurd (cc)
+  awaits_tells peer place (Some f) e = go (has_room t peer) e
+    where
+      go : (b : Bool) → (if b then Some (takes_frame t peer f f.body) else None) ≡ Some m → Tells t m
+      go true g = let same : takes_frame t peer f f.body ≡ m = cc in subst (Tells t) same (frame_tells t f peer part place f.body)
+      go false g = absurd (cc)
+
+  with_tells : (peer : ℕ) → Place t peer → (b : Bool) → with_partner t peer b ≡ Some m → Tells t m
+  with_tells peer place false e = let same : quietly (talk t) None ≡ m = cc in subst (Tells t) same (inr tt)
+  with_tells peer place true e = go (is_awaiting t.w.phase) e
+    where
+      go : (b : Bool) → (if b then awaits t peer (waiting (end_with t peer) t.look (job_end t.w peer)) else goes_on t) ≡ Some m → Tells t m
+      go true g = awaits_tells peer place (waiting (end_with t peer) t.look (job_end t.w peer)) g
+      go false g = on_tells g
+
+  partner_tells : (p : Option ℕ) → partner t.w.what.peer t.w.phase ≡ p → by_partner t p ≡ Some m → Tells t m
+  partner_tells None on e = on_tells e
+  partner_tells (Some peer) on e = with_tells peer (inl on) (end_with t peer).opened e
+
+-- **a get that goes on speaks to its partner, or to its next source**
+pub gets_tell : (s : SetUp) (past : List Entry) (e : Entry) (x : Stepped s past e) → x.w.part ≡ Gets → Fits Gets x.w.phase → ((j : ℕ) (outcome : Outcome) → e.kind ≢ ends_job j outcome)
+    → (g : FrameView) → Member g e.sent → Place (turn_at s past e x) g.peer
+gets_tell s past e x part fit goes_on g m = elim (partner_tells (turn_at s past e x) x.made part fit (partner x.w.what.peer x.w.phase) refl x.does) [
+  | inl end ↦ absurd (ended x.made.kind (ap (λ (y : Entry). y.kind) x.is) end)
+  | inr all ↦ each_member (λ g. Place (turn_at s past e x) g.peer) x.made.sent g all (subst (Member g) (ap (λ (y : Entry). y.sent) x.is) m)
+]
+  where
+    ended : (kind : EntryKind) → e.kind ≡ kind → IsEnd kind → ⊥
+    ended (ends_job j outcome) same end = goes_on j outcome same
+    ended kind same end = elim end [ ]

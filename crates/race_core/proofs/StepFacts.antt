@@ -1,0 +1,180 @@
+-- What a step found: one law over all kinds of entries, and what it says of each kind.
+use Rattle.std.proofs.Common.{◌≡◌, ℕ, Bool, List, [], ◌∷◌, Option, Some, None, ◌⊎◌, inl, inr, refl, sym, ap, ◌∙◌, subst}
+use Rattle.annex_base.specs.declared.kinds.Call.{Call}
+use Rattle.annex_base.specs.declared.kinds.Call.TheVariants.{PutFile}
+use Rattle.annex_base.specs.declared.kinds.Found.{Found}
+use Rattle.drop_proof.specs.declared.rule.Need.{Need}
+use Rattle.run_data.specs.declared.entry.EntryKind.{EntryKind}
+use Rattle.run_data.specs.declared.entry.EntryKind.TheVariants.{Gain, Share, Release, Check, Bar, Order, Gone, Log, Talk, Close, Fault, End as ends_job}
+use Rattle.run_data.specs.declared.entry.By.TheVariants.{Script, Job as by_job, Peer}
+use Rattle.run_data.specs.declared.entry.LogFile.{LogFile}
+use Rattle.run_data.specs.declared.entry.LogFile.TheVariants.{Location}
+use Rattle.run_data.specs.declared.job.Outcome.{Outcome}
+use Rattle.node_model.specs.SetUp.{SetUp}
+use Rattle.node_model.specs.Ends.{server_end}
+use Rattle.node_model.specs.Owed.{Owed, due}
+use Rattle.node_model.specs.State.{State}
+use Rattle.node_model.specs.Look.{Look, Made, failing, unless}
+use Rattle.node_model.specs.OwedStep.{owed_step, pays_first}
+use Rattle.node_model.specs.SessionStep.{here, session_step}
+use Rattle.node_model.specs.JobStep.{turn_of}
+use Rattle.node_model.specs.Turns.{job_step}
+use Rattle.node_model.specs.Step.{step}
+use Rattle.node_model.specs.Found.{ByJob, ByOwed, BySession, JobKind, SessionKind, StepFound}
+use Rattle.race_core.proofs.Cases.{first_was}
+use Rattle.race_core.proofs.SessionFacts.{session_found}
+use Rattle.race_core.proofs.JobFacts.{job_found}
+use Rattle.node_model.specs.Look
+
+-- ---- the law
+
+pub pays_found : (s : SetUp) (st : State) (k : Look) (m : Made) (os : List Owed) → st.owed ≡ os → pays_first s st k os ≡ Some m → ByOwed s st k m
+pays_found s st k m [] is e = absurd (cc)
+pays_found s st k m (o ∷ os) is e = go (failing k.fails (PutFile ∷ [])) (fails k.fails) e
+  where
+    lost : Call → Made
+    lost call = record { kind = Fault call o.by; taken = None; sent = []; lines = [] }
+
+    written : Made
+    written = record { kind = Log (Location o.key); taken = None; sent = []; lines = due s.repos st.lines (st.wall k.time) o }
+
+    fails : (c : Option Call) → (failing c (PutFile ∷ []) ≡ None) ⊎ (failing c (PutFile ∷ []) ≡ Some PutFile)
+    fails None = inl refl
+    fails (Some PutFile) = inr refl
+    fails (Some _) = inl refl
+
+    go : (c : Option Call) → (c ≡ None) ⊎ (c ≡ Some PutFile) → Some (unless c lost written) ≡ Some m → ByOwed s st k m
+    go None ways g = let same : written ≡ m = cc in record { first = o; rest = os; owes_it = is; writes = inl (sym same) }
+    go (Some call) (inl no_call) g = absurd (cc)
+    go (Some call) (inr is_call) g =
+        let same : lost call ≡ m = cc in
+        let it : call ≡ PutFile = cc in
+        record { first = o; rest = os; owes_it = is; writes = inr (sym same ∙ ap lost it) }
+
+pub step_found : (s : SetUp) (st : State) (k : Look) (m : Made) → step s st k ≡ Some m → StepFound s st k m
+step_found s st k m e = elim (first_was (owed_step s st k) (Look.first_of (session_step s st k) (job_step s st k)) m e) [
+  | inl o ↦ inl (pays_found s st k m st.owed refl o)
+  | inr r ↦ inr (others r)
+]
+  where
+    others : Look.first_of (session_step s st k) (job_step s st k) ≡ Some m → BySession s st k m ⊎ ByJob s st k m
+    others r = elim (first_was (session_step s st k) (job_step s st k) m r) [
+      | inl x ↦ inl (session_found s st k m x)
+      | inr x ↦ inr (job_found s st k m x)
+    ]
+
+-- ---- by its kind
+
+-- the kinds of an entry that writes an owed line
+abbrev pub IsOwedKind : EntryKind → Type 0
+IsOwedKind (Log file) = Unit {0}
+IsOwedKind (Fault call by) = Unit {0}
+IsOwedKind kind = ⊥
+
+owed_kind : (s : SetUp) (st : State) (k : Look) (m : Made) (kind : EntryKind) → ByOwed s st k m → m.kind ≡ kind → IsOwedKind kind
+owed_kind s st k m kind x is = elim (x.writes) [
+  | inl w ↦ subst IsOwedKind (sym (ap (λ y. y.kind) w) ∙ is) tt
+  | inr w ↦ subst IsOwedKind (sym (ap (λ y. y.kind) w) ∙ is) tt
+]
+
+-- a session made it, and found this
+pub record SessionMade (s : SetUp) (st : State) (k : Look) (m : Made) (kind : EntryKind) : Type 0 where
+  pub by : BySession s st k m
+  pub found : SessionKind (here s st k (server_end by.peer by.slot)) (st.sessions (server_end by.peer by.slot)).doing by.asked by.says kind
+
+-- a job made it, and found this
+pub record JobMade (s : SetUp) (st : State) (k : Look) (m : Made) (kind : EntryKind) : Type 0 where
+  pub by : ByJob s st k m
+  pub found : JobKind (turn_of s st k by.w) m kind
+
+-- an entry of a kind that writes no owed line is a session's or a job's
+pub kind_found : (s : SetUp) (st : State) (k : Look) (m : Made) (kind : EntryKind) → step s st k ≡ Some m → m.kind ≡ kind → (IsOwedKind kind → ⊥)
+    → SessionMade s st k m kind ⊎ JobMade s st k m kind
+kind_found s st k m kind e is not = elim (step_found s st k m e) [
+  | inl o ↦ absurd (not (owed_kind s st k m kind o is))
+  | inr r ↦ made r
+]
+  where
+    made : BySession s st k m ⊎ ByJob s st k m → SessionMade s st k m kind ⊎ JobMade s st k m kind
+    made (inl x) = inl (record { by = x; found = subst (SessionKind (here s st k (server_end x.peer x.slot)) (st.sessions (server_end x.peer x.slot)).doing x.asked x.says) is x.found })
+    made (inr x) = inr (record { by = x; found = subst (JobKind (turn_of s st k x.w) m) is x.found })
+
+module _ (s : SetUp) (st : State) (k : Look) (m : Made) (e : step s st k ≡ Some m) where
+  -- a share for a peer: LOCKCONTENT found the content free
+  pub share_found : (hold end p c : ℕ) (key : List ℕ) → m.kind ≡ Share hold end (Peer p c) key → SessionMade s st k m (Share hold end (Peer p c) key)
+  share_found hold end p c key is = elim (kind_found s st k m (Share hold end (Peer p c) key) e is (λ x. x)) [
+    | inl x ↦ x
+    | inr x ↦ absurd (let no_job : Peer p c ≡ by_job x.by.w.number = x.found.by_is in cc)
+  ]
+
+  -- a job's share of its own repository
+  pub own_share_found : (hold end j : ℕ) (key : List ℕ) → m.kind ≡ Share hold end (by_job j) key → JobMade s st k m (Share hold end (by_job j) key)
+  own_share_found hold end j key is = elim (kind_found s st k m (Share hold end (by_job j) key) e is (λ x. x)) [
+    | inl x ↦ absurd (let no_peer : by_job j ≡ Peer x.by.peer x.by.slot = x.found.by_is in cc)
+    | inr x ↦ x
+  ]
+
+  pub check_found : (what : Found) (key : List ℕ) → m.kind ≡ Check what key → SessionMade s st k m (Check what key)
+  check_found what key is = elim (kind_found s st k m (Check what key) e is (λ x. x)) [ inl x ↦ x | inr x ↦ absurd x.found ]
+
+  pub release_found : (hold : ℕ) (key : List ℕ) → m.kind ≡ Release hold key → SessionMade s st k m (Release hold key)
+  release_found hold key is = elim (kind_found s st k m (Release hold key) e is (λ x. x)) [ inl x ↦ x | inr x ↦ absurd x.found ]
+
+  pub bar_found : (j : ℕ) (need : Need) (key : List ℕ) → m.kind ≡ Bar j need key → JobMade s st k m (Bar j need key)
+  bar_found j need key is = elim (kind_found s st k m (Bar j need key) e is (λ x. x)) [ inl x ↦ absurd x.found | inr x ↦ x ]
+
+  -- a removal by a peer's order; by a job; never by the script
+  pub obeyed_found : (p c : ℕ) (key : List ℕ) → m.kind ≡ Gone (Peer p c) key → SessionMade s st k m (Gone (Peer p c) key)
+  obeyed_found p c key is = elim (kind_found s st k m (Gone (Peer p c) key) e is (λ x. x)) [
+    | inl x ↦ x
+    | inr x ↦ absurd (let no_job : Peer p c ≡ by_job x.by.w.number = x.found.by_is in cc)
+  ]
+
+  pub removes_found : (j : ℕ) (key : List ℕ) → m.kind ≡ Gone (by_job j) key → JobMade s st k m (Gone (by_job j) key)
+  removes_found j key is = elim (kind_found s st k m (Gone (by_job j) key) e is (λ x. x)) [
+    | inl x ↦ absurd (let no_peer : by_job j ≡ Peer x.by.peer x.by.slot = x.found.by_is in cc)
+    | inr x ↦ x
+  ]
+
+  pub gone_by_script : (key : List ℕ) → m.kind ≡ Gone Script key → ⊥
+  gone_by_script key is = elim (kind_found s st k m (Gone Script key) e is (λ x. x)) [
+    | inl x ↦ (let no_peer : Script ≡ Peer x.by.peer x.by.slot = x.found.by_is in cc)
+    | inr x ↦ (let no_job : Script ≡ by_job x.by.w.number = x.found.by_is in cc)
+  ]
+
+  pub order_found : (j target : ℕ) (deadline : Option ℕ) (need : Need) (key : List ℕ) → m.kind ≡ Order j target deadline need key
+      → JobMade s st k m (Order j target deadline need key)
+  order_found j target deadline need key is = elim (kind_found s st k m (Order j target deadline need key) e is (λ x. x)) [ inl x ↦ absurd x.found | inr x ↦ x ]
+
+  pub end_found : (j : ℕ) (outcome : Outcome) → m.kind ≡ ends_job j outcome → JobMade s st k m (ends_job j outcome)
+  end_found j outcome is = elim (kind_found s st k m (ends_job j outcome) e is (λ x. x)) [ inl x ↦ absurd x.found | inr x ↦ x ]
+
+  pub gained_found : (p c size : ℕ) (key : List ℕ) → m.kind ≡ Gain (Peer p c) size key → SessionMade s st k m (Gain (Peer p c) size key)
+  gained_found p c size key is = elim (kind_found s st k m (Gain (Peer p c) size key) e is (λ x. x)) [
+    | inl x ↦ x
+    | inr x ↦ absurd (let no_job : Peer p c ≡ by_job x.by.w.number = x.found.by_is in cc)
+  ]
+
+  pub gains_found : (j size : ℕ) (key : List ℕ) → m.kind ≡ Gain (by_job j) size key → JobMade s st k m (Gain (by_job j) size key)
+  gains_found j size key is = elim (kind_found s st k m (Gain (by_job j) size key) e is (λ x. x)) [
+    | inl x ↦ absurd (let no_peer : by_job j ≡ Peer x.by.peer x.by.slot = x.found.by_is in cc)
+    | inr x ↦ x
+  ]
+
+  -- a talk of a session, and of a job
+  pub session_talk_found : m.kind ≡ Talk None → SessionMade s st k m (Talk None)
+  session_talk_found is = elim (kind_found s st k m (Talk None) e is (λ x. x)) [ inl x ↦ x | inr x ↦ absurd x.found ]
+
+  pub job_talk_found : (j : ℕ) → m.kind ≡ Talk (Some j) → JobMade s st k m (Talk (Some j))
+  job_talk_found j is = elim (kind_found s st k m (Talk (Some j)) e is (λ x. x)) [ inl x ↦ absurd x.found | inr x ↦ x ]
+
+  pub close_found : (p c : ℕ) (client : Bool) → m.kind ≡ Close p c client → SessionMade s st k m (Close p c client)
+  close_found p c client is = elim (kind_found s st k m (Close p c client) e is (λ x. x)) [ inl x ↦ x | inr x ↦ absurd x.found ]
+
+  -- a line is written by a step only where it is owed first
+  pub log_found : (file : LogFile) → m.kind ≡ Log file → ByOwed s st k m
+  log_found file is = elim (step_found s st k m e) [ inl o ↦ o | inr r ↦ absurd (none r) ]
+    where
+      none : BySession s st k m ⊎ ByJob s st k m → ⊥
+      none (inl x) = subst (SessionKind (here s st k (server_end x.peer x.slot)) (st.sessions (server_end x.peer x.slot)).doing x.asked x.says) is x.found
+      none (inr x) = subst (JobKind (turn_of s st k x.w) m) is x.found

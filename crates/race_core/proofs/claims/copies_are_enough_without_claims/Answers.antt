@@ -1,0 +1,5 @@
+use Rattle.race_core.proofs.ClaimSources.{copies_enough}
+use Rattle.race_core.proofs.claims.copies_are_enough_without_claims.Goals as goal
+
+pub returns : goal.returns
+returns c = copies_enough

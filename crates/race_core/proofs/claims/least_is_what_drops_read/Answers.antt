@@ -1,0 +1,11 @@
+use Rattle.race_core.proofs.NeedsRead.{least_below, least_read, read_counts}
+use Rattle.race_core.proofs.claims.least_is_what_drops_read.Goals as goal
+
+pub returns-clause-read : goal.returns-clause-read
+returns-clause-read c = least_read
+
+pub returns-clause-least : goal.returns-clause-least
+returns-clause-least c = least_below
+
+pub returns-clause-count : goal.returns-clause-count
+returns-clause-count c = read_counts

@@ -1,0 +1,12 @@
+use Rattle.race_core.proofs.AtPlaces.{one_drop}
+use Rattle.race_core.proofs.OneDrop.{by_drop, of_repository}
+use Rattle.race_core.proofs.drops.each_removal_is_one_drops.Goals as goal
+
+pub returns-clause-repository : goal.returns-clause-repository
+returns-clause-repository c = of_repository
+
+pub returns-clause-dropped_by : goal.returns-clause-dropped_by
+returns-clause-dropped_by c = by_drop
+
+pub returns-clause-enough : goal.returns-clause-enough
+returns-clause-enough c = one_drop

@@ -1,0 +1,10 @@
+use Rattle.std.proofs.Common.{◌≡◌, ◌≤◌, reverse, count_by}
+use Rattle.std.specs.List.{range_with_len}
+use Rattle.run_model.specs.Past.{present}
+use Rattle.race_core.proofs.entries.copies.Given as goal
+
+abbrev pub invariant-loop-repo : goal.invariant-loop-repo
+invariant-loop-repo l = record {
+  counted : l.count ≡ count_by (λ r. present (reverse l.entries) r l.key) (range_with_len 0 l.repo);
+  small : l.count ≤ l.repo;
+}

@@ -1,0 +1,11 @@
+use Rattle.race_core.proofs.Numbers.{items_distinct, never_the_target, of_the_run}
+use Rattle.race_core.proofs.evidence.evidence_is_of_other_repositories.Goals as goal
+
+pub returns-clause-distinct : goal.returns-clause-distinct
+returns-clause-distinct c = items_distinct
+
+pub returns-clause-other : goal.returns-clause-other
+returns-clause-other c = never_the_target
+
+pub returns-clause-known : goal.returns-clause-known
+returns-clause-known c = of_the_run

@@ -1,0 +1,8 @@
+use Rattle.race_core.proofs.Numbers.{evidence_left, need_left}
+use Rattle.race_core.proofs.evidence.removals_leave_as_many.Goals as goal
+
+pub returns-clause-evidence : goal.returns-clause-evidence
+returns-clause-evidence c = evidence_left
+
+pub returns-clause-need : goal.returns-clause-need
+returns-clause-need c = need_left

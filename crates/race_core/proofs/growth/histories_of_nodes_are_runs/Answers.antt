@@ -1,0 +1,12 @@
+use Rattle.race_core.proofs.MergedNodes.{nodes_merge}
+use Rattle.race_core.proofs.RunsGrow.{block_begins, run_kept}
+use Rattle.race_core.proofs.growth.histories_of_nodes_are_runs.Goals as goal
+
+pub returns-clause-nodes : goal.returns-clause-nodes
+returns-clause-nodes c = nodes_merge
+
+pub returns-clause-block : goal.returns-clause-block
+returns-clause-block c = block_begins
+
+pub returns-clause-kept : goal.returns-clause-kept
+returns-clause-kept c = run_kept

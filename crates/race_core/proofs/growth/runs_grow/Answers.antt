@@ -1,0 +1,21 @@
+use Rattle.race_core.proofs.RunsGrow.{command_done, mark_added, own_turn_added, turn_added, wait_added}
+use Rattle.race_core.proofs.RunsBegin.{begins}
+use Rattle.race_core.proofs.growth.runs_grow.Goals as goal
+
+pub returns-clause-first : goal.returns-clause-first
+returns-clause-first c = begins
+
+pub returns-clause-entry : goal.returns-clause-entry
+returns-clause-entry c = turn_added
+
+pub returns-clause-turn : goal.returns-clause-turn
+returns-clause-turn c = own_turn_added
+
+pub returns-clause-wait : goal.returns-clause-wait
+returns-clause-wait c = wait_added
+
+pub returns-clause-tree : goal.returns-clause-tree
+returns-clause-tree c = mark_added
+
+pub returns-clause-command : goal.returns-clause-command
+returns-clause-command c = command_done

@@ -1,0 +1,98 @@
+//! The laws. Each is the contract of a function that does nothing.
+
+ghost use Rattle.std.specs.Prelude.{◌≡◌, ◌≢◌, ℕ, ◌+◌, ◌<◌, ◌≤◌, true, List, Some, slice_get};
+ghost use Rattle.annex_base.specs.declared.kinds.Level.TheVariants as levels;
+ghost use Rattle.drop_proof.specs.declared.evidence.Evidence.{Evidence};
+ghost use Rattle.run_data.specs.declared.entry.Entry.{Entry};
+ghost use Rattle.run_data.specs.declared.run.Run.{Run};
+ghost use Rattle.run_model.specs.Causes.{HasCauses};
+ghost use Rattle.run_model.specs.Logs.{ever, kept, need_read, settings_of};
+ghost use Rattle.node_model.specs.Evidence.{is_locked, is_trusted};
+ghost use Rattle.annex_base.specs.Lists.{Member};
+ghost use Rattle.run_model.specs.Past.{present};
+ghost use Rattle.run_model.specs.Safety.{IsSafe, Removal, least_need, past_at, within};
+ghost use Rattle.run_model.specs.Run.{IsRun};
+ghost use Rattle.race_core.specs.Lawful.{IsLawful};
+ghost use Rattle.race_core.specs.Places.{claim_at, count_at, removal_at, removals_at};
+ghost use Rattle.race_core.specs.Readings.{IsLocalRemoval, Judge, claim_read, judge_at, key_read, level_read};
+ghost use Rattle.trust_groups.specs.Settings.{settings};
+
+/// Each run is lawful: every entry finds what it has to.
+pub fn runs_are_lawful()
+    ensures { (run : Run) → IsRun run → IsLawful run }
+{}
+
+/// Each run is safe: copies and claims of a key are as many as its drops read that they have to be, each removal leaves
+/// its drop's evidence, and is one drop's (git-annex-mincopies).
+pub fn runs_are_safe()
+    ensures { (run : Run) → IsRun run → IsSafe run }
+{}
+
+/// Each lawful run is safe, whichever way its repositories talk (git-annex-mincopies).
+pub fn lawful_runs_are_safe()
+    ensures { (run : Run) → IsLawful run → IsSafe run }
+{}
+
+/// For each key and before each place, the repositories with a copy or a claim are no fewer than the least
+/// mincopies that the drops of the key read (git-annex-mincopies). Where no drop has removed the key, nothing is asked.
+pub fn never_fewer_than_mincopies()
+    ensures within { (run : Run) (key : List ℕ) (place : ℕ) → IsRun run
+        → within (least_need (removals_at run key place)) (count_at run key place) ≡ true }
+    ensures least { (run : Run) (key : List ℕ) (place least : ℕ) → IsRun run
+        → least_need (removals_at run key place) ≡ Some least → least ≤ count_at run key place }
+{}
+
+/// Right after a removal of the key, each repository that its drop had locked still has the content, and each whose
+/// claim its drop trusted is among the claims (git-annex-mincopies; counting claims is the project's own).
+pub fn drops_leave_their_evidence()
+    ensures locked { (run : Run) (key : List ℕ) (place : ℕ) (e : Entry) (x : Removal) (item : Evidence)
+        → IsRun run → slice_get run.entries place ≡ Some e → removal_at run key place e ≡ Some x
+        → Member item x.items → is_locked item.kind ≡ true
+        → present (past_at run (place + 1)) item.repo key ≡ true }
+    ensures trusted { (run : Run) (key : List ℕ) (place : ℕ) (e : Entry) (x : Removal) (item : Evidence)
+        → IsRun run → slice_get run.entries place ≡ Some e → removal_at run key place e ≡ Some x
+        → Member item x.items → is_trusted item.kind ≡ true
+        → claim_at run key (place + 1) item.repo ≡ true }
+{}
+
+/// What the lines that a repository keeps say is what all lines say that were ever added to its logs, whatever the entries
+/// are: a compaction, whenever it comes, changes nothing that a drop reads (git-annex internals: branch files).
+pub fn kept_lines_read_as_all()
+    ensures { (past : List Entry) (r : ℕ) → settings (kept past r) ≡ settings_of past r }
+{}
+
+/// In every run, lawful or not, no evidence of a removal is of a repository that its drop read as untrusted or dead, and
+/// a repository that counts without a lock, by its claim, was read as trusted, and as one that is claimed to have the
+/// key of the drop's job (git-annex untrust, git-annex dead; counting claims is the project's own). Each removal has
+/// one judge: the job that read the logs, with what had happened as it judged its evidence.
+pub fn ignored_never_count()
+    ensures judged { (run : Run) (key : List ℕ) (place : ℕ) (e : Entry) (x : Removal)
+        → removal_at run key place e ≡ Some x → (judge : Judge) × (judge_at run place e ≡ Some judge) }
+    ensures untrusted { (run : Run) (key : List ℕ) (place : ℕ) (e : Entry) (x : Removal) (judge : Judge) (item : Evidence)
+        → removal_at run key place e ≡ Some x → judge_at run place e ≡ Some judge → Member item x.items
+        → level_read run judge item.repo ≢ levels.Untrusted }
+    ensures dead { (run : Run) (key : List ℕ) (place : ℕ) (e : Entry) (x : Removal) (judge : Judge) (item : Evidence)
+        → removal_at run key place e ≡ Some x → judge_at run place e ≡ Some judge → Member item x.items
+        → level_read run judge item.repo ≢ levels.Dead }
+    ensures trusted { (run : Run) (key : List ℕ) (place : ℕ) (e : Entry) (x : Removal) (judge : Judge) (item : Evidence)
+        → removal_at run key place e ≡ Some x → judge_at run place e ≡ Some judge → Member item x.items
+        → is_trusted item.kind ≡ true → level_read run judge item.repo ≡ levels.Trusted }
+    ensures claimed { (run : Run) (key : List ℕ) (place : ℕ) (e : Entry) (x : Removal) (judge : Judge) (item : Evidence)
+        → removal_at run key place e ≡ Some x → judge_at run place e ≡ Some judge → Member item x.items
+        → is_trusted item.kind ≡ true → claim_read run judge (key_read judge) item.repo ≡ true }
+{}
+
+/// The need of a removal is what the logs of the repository that judged gave at its drop's first step, whichever side it
+/// removes on: of a removal by an order, the logs of the repository that sent it. The removal is of the key of the drop's
+/// job, as it stood then (git-annex-numcopies, git-annex-mincopies).
+pub fn drops_read_their_need()
+    ensures judged { (run : Run) (key : List ℕ) (place : ℕ) (e : Entry) (x : Removal) (judge : Judge)
+        → IsRun run → slice_get run.entries place ≡ Some e → removal_at run key place e ≡ Some x
+        → judge_at run place e ≡ Some judge → x.need ≡ need_read judge.past judge.repo judge.job }
+    ensures key { (run : Run) (key : List ℕ) (place : ℕ) (e : Entry) (x : Removal) (judge : Judge)
+        → IsRun run → slice_get run.entries place ≡ Some e → removal_at run key place e ≡ Some x
+        → judge_at run place e ≡ Some judge → key_read judge ≡ key }
+    ensures local { (run : Run) (key : List ℕ) (place r j : ℕ) (x : Removal) → IsRun run
+        → (w : IsLocalRemoval run key place r j) → removal_at run key place w.entry ≡ Some x
+        → x.need ≡ need_read (past_at run place) r j }
+{}

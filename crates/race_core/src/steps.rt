@@ -1,0 +1,34 @@
+//! The laws of states and steps. Each is the contract of a function that does nothing.
+
+ghost use Rattle.std.specs.Prelude.{◌≡◌, ℕ, List, Some, filter, reverse};
+ghost use Rattle.run_data.specs.declared.entry.Entry.{Entry};
+ghost use Rattle.run_data.specs.declared.run.Run.{Run};
+ghost use Rattle.node_model.specs.After.{Agrees, states};
+ghost use Rattle.node_model.specs.Found.{StepFound};
+ghost use Rattle.node_model.specs.Look.{Look, Made};
+ghost use Rattle.node_model.specs.SetUp.{SetUp};
+ghost use Rattle.node_model.specs.State.{State};
+ghost use Rattle.node_model.specs.Step.{step};
+ghost use Rattle.run_model.specs.Past.{is_of};
+ghost use Rattle.run_model.specs.Run.{IsRun, OwnPast, set_up};
+ghost use Rattle.run_model.specs.States.{state_of};
+
+/// The state that a repository carries over its own entries, one after the other, agrees in all that a step reads with what
+/// the entries so far say of it, and so it makes the same step: in each run, and for each past whose own entries are a
+/// repository's own part (own).
+pub fn carried_states_agree()
+    ensures states { (run : Run) (r : ℕ) → IsRun run
+        → Agrees (state_of (set_up run r) (reverse run.entries)) (states (set_up run r) (filter (is_of r) (reverse run.entries))) }
+    ensures steps { (run : Run) (r : ℕ) (k : Look) → IsRun run
+        → step (set_up run r) (state_of (set_up run r) (reverse run.entries)) k
+        ≡ step (set_up run r) (states (set_up run r) (filter (is_of r) (reverse run.entries))) k }
+    ensures own_states { (s : SetUp) (past : List Entry) → OwnPast s past
+        → Agrees (state_of s past) (states s (filter (is_of s.number) past)) }
+    ensures own_steps { (s : SetUp) (past : List Entry) (k : Look) → OwnPast s past
+        → step s (state_of s past) k ≡ step s (states s (filter (is_of s.number) past)) k }
+{}
+
+/// A step that makes an entry found what the table of `Found` says of that kind of entry, in any state (own).
+pub fn steps_find_their_cause()
+    ensures { (s : SetUp) (st : State) (k : Look) (m : Made) → step s st k ≡ Some m → StepFound s st k m }
+{}

@@ -1,0 +1,5 @@
+use Rattle.run_model.proofs.Others.{other_is}
+use Rattle.run_model.proofs.laws.others_change_nothing.Goals as goal
+
+pub returns : goal.returns
+returns c = other_is

@@ -1,0 +1,384 @@
+-- Why a drop or a transfer was refused: the entries and the values that its outcome rests on stand in the run (own).
+use Rattle.std.specs.Prelude.{◌≡◌, ◌≢◌, ◌⊎◌, ℕ, ◌+◌, ◌<◌, ◌≤◌, Bool, true, false, not, ◌&&◌, if◌then◌else◌, max, List, [], ◌∷◌, filter, fold, length, map, reverse, Option, Some, None, bytes_eq, codes}
+use Rattle.std.specs.List.{list_any, range_with_len}
+use Rattle.annex_base.specs.Lists.{Each, Member}
+use Rattle.annex_base.specs.declared.kinds.Call.{Call}
+use Rattle.annex_base.specs.declared.kinds.Call.TheVariants.{PutFile, Unhold}
+use Rattle.annex_base.specs.declared.kinds.Found.TheVariants as found
+use Rattle.drop_proof.specs.declared.rule.Side.{Side}
+use Rattle.drop_proof.specs.declared.rule.Side.TheVariants.{Local, Remote}
+use Rattle.drop_proof.specs.declared.evidence.Evidence.{Evidence}
+use Rattle.drop_proof.specs.Judging.{is_enough, least_end}
+use Rattle.run_data.specs.declared.run.Run.{Run}
+use Rattle.run_data.specs.declared.run.RepoView.{RepoView}
+use Rattle.run_data.specs.declared.entry.By.TheVariants.{Job as by_job}
+use Rattle.run_data.specs.declared.entry.Entry.{Entry}
+use Rattle.run_data.specs.declared.entry.EntryKind.{EntryKind}
+use Rattle.run_data.specs.declared.entry.EntryKind.TheVariants.{Check, Close, End, Fault, Gain, Gone, Order, Talk}
+use Rattle.run_data.specs.declared.entry.FrameView.{FrameView}
+use Rattle.run_data.specs.declared.job.CandidateCause.{CandidateCause}
+use Rattle.run_data.specs.declared.job.Denial.{Denial}
+use Rattle.run_data.specs.declared.job.Denial.TheVariants as denials
+use Rattle.run_data.specs.declared.job.DropRefusal.{DropRefusal}
+use Rattle.run_data.specs.declared.job.DropRefusal.TheVariants.{NotPresent, Held, Barred, Lacking, Expired, Denied, Lost, OldProtocol, StoreFault}
+use Rattle.run_data.specs.declared.job.Job.{Job}
+use Rattle.run_data.specs.declared.job.JobKind.{JobKind}
+use Rattle.run_data.specs.declared.job.JobKind.TheVariants as kinds
+use Rattle.run_data.specs.declared.job.JobKind.TheVariants.{Drop, MoveTo}
+use Rattle.run_data.specs.declared.job.Outcome.TheVariants.{Refused, TransferRefused}
+use Rattle.run_data.specs.declared.job.Proof.{Proof}
+use Rattle.run_data.specs.declared.job.SourceCause.{SourceCause}
+use Rattle.run_data.specs.declared.job.SourceCause.TheVariants as sources
+use Rattle.run_data.specs.declared.job.SourceFailure.{SourceFailure}
+use Rattle.run_data.specs.declared.job.TransferRefusal.{TransferRefusal}
+use Rattle.run_data.specs.declared.job.TransferRefusal.TheVariants as failures
+use Rattle.run_data.specs.declared.row.Hold.{Hold}
+use Rattle.run_model.specs.Past.{Occurs, bar, begun_job, clock, holds, is_of, jobs, present, runs}
+use Rattle.node_model.specs.Rows.{blocks}
+use Rattle.p2p_wire.specs.declared.message.Message.TheVariants.{Error, Failure, Get, Invalid, Put, PutFrom, Valid, Version}
+use Rattle.p2p_wire.specs.Messages.{order_of}
+use Rattle.run_model.specs.Said.{Said, Says, CloseIt, is_request, message_in}
+use Rattle.run_model.specs.Frames.{Flying, Sent, is_job, last_request, said_of, says, sender, taken_if, up_of, way_of}
+use Rattle.run_model.specs.Logs.{before_step, has_stepped, in_drop, need_read}
+use Rattle.run_model.specs.Drops.{evidence, asked, in_slot, is_first_step, shuts, standing, why, told_cause}
+use Rattle.node_model.specs.Evidence.{candidates, but, is_locked, proof_of, Fails, Ignored}
+
+-- ---- a job, and its drop
+
+abbrev pub side_by : JobKind → Option ℕ → Side
+side_by Drop None = Local
+side_by MoveTo peer = Local
+side_by _ peer = Remote
+
+abbrev pub target_by : ℕ → Side → Option ℕ → ℕ
+target_by r Remote (Some peer) = peer
+target_by r _ peer = r
+
+-- job j of r, by what it was begun with
+pub record JobOf (past : List Entry) (r j : ℕ) : Type 0 where
+  pub what : Job
+  pub begun : begun_job past r j ≡ Some what
+
+abbrev pub side_of : {past : List Entry} → {r j : ℕ} → JobOf past r j → Side
+side_of d = side_by d.what.kind d.what.peer
+
+abbrev pub target_of : {past : List Entry} → {r j : ℕ} → JobOf past r j → ℕ
+target_of {r = r} d = target_by r (side_of d) d.what.peer
+
+-- it is at its first step
+pub record AtFirst (past : List Entry) (r j : ℕ) (d : JobOf past r j) : Type 0 where
+  pub dropping : in_drop past r j ≡ true
+  pub first : before_step past r j ≡ None
+  pub local : side_of d ≡ Local
+
+-- ---- by the row
+
+pub record FoundAbsent (past : List Entry) (r j : ℕ) : Type 0 where
+  pub d : JobOf past r j
+  pub at : AtFirst past r j d
+  pub absent : present past r d.what.key ≡ false
+
+-- until when holds block: an open one without an end
+abbrev pub held_until : List Hold → Option (Option ℕ)
+held_until [] = None
+held_until (h ∷ hs) = Some (if list_any (λ x. not x.kept) (h ∷ hs) then None else Some (fold (λ latest x. max latest x.end) h.end hs))
+
+pub record FoundHeld (repos : List RepoView) (past : List Entry) (r j time : ℕ) (until : Option ℕ) : Type 0 where
+  pub d : JobOf past r j
+  pub at : AtFirst past r j d
+  pub there : present past r d.what.key ≡ true
+  pub free : bar past r d.what.key ≡ None
+  pub held : held_until (filter (blocks d.what.key (clock repos past r time)) (holds past r)) ≡ Some until
+
+pub record FoundBarred (past : List Entry) (r j other : ℕ) : Type 0 where
+  pub d : JobOf past r j
+  pub at : AtFirst past r j d
+  pub barred : bar past r d.what.key ≡ Some other
+
+-- ---- by the evidence
+
+abbrev pub items : (repos : List RepoView) (past : List Entry) (r j : ℕ) → JobOf past r j → List Evidence
+items repos past r j d = evidence (side_of d) repos past r j (target_of d) (need_read past r j)
+
+-- the candidate gave nothing, and an entry told the job why, or the logs did
+pub record IsCauseOf (repos : List RepoView) (past : List Entry) (r j : ℕ) (cs : List ℕ) (x : CandidateCause) : Type 0 where
+  pub candidate : Member x.repo cs
+  pub failed : asked repos past r j x.repo ≡ Fails
+  pub told : (told_cause past r j x.repo ≡ Some x.cause) ⊎ (standing repos past r j x.repo ≡ Ignored x.cause)
+
+-- each candidate gave evidence or a cause, the evidence is not enough, and the outcome states both
+pub record FoundLacking (repos : List RepoView) (past : List Entry) (r j : ℕ) (proof : Proof) (reasons : List CandidateCause) : Type 0 where
+  pub d : JobOf past r j
+  pub wants : is_enough (side_of d) (need_read past r j) (items repos past r j d) ≡ false
+  pub proof_is : proof ≡ proof_of (length repos) (need_read past r j) (items repos past r j d)
+  pub causes : Each (IsCauseOf repos past r j (candidates (side_of d) (length repos) r (target_of d))) reasons
+  pub all : Each (λ c. asked repos past r j c ≡ Fails → Member (record { repo = c; cause = why repos past r j c }) reasons) (candidates (side_of d) (length repos) r (target_of d))
+
+-- the clock wasn't below the first end of the locked items: now, or as the release of the own share failed
+pub record FoundExpired (repos : List RepoView) (past : List Entry) (r j time end clk : ℕ) : Type 0 where
+  pub d : JobOf past r j
+  pub first : least_end (items repos past r j d) ≡ Some end
+  pub late : end ≤ clk
+  pub when : (clk ≡ clock repos past r time)
+      ⊎ ((x : Entry) × (before : List Entry) × (Occurs past x before) × (is_of r x ≡ true) × (x.kind ≡ Fault Unhold (by_job j)) × (clk ≡ clock repos before r x.time))
+
+-- ---- by a peer
+
+-- an entry of the job takes a frame with this message from the peer
+pub record Hears (past : List Entry) (r j peer : ℕ) (m : Said) : Type 0 where
+  pub entry : Entry
+  pub before : List Entry
+  pub occurs : Occurs past entry before
+  pub own : is_job r j entry ≡ true
+  pub f : FrameView
+  pub takes_it : entry.taken ≡ Some f
+  pub peer_is : f.peer ≡ peer
+  pub down : f.up ≡ false
+  pub says : message_in f.body ≡ m
+
+-- the message that it takes answers this request: the last one on the connection
+pub record Answers (past : List Entry) (r j peer : ℕ) (asked answer : Said) : Type 0 where
+  pub hears : Hears past r j peer answer
+  pub request : Flying
+  pub last : last_request hears.before (up_of (way_of r hears.f)) ≡ Some request
+  pub asked_is : said_of request ≡ asked
+
+-- and this is the entry that sent it
+pub record SentBy (past : List Entry) (r j peer : ℕ) (m : Said) (h : Hears past r j peer m) : Type 0 where
+  pub s : Sent
+  pub sent_is : sender h.before r (Some h.f) ≡ Some s
+
+-- the job's end of its connection with the peer is closed here
+pub record Closes (past : List Entry) (r j peer : ℕ) : Type 0 where
+  pub entry : Entry
+  pub before : List Entry
+  pub occurs : Occurs past entry before
+  pub own : is_of r entry ≡ true
+  pub slot : ℕ
+  pub kind_is : entry.kind ≡ Close peer slot true
+  pub slot_is : in_slot (jobs before r) j slot ≡ true
+
+-- the connection with the peer was closed, by the peer or here
+abbrev pub ClosedWith : List Entry → ℕ → ℕ → ℕ → Type 0
+ClosedWith past r j peer = Hears past r j peer CloseIt ⊎ Closes past r j peer
+
+-- ---- by the target
+
+abbrev pub denied_by : EntryKind → Option Denial
+denied_by (Check found.Late key) = Some denials.Late
+denied_by (Check found.Barred key) = Some denials.Barred
+denied_by (Check found.Held key) = Some denials.Held
+denied_by (Fault call by) = Some denials.Fault
+denied_by _ = None
+
+-- its order was answered by FAILURE, for what the target found
+pub record WasDenied (past : List Entry) (r j : ℕ) (answer : Denial) : Type 0 where
+  pub d : JobOf past r j
+  pub deadline : Option ℕ
+  pub refused : Answers past r j (target_of d) (Says (order_of deadline d.what.key)) (Says Failure)
+  pub by : SentBy past r j (target_of d) (Says Failure) refused.hears
+  pub found : denied_by by.s.entry.kind ≡ Some answer
+
+abbrev pub is_order : EntryKind → Bool
+is_order (Order job target deadline need key) = true
+is_order _ = false
+
+-- the connection with the target was closed before its answer
+pub record WasLost (past : List Entry) (r j : ℕ) (ordered : Bool) : Type 0 where
+  pub d : JobOf past r j
+  pub closed : ClosedWith past r j (target_of d)
+  pub ordered_is : list_any (λ e. is_job r j e && is_order e.kind) past ≡ ordered
+
+-- the target speaks a version without deadlines, and there is a lock
+pub record FoundOld (repos : List RepoView) (past : List Entry) (r j version : ℕ) : Type 0 where
+  pub d : JobOf past r j
+  pub hears : Hears past r j (target_of d) (Says (Version version))
+  pub old : version < 3
+  pub locked : list_any (λ i. is_locked i.kind) (items repos past r j d) ≡ true
+
+-- ---- by its store
+
+-- a call for the job failed, other than for a line that was owed
+pub record FailedCall (past : List Entry) (r j : ℕ) : Type 0 where
+  pub entry : Entry
+  pub before : List Entry
+  pub occurs : Occurs past entry before
+  pub own : is_of r entry ≡ true
+  pub call : Call
+  pub kind_is : entry.kind ≡ Fault call (by_job j)
+  pub not_owed : call ≢ PutFile
+
+-- and other than for its own share in a remote drop
+pub record HadFault (past : List Entry) (r j : ℕ) : Type 0 where
+  pub d : JobOf past r j
+  pub fault : FailedCall past r j
+  pub not_own : side_of d ≡ Remote → is_first_step fault.before r j fault.entry ≡ false
+
+-- The cause of a drop's refusal. Required content is not refused yet; a crash ends its jobs without an entry of theirs.
+abbrev pub CauseOf : List RepoView → List Entry → ℕ → ℕ → ℕ → DropRefusal → Type 0
+CauseOf repos past r j time NotPresent = FoundAbsent past r j
+CauseOf repos past r j time (Held until) = FoundHeld repos past r j time until
+CauseOf repos past r j time (Barred other) = FoundBarred past r j other
+CauseOf repos past r j time (Lacking proof reasons) = FoundLacking repos past r j proof reasons
+CauseOf repos past r j time (Expired end clk) = FoundExpired repos past r j time end clk
+CauseOf repos past r j time (Denied answer) = WasDenied past r j answer
+CauseOf repos past r j time (Lost ordered) = WasLost past r j ordered
+CauseOf repos past r j time (OldProtocol version) = FoundOld repos past r j version
+CauseOf repos past r j time StoreFault = HadFault past r j
+CauseOf repos past r j time _ = ⊥
+
+-- ---- transfers
+
+abbrev pub gets : JobKind → Bool
+gets kinds.Get = true
+gets kinds.MoveFrom = true
+gets _ = false
+
+abbrev pub puts : JobKind → Bool
+puts kinds.Copy = true
+puts kinds.MoveTo = true
+puts _ = false
+
+-- a copy's first step found the content absent
+pub record FoundNotHere (past : List Entry) (r j : ℕ) : Type 0 where
+  pub d : JobOf past r j
+  pub kind_is : puts d.what.kind ≡ true
+  pub first : has_stepped past r j ≡ false
+  pub absent : present past r d.what.key ≡ false
+
+abbrev pub is_failure : Said → Bool
+is_failure (Says Failure) = true
+is_failure _ = false
+
+-- why a peer gave a get nothing: the connection was closed; the bytes didn't match, which the job answers by FAILURE; or they weren't
+-- there from the place on that it asked for
+abbrev pub SourceCauseOf : List Entry → ℕ → ℕ → List ℕ → ℕ → SourceCause → Type 0
+SourceCauseOf past r j key peer sources.Closed = ClosedWith past r j peer
+SourceCauseOf past r j key peer sources.Wrong = (h : Hears past r j peer (Says Valid)) × (list_any (says is_failure) h.entry.sent ≡ true)
+SourceCauseOf past r j key peer sources.Absent = (file : List ℕ) × Answers past r j peer (Says (Get 0 file key)) (Says Invalid)
+SourceCauseOf past r j key peer sources.Invalid = (start : ℕ) × (file : List ℕ) × (start ≢ 0) × Answers past r j peer (Says (Get start file key)) (Says Invalid)
+
+-- the peers that a get asks, one after the other
+abbrev pub sources_of : ℕ → ℕ → Option ℕ → List ℕ
+sources_of r n (Some peer) = peer ∷ []
+sources_of r n None = but r (range_with_len 0 n)
+
+-- each of them gave nothing
+pub record FoundNoSource (repos : List RepoView) (past : List Entry) (r j : ℕ) (reasons : List SourceFailure) : Type 0 where
+  pub d : JobOf past r j
+  pub all : map (λ x. x.repo) reasons ≡ sources_of r (length repos) d.what.peer
+  pub causes : Each (λ x. SourceCauseOf past r j d.what.key x.repo x.cause) reasons
+
+-- another get of the key runs here, and has made a step
+pub record FillsByGet (past : List Entry) (r : ℕ) (key : List ℕ) : Type 0 where
+  pub other : ℕ
+  pub d : JobOf past r other
+  pub runs_it : runs (jobs past r) other ≡ true
+  pub kind_is : gets d.what.kind ≡ true
+  pub key_is : d.what.key ≡ key
+  pub begun : has_stepped past r other ≡ true
+
+abbrev pub is_put_from : Said → Bool
+is_put_from (Says (PutFrom n)) = true
+is_put_from _ = false
+
+-- a client was told to send the content, and nothing else was asked on that connection since
+pub record FillsByPut (past : List Entry) (r : ℕ) (key : List ℕ) : Type 0 where
+  pub entry : Entry
+  pub before : List Entry
+  pub occurs : Occurs past entry before
+  pub own : is_of r entry ≡ true
+  pub f : FrameView
+  pub takes_it : entry.taken ≡ Some f
+  pub from_client : f.up ≡ true
+  pub file : List ℕ
+  pub asked : message_in f.body ≡ Says (Put file key)
+  pub answered : list_any (says is_put_from) entry.sent ≡ true
+  pub last : taken_if is_request past (way_of r f) ≡ taken_if is_request before (way_of r f) + 1
+
+-- a get's first step found the content absent, and being filled
+pub record FoundFilled (past : List Entry) (r j : ℕ) : Type 0 where
+  pub d : JobOf past r j
+  pub kind_is : gets d.what.kind ≡ true
+  pub first : has_stepped past r j ≡ false
+  pub absent : present past r d.what.key ≡ false
+  pub filled : FillsByGet past r d.what.key ⊎ FillsByPut past r d.what.key
+
+-- a copy's peer answered that the key is being filled there
+pub record WasBusy (past : List Entry) (r j : ℕ) : Type 0 where
+  pub d : JobOf past r j
+  pub peer : ℕ
+  pub file : List ℕ
+  pub busy : Answers past r j peer (Says (Put file d.what.key)) (Says (Error (codes "busy")))
+
+-- the size of a content, if it is there
+abbrev pub size_after : List ℕ → Option ℕ → EntryKind → Option ℕ
+size_after key was (Gain source size k) = if bytes_eq k key then Some size else was
+size_after key was (Gone source k) = if bytes_eq k key then None else was
+size_after key was _ = was
+
+abbrev pub size_of : List Entry → ℕ → List ℕ → Option ℕ
+size_of [] r key = None
+size_of (e ∷ past) r key = if is_of r e then size_after key (size_of past r key) e.kind else size_of past r key
+
+abbrev pub IsBelow : Option ℕ → ℕ → Type 0
+IsBelow None n = Unit {0}
+IsBelow (Some size) n = size < n
+
+-- the job itself closes the connection: the content is gone, or shorter than the place that the peer asks for, or than it was as the
+-- job began to send it
+pub record FellShort (past : List Entry) (r j peer : ℕ) (key : List ℕ) : Type 0 where
+  pub entry : Entry
+  pub before : List Entry
+  pub occurs : Occurs past entry before
+  pub own : is_job r j entry ≡ true
+  pub closes : list_any (shuts peer) entry.sent ≡ true
+  pub place : ℕ
+  pub short : IsBelow (size_of before r key) place
+  pub why' : ((f : FrameView) × (entry.taken ≡ Some f) × (message_in f.body ≡ Says (PutFrom place)))
+      ⊎ ((x : Entry) × (then' : List Entry) × (Occurs before x then') × (is_job r j x ≡ true) × (size_of then' r key ≡ Some place))
+
+pub record WasClosed (past : List Entry) (r j : ℕ) : Type 0 where
+  pub d : JobOf past r j
+  pub peer : ℕ
+  pub closed : ClosedWith past r j peer ⊎ FellShort past r j peer d.what.key
+
+abbrev pub rejects : EntryKind → Bool
+rejects (Talk None) = true
+rejects (Fault call by) = true
+rejects _ = false
+
+-- the peer answered FAILURE, to PUT or to VALID: the bytes didn't match, or a call of its store failed
+pub record WasRejected (past : List Entry) (r j : ℕ) : Type 0 where
+  pub d : JobOf past r j
+  pub peer : ℕ
+  pub asked : Said
+  pub asked_is : (asked ≡ Says Valid) ⊎ ((file : List ℕ) × (asked ≡ Says (Put file d.what.key)))
+  pub refused : Answers past r j peer asked (Says Failure)
+  pub by : SentBy past r j peer (Says Failure) refused.hears
+  pub found : rejects by.s.entry.kind ≡ true
+
+-- The cause of a transfer's refusal; a crash ends its jobs without an entry of theirs.
+abbrev pub TransferCauseOf : List RepoView → List Entry → ℕ → ℕ → TransferRefusal → Type 0
+TransferCauseOf repos past r j failures.NotHere = FoundNotHere past r j
+TransferCauseOf repos past r j (failures.NoSource reasons) = FoundNoSource repos past r j reasons
+TransferCauseOf repos past r j failures.Busy = FoundFilled past r j ⊎ WasBusy past r j
+TransferCauseOf repos past r j failures.Closed = WasClosed past r j
+TransferCauseOf repos past r j failures.Rejected = WasRejected past r j
+TransferCauseOf repos past r j failures.StoreFault = FailedCall past r j
+TransferCauseOf repos past r j _ = ⊥
+
+-- ---- runs
+
+-- an entry that ends a job by a refusal has its cause
+pub record IsCaused (repos : List RepoView) (past : List Entry) (e : Entry) : Type 0 where
+  pub drops : (r j : ℕ) (refusal : DropRefusal) → is_of r e ≡ true → e.kind ≡ End j (Refused refusal) → CauseOf repos past r j e.time refusal
+  pub transfers : (r j : ℕ) (refusal : TransferRefusal) → is_of r e ≡ true → e.kind ≡ End j (TransferRefused refusal) → TransferCauseOf repos past r j refusal
+
+abbrev pub CausedPast : List RepoView → List Entry → Type 0
+CausedPast repos [] = Unit {0}
+CausedPast repos (e ∷ past) = IsCaused repos past e × CausedPast repos past
+
+-- each refused job of the run has its cause
+pub record HasCauses (run : Run) : Type 0 where
+  pub causes : CausedPast run.repos (reverse run.entries)

@@ -1,0 +1,11 @@
+pub mod Past
+pub mod Said
+pub mod Frames
+pub mod Logs
+pub mod Drops
+pub mod Safety
+pub mod States
+pub mod Words
+pub mod Run
+pub mod Answers
+pub mod Causes
