@@ -17,11 +17,11 @@ use Rattle.annex_key.specs.KeyText.{is_backend, is_backend_byte, is_upper, field
 use Rattle.annex_key.specs.KeyFile.{ampersand, percent, colon, slash, escaped, file_text}
 use Rattle.annex_key.specs.View.{unchunked_text}
 use Rattle.annex_key.proofs.Steps.{both_true, list_all_weaker}
+use Rattle.annex_base.proofs.Lists.{Contains-from_Member}
 use Rattle.log_lines.specs.declared.entry.LogKind.{LogKind}
 use Rattle.log_lines.specs.declared.entry.LogKind.TheVariants as kinds
 use Rattle.log_lines.proofs.WordLemmas.{all_append, append_all}
 use Rattle.union_merge.specs.LineSet.{newline, IsLine}
-use Rattle.union_merge.proofs.PlaceLemmas.{Member-contains}
 use Rattle.trust_groups.specs.Settings.{file_name, location_path}
 use Rattle.run_data.specs.declared.entry.LogFile.{LogFile}
 use Rattle.run_data.specs.declared.entry.LogFile.TheVariants.{Location, Named}
@@ -94,7 +94,7 @@ chunk_one_line (Some c) small =
 key_one_line : (text : List ℕ) → IsKeyText text → IsOneLine text
 key_one_line text is =
     let k = is.parts in
-    let name : IsOneLine k.name = one_line_by_members k.name (λ among. is.key.name.one_line (Member-contains k.name 10 among)) in
+    let name : IsOneLine k.name = one_line_by_members k.name (λ among. is.key.name.one_line (Contains-from_Member k.name 10 among)) in
     let end = dash ∷ dash ∷ k.name in
     let chunk = chunk_text k.chunk ++ end in
     let mtime = field_text mtime_letter k.mtime ++ chunk in

@@ -1,5 +1,5 @@
+//! The types that cross threads.
 use crate::branch::Branch;
-use crate::fault::BundleFault;
 use crate::line_set::LineSet;
 
 fn is_send<T: Send>() {}
@@ -12,6 +12,4 @@ fn cross_threads() {
     is_sync::<LineSet>();
     is_send::<Branch>();
     is_sync::<Branch>();
-    is_send::<BundleFault>();
-    is_sync::<BundleFault>();
 }
