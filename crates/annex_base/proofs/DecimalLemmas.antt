@@ -1,11 +1,12 @@
 -- A decimal word has one number, and a number below 2 ^ 64 one word.
-use Rattle.std.proofs.Common.{◌≡◌, ℕ, ◌<◌, ◌≤◌, ◌^◌, ◌⊎◌, inl, inr, Bool, true, false, cond, ltb, ◌&&◌, List, length, get_or, drop, Option, Some, None, Result, Ok, Err, arith, refl, sym, ap, subst, ◌∙◌}
+use Rattle.std.proofs.Common.{◌≡◌, ℕ, ◌<◌, ◌≤◌, ◌^◌, ◌⊎◌, inl, inr, ltb, ◌&&◌, List, length, get_or, drop, Some, None, Result, Ok, Err, arith, refl, sym, ap, subst, ◌∙◌}
 use Rattle.std.specs.Fmt.{decimal}
 use Rattle.std.specs.Str.{bytes_eq, IsUtf8}
 use Rattle.std.specs.Str.Parse.{digits_value, AllDigits, IsNumeral, ParsesUnsigned, without_leading_plus}
 use Rattle.std.proofs.Math.Nat.{eq-zero-or-pos}
 use Rattle.std.proofs.lemmas.Bool.Decides.{eqb_tells}
-use Rattle.std.proofs.lemmas.Bool.{ltb-true, lt-ltb}
+use Rattle.std.proofs.lemmas.Bool.{and_parts, ltb-true, lt-ltb}
+use Rattle.std.proofs.lemmas.Option.{cond_some}
 use Rattle.std.proofs.lemmas.List.{length-drop}
 use Rattle.std.proofs.lemmas.Str.{IsUtf8-from_ascii}
 use Rattle.std.proofs.lemmas.Str.Parse.{IsNumeralModel, numerals_by_value, tells_digits, without_leading_plus_none, without_leading_plus_plus}
@@ -13,6 +14,7 @@ use Rattle.std.proofs.lemmas.Slice.Eq.{bytes_eq-Decides}
 use Rattle.std.proofs.lemmas.Fmt.{digits_value-decimal, parse-decimal, decimal-digits_value, first_decimal, IsAscii-decimal, decimal_digit}
 use Rattle.std.specs.Result.{result_ok}
 use Rattle.annex_base.specs.Decimal.{number_of}
+use Rattle.annex_base.proofs.Options.{none_by}
 
 own : IsNumeralModel (AllDigits 10) (digits_value 10)
 own = numerals_by_value (AllDigits 10) tells_digits
@@ -23,24 +25,16 @@ number_is n small =
     let back : digits_value 10 (decimal n) ≡ n = digits_value-decimal own n small in
     rw (back, lt-ltb n (2 ^ 64) small, (bytes_eq-Decides (decimal n) (decimal n)).1 refl) refl
 
-chosen : (a b : Bool) (m n : ℕ) → cond (a && b) (Some m) None ≡ Some n → (a ≡ true) × (b ≡ true) × (m ≡ n)
-chosen true true m n e = (refl, refl, cc)
-chosen true false m n e = absurd cc
-chosen false b m n e = absurd cc
-
 pub number_some : (word : List ℕ) (n : ℕ) → number_of word ≡ Some n → (word ≡ decimal n) × (n < 2 ^ 64)
 unfolding number_of
 number_some word n e =
     let v = digits_value 10 word in
-    let h = chosen (ltb v (2 ^ 64)) (bytes_eq (decimal v) word) v n e in
-    (sym ((bytes_eq-Decides (decimal v) word).0 h.1) ∙ ap decimal h.2, subst (λ k. k < 2 ^ 64) h.2 (ltb-true v (2 ^ 64) h.0))
+    let h = cond_some (ltb v (2 ^ 64) && bytes_eq (decimal v) word) v n e in
+    let tests = and_parts (ltb v (2 ^ 64)) (bytes_eq (decimal v) word) h.0 in
+    (sym ((bytes_eq-Decides (decimal v) word).0 tests.1) ∙ ap decimal h.1, subst (λ k. k < 2 ^ 64) h.1 (ltb-true v (2 ^ 64) tests.0))
 
 ok_or_err : {E : Type 0} (n : ℕ) (e : E) → Err e ≡ Ok n → ⊥
 ok_or_err n e h = cc
-
-none_by : (o : Option ℕ) → ((n : ℕ) → o ≡ Some n → ⊥) → o ≡ None
-none_by None h = refl
-none_by (Some n) h = absurd (h n refl)
 
 -- a word that no number has
 pub number_none : (word : List ℕ) → ((n : ℕ) → n < 2 ^ 64 → word ≡ decimal n → ⊥) → number_of word ≡ None

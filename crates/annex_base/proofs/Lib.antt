@@ -1,6 +1,11 @@
+pub mod Conditions
 pub mod DecimalLemmas
 pub mod KnownLemmas
+pub mod Lines
 pub mod Lists
+pub mod Numbers
+pub mod Options
 pub mod RepoLemmas
+pub mod Results
 pub mod StampLemmas
 pub mod TextOrder

@@ -1,12 +1,13 @@
 -- A stamp's text: what digits write, what is read from left to right, and what is written.
-use Rattle.std.proofs.Common.{◌≡◌, ◌⊎◌, inl, inr, ℕ, zero, suc, ◌+◌, ◌-◌, ◌*◌, ◌/◌, ◌%◌, ◌^◌, ◌<◌, ◌≤◌, Bool, true, false, ◌&&◌, ◌==◌, nat_lt, nat_le, if◌then◌else◌, true≢false, List, [], ◌∷◌, ◌++◌, length, take, drop, get_or, codes, Option, Some, None, option_and_then, refl, sym, ap, subst, ◌∙◌, append_assoc, rules, lit<, lit≤, sub-one, arith}
+use Rattle.std.proofs.Common.{◌≡◌, ◌⊎◌, inl, inr, ℕ, zero, suc, ◌+◌, ◌-◌, ◌*◌, ◌/◌, ◌%◌, ◌^◌, ◌<◌, ◌≤◌, Bool, true, false, ◌&&◌, ◌==◌, nat_lt, nat_le, if◌then◌else◌, true≢false, List, [], ◌∷◌, ◌++◌, length, take, drop, get_or, codes, Some, refl, sym, ap, subst, ◌∙◌, append_assoc, rules, lit<, lit≤, sub-one, arith}
 use Rattle.std.specs.Char.{is_ascii_digit, digit_value}
 use Rattle.std.specs.List.{AllPass, prefix_len, list_all}
 use Rattle.std.specs.Fmt.{decimal}
 use Rattle.std.specs.Str.Parse.{AllDigits, digits_value, digits_value_after}
 use Rattle.std.proofs.Math.Nat.{pow-le-pow_right, one-le-pow, mul-le-mul_right, pow-succ', div-lt_iff_lt-mul, mod-lt, div-add-mod, eq-zero-or-pos}
 use Rattle.std.proofs.lemmas.Nat.{pow-add}
-use Rattle.std.proofs.lemmas.Bool.{ltb-true, lt-ltb, leb-true, le-leb, eqb-true}
+use Rattle.std.proofs.lemmas.Bool.{and_parts, ltb-true, lt-ltb, leb-true, le-leb, eqb-true}
+use Rattle.std.proofs.lemmas.Option.{cond_some, same_Some}
 use Rattle.std.proofs.lemmas.Bool.Decides.{nat_tests}
 use Rattle.std.proofs.lemmas.Int.Digits.{digits_value-lt, digits_value_more}
 use Rattle.std.proofs.lemmas.Str.Parse.{IsNumeralModel, numerals_by_value, digits_value-take-le}
@@ -16,10 +17,8 @@ use Rattle.std.proofs.lemmas.List.Sums.{prefix_len_passes, prefix_len_is, list_a
 use Rattle.std.proofs.lemmas.List.Folds.{length-prefix_len, prefix_len-append}
 use Rattle.annex_base.specs.StampText.{IsStamp, fraction_text, nanos_of, digits_after_point, stamp_text}
 use Rattle.annex_base.specs.StampReading.{digits_at, fraction_at, is_ending, stamp_of}
-
-both_true : (a b : Bool) → (a && b) ≡ true → (a ≡ true) × (b ≡ true)
-both_true true b e = (refl, e)
-both_true false b e = absurd (true≢false (sym e))
+use Rattle.annex_base.proofs.Options.{bind_some}
+use Rattle.annex_base.proofs.Conditions.{if_is}
 
 digit_below : (c : ℕ) → is_ascii_digit c ≡ true → digit_value c < 10
 digit_below c is = grind (arith, nat_tests)
@@ -30,7 +29,7 @@ digit_is c is = grind (arith, nat_tests)
 all_digits : (ds : List ℕ) → list_all is_ascii_digit ds ≡ true → AllDigits 10 ds
 all_digits [] is = tt
 all_digits (c ∷ ds) is =
-    let both = both_true (is_ascii_digit c) (list_all is_ascii_digit ds) is in (digit_below c both.0, all_digits ds both.1)
+    let both = and_parts (is_ascii_digit c) (list_all is_ascii_digit ds) is in (digit_below c both.0, all_digits ds both.1)
 
 -- digits write a number below the power of their count
 pub digits_below : (ds : List ℕ) → AllPass is_ascii_digit ds → digits_value 10 ds < 10 ^ length ds
@@ -62,14 +61,6 @@ scaled_below value k n short below =
 
 -- ---- what is read is a stamp's text
 
-some_where : {A : Type 0} (b : Bool) (x y : A) → (if b then Some x else None) ≡ Some y → (b ≡ true) × (x ≡ y)
-some_where true x y e = (refl, cc)
-some_where false x y e = absurd cc
-
-and_then : {A B : Type 0} (f : A → Option B) (o : Option A) (y : B) → option_and_then f o ≡ Some y → (x : A) × (o ≡ Some x) × (f x ≡ Some y)
-and_then f None y e = absurd cc
-and_then f (Some x) y e = (x, refl, e)
-
 -- some digits, at most so many, and then the rest
 record Splits (most : ℕ) (bytes digits rest : List ℕ) : Type 0 where
   spelled : bytes ≡ digits ++ rest
@@ -81,8 +72,8 @@ digits_take : (most : ℕ) (bytes : List ℕ) (x : List ℕ × List ℕ) → dig
 unfolding digits_at
 digits_take most bytes x e =
     let n = prefix_len is_ascii_digit bytes in
-    let h = some_where (nat_lt 0 n && nat_le n most) (take n bytes, drop n bytes) x e in
-    let tests = both_true (nat_lt 0 n) (nat_le n most) h.0 in
+    let h = cond_some (nat_lt 0 n && nat_le n most) (take n bytes, drop n bytes) x e in
+    let tests = and_parts (nat_lt 0 n) (nat_le n most) h.0 in
     let counted = length-prefix_len is_ascii_digit bytes in
     subst (λ (y : List ℕ × List ℕ). Splits most bytes y.0 y.1) h.1 (record {
       spelled = sym (take-append-drop n bytes);
@@ -107,23 +98,16 @@ after_point b bytes (d ∷ ds) rest point is = record {
   all = is.all;
 }
 
-chosen : {A : Type 0} (b : Bool) (x y z : A) → (if b then x else y) ≡ z → ((b ≡ true) × (x ≡ z)) ⊎ ((b ≡ false) × (y ≡ z))
-chosen true x y z e = inl (refl, e)
-chosen false x y z e = inr (refl, e)
-
-pub some_is : {A : Type 0} (x y : A) → Some x ≡ Some y → x ≡ y
-some_is x y e = cc
-
 no_fraction : (bytes : List ℕ) (x : List ℕ × List ℕ) → Some ([], bytes) ≡ Some x → SplitsFraction bytes x.0 x.1
 no_fraction bytes x e =
-    subst (λ (y : List ℕ × List ℕ). SplitsFraction bytes y.0 y.1) (some_is ([], bytes) x e)
+    subst (λ (y : List ℕ × List ℕ). SplitsFraction bytes y.0 y.1) (same_Some ([], bytes) x e)
     (record { spelled = refl; short = omega arith; all = none_pass })
 
 fraction_takes : (bytes : List ℕ) (x : List ℕ × List ℕ) → fraction_at bytes ≡ Some x → SplitsFraction bytes x.0 x.1
 unfolding fraction_at
 fraction_takes [] x e = no_fraction [] x e
 fraction_takes (b ∷ bytes) x e =
-    elim (chosen (b == 46) (digits_at 12 bytes) (Some ([], b ∷ bytes)) (Some x) e) [
+    elim (if_is (b == 46) (digits_at 12 bytes) (Some ([], b ∷ bytes)) (Some x) e) [
       | inl point ↦ after_point b bytes x.0 x.1 (eqb-true b 46 point.0) (digits_take 12 bytes x point.1)
       | inr other ↦ no_fraction (b ∷ bytes) x other.1
     ]
@@ -137,9 +121,9 @@ ending_takes (b ∷ c ∷ bytes) e = absurd (true≢false (sym e))
 pub stamp_takes : (text : List ℕ) (n : ℕ) → stamp_of text ≡ Some n → IsStamp text n
 unfolding stamp_of
 stamp_takes text n e =
-    let s = and_then _ (digits_at 10 text) n e in
-    let f = and_then _ (fraction_at s.0.1) n s.2 in
-    let v = some_where (is_ending f.0.1) (digits_value 10 s.0.0 * 10 ^ 9 + nanos_of f.0.0) n f.2 in
+    let s = bind_some (digits_at 10 text) _ n e in
+    let f = bind_some (fraction_at s.0.1) _ n s.2 in
+    let v = cond_some (is_ending f.0.1) (digits_value 10 s.0.0 * 10 ^ 9 + nanos_of f.0.0) n f.2 in
     let seconds = digits_take 10 text s.0 s.1 in
     let fraction = fraction_takes s.0.1 f.0 f.1 in
     record {
@@ -282,6 +266,9 @@ writes_places (suc k) n below =
           let rest = writes_places k (n % 10 ^ k) (mod-lt n (unit_some k)) in
           rw (digits-suc k n some) (one_place_more k n (digits_after_point k (n % 10 ^ k)) (digit_small k n below) rest)
     ]
+
+pub places_digits : (k n : ℕ) → n < 10 ^ k → AllPass is_ascii_digit (digits_after_point k n)
+places_digits k n below = (writes_places k n below).all
 
 -- a fraction of nine places reads as its nanoseconds
 nanos_again : (n : ℕ) → n < 10 ^ 9 → nanos_of (digits_after_point 9 n) ≡ n

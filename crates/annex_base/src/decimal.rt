@@ -1,4 +1,5 @@
-ghost use Rattle.std.specs.Prelude.{◌≡◌, ◌++◌, OnOk};
+//! Numbers in decimal.
+ghost use Rattle.std.specs.Prelude.{◌≡◌, ◌++◌, OnOk, OnErr};
 ghost use Rattle.std.specs.Fmt.{decimal};
 ghost use Rattle.annex_base.specs.Decimal.{number_of};
 
@@ -19,9 +20,10 @@ pub fn parse_decimal(word: &[u8]) -> Option<u64>
     text.parse::<u64>().ok()
 }
 
-/// Adds the decimal text of a number.
+/// Adds the decimal text of a number; without memory it adds nothing.
 pub fn put_number(out: &mut Vec<u8>, n: u64) -> Result<(), AllocError>
-    ensures { OnOk result (out.new.items ≡ out.old.items ++ decimal n) }
+    ensures ok { OnOk result (out.new.items ≡ out.old.items ++ decimal n) }
+    ensures err { OnErr result (out.new.items ≡ out.old.items) }
 {
     let mut digits = String::new(*out.allocator());
     write!(digits, "{n}")?;

@@ -1,3 +1,4 @@
+//! Where a test may hold threads.
 /// Where a test may hold the threads of a block (own).
 ///
 /// In a block on threads `reached` is called before each turn that a repository's thread makes, with the

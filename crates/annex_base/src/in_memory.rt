@@ -1,3 +1,4 @@
+//! Sources and sinks in memory, with the failures that are asked for.
 ghost use Rattle.std.specs.Prelude.{◌≡◌, ◌<◌, ◌≤◌, ◌↔◌, ◌⊎◌, ◌-◌, ◌++◌, [], length, take, drop, min, IfOk, OnErr, IsErr, Contains, Some, vec_len, vec_capacity};
 ghost use Rattle.std.specs.Option.{ForSome};
 ghost use Rattle.std.specs.Io.{ReadsAtMost, WritesAtMost};

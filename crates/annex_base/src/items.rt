@@ -1,3 +1,4 @@
+//! Lists of plain data.
 ghost use Rattle.std.specs.Prelude.{◌≡◌, List, [], ◌∷◌, ◌++◌, OnOk, OnErr};
 
 use crate::memory::NoMemory;
@@ -26,7 +27,7 @@ impl<T: Drop> Items<T> {
         }
     }
 
-    /// The list of a vector's elements.
+    /// The list of a vector's elements, which are not copied.
     pub fn from_vec(items: Vec<T>) -> Items<T>
         ensures { result ≡ items.items }
     {

@@ -1,3 +1,4 @@
+//! Plain kinds: calls of a store, what was found, words of refusals, trust, the stamps of a journal.
 /// A call of a repository's store, as scripts and journals name it (own).
 #[derive(Clone, Copy, Debug, PartialEq, Eq)]
 pub enum Call {

@@ -12,10 +12,9 @@ mod repo;
 mod source;
 mod stamp;
 mod standard;
-#[cfg(test)]
-mod tests;
 mod text;
 
+pub use crossing::crosses;
 pub use decimal::{parse_decimal, put_number};
 pub use gate::{Gate, OpenGate};
 pub use in_memory::{SliceSource, VecSink};

@@ -1,5 +1,7 @@
+//! Identifiers of repositories.
 ghost use Rattle.std.specs.Prelude.{◌≡◌, List, ℕ, IfOk, Ok};
-ghost use Rattle.annex_base.specs.RepoText.{IsId, repo_text};
+ghost use Rattle.std.specs.Result.{result_ok};
+ghost use Rattle.annex_base.specs.RepoText.{IsId, repo_text, repo_of};
 
 use std::marker::Model;
 use uuid::Uuid;
@@ -33,6 +35,7 @@ impl RepoId {
     pub fn parse(text: &[u8]) -> Result<RepoId, NotUuid>
         ensures found { IfOk result (λ r. IsId r × (text.now ≡ repo_text r)) }
         ensures only { (id : List ℕ) → IsId id → text.now ≡ repo_text id → result ≡ Ok id }
+        ensures exact { result_ok result ≡ repo_of text.now }
     {
         let Ok(word) = str::from_utf8(text) else {
             return Err(NotUuid);

@@ -7,8 +7,6 @@ mod fault;
 mod key;
 mod laws;
 mod reading;
-#[cfg(test)]
-mod tests;
 mod tree;
 
 pub use fault::KeyFault;

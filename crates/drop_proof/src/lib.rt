@@ -5,29 +5,17 @@ mod evidence;
 mod expiry;
 mod rule;
 
+use annex_base::crosses;
 pub use evidence::{Evidence, Kind};
 pub use expiry::{Expired, deadline};
 pub use rule::{Judged, Need, Side, judge};
 
-fn is_send<T: Send>() {}
-
-fn is_sync<T: Sync>() {}
-
 /// These types go from thread to thread.
 fn cross_threads() {
-    is_send::<Kind>();
-    is_sync::<Kind>();
-    is_send::<Evidence>();
-    is_sync::<Evidence>();
-    is_send::<Need>();
-    is_sync::<Need>();
-    is_send::<Side>();
-    is_sync::<Side>();
-    is_send::<Judged>();
-    is_sync::<Judged>();
-    is_send::<Expired>();
-    is_sync::<Expired>();
+    crosses::<Kind>();
+    crosses::<Evidence>();
+    crosses::<Need>();
+    crosses::<Side>();
+    crosses::<Judged>();
+    crosses::<Expired>();
 }
-
-#[cfg(test)]
-mod tests;

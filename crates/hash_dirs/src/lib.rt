@@ -5,6 +5,10 @@ ghost use Rattle.std.specs.Prelude.{◌≡◌, take, drop};
 ghost use Rattle.hex.specs.Hex.{encode_lower};
 ghost use Rattle.md5.specs.Md5.{md5};
 
+mod location;
+
+use annex_base::crosses;
+pub use location::location_path;
 use md5::{Digest, Md5};
 
 /// The two hash directories of a name, the outer one first. Each is three lower-case hexadecimal digits, in ASCII.
@@ -31,15 +35,7 @@ pub fn dirs_of(name: &[u8]) -> Dirs
     }
 }
 
-fn is_send<T: Send>() {}
-
-fn is_sync<T: Sync>() {}
-
 /// These types go from thread to thread.
 fn cross_threads() {
-    is_send::<Dirs>();
-    is_sync::<Dirs>();
+    crosses::<Dirs>();
 }
-
-#[cfg(test)]
-mod tests;

@@ -3,11 +3,12 @@
 
 use annex_base::NoMemory;
 use annex_key::Key;
+use hash_dirs::location_path;
 use log_lines::{LogKind, newest};
 use std::alloc::Global;
 use std::env;
 use std::process::ExitCode;
-use trust_groups::{Settings, location_path};
+use trust_groups::Settings;
 use union_merge::{Branch, LineSet};
 
 /// Adds a line of a location log; every two numbers that follow one another speak of one repository.

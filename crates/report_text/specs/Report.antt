@@ -31,7 +31,8 @@ use Rattle.annex_base.specs.declared.kinds.Level.{Level}
 use Rattle.annex_base.specs.declared.kinds.Level.TheVariants as levels
 use Rattle.union_merge.specs.LineSet.{text_of}
 use Rattle.union_merge.specs.Branch.{Files, lines_at}
-use Rattle.trust_groups.specs.Settings.{settings, location_path}
+use Rattle.hash_dirs.specs.LogPath.{location_path}
+use Rattle.trust_groups.specs.Settings.{settings}
 use Rattle.run_data.specs.Repos.{id_of}
 use Rattle.thin_model.specs.Logs.{branch, file_path}
 use Rattle.thin_model.specs.Past.{begun_job, present}

@@ -2,7 +2,8 @@ ghost use Rattle.std.specs.Prelude.{◌≡◌, ◌++◌, OnOk};
 ghost use Rattle.std.specs.List.{flat_map};
 ghost use Rattle.union_merge.specs.Branch.{lines_at};
 ghost use Rattle.union_merge.specs.LineSet.{text_of};
-ghost use Rattle.trust_groups.specs.Settings.{claims, location_path};
+ghost use Rattle.hash_dirs.specs.LogPath.{location_path};
+ghost use Rattle.trust_groups.specs.Settings.{claims};
 ghost use Rattle.thin_model.specs.Logs.{file_path};
 ghost use Rattle.report_text.specs.Report.{lines_text, log_text, location_text, claims_text};
 
@@ -10,10 +11,11 @@ use crate::named::{named, put_joined};
 use crate::words::{put_name, put_quoted};
 use annex_base::{Line, NoMemory, put_number};
 use annex_key::Key;
+use hash_dirs::location_path;
 use run_data::{LogFile, Run};
 use std::alloc::AllocError;
 use thin_model::file_path;
-use trust_groups::{Levels, claims_of, location_path};
+use trust_groups::{Levels, claims_of};
 use union_merge::{Branch, LineSet};
 
 /// The lines of a file of the branch; one that isn't there has none.

@@ -10,19 +10,20 @@ ghost use Rattle.thin_model.specs.Past.{begun_job, is_of};
 ghost use Rattle.thin_model.specs.Frames.{job_by, job_of};
 ghost use Rattle.thin_model.specs.Logs.{ever, is_step, read_at};
 ghost use Rattle.thin_model.specs.Drops.{key_in};
-ghost use Rattle.trust_groups.specs.Settings.{file_name, is_present, level_in, location_path};
+ghost use Rattle.hash_dirs.specs.LogPath.{location_path};
+ghost use Rattle.trust_groups.specs.Settings.{file_name, is_present, level_in};
 ghost use Rattle.thin_laws.specs.Steps.{added, is_added, is_step_of, key_by};
 ghost use Rattle.thin_laws.specs.Checked.{level_said, present_said, seen_given, seen_in};
 
 use crate::entries::is_of;
 use annex_base::{Items, Level, Line, NoMemory, RepoId, Text};
 use annex_key::Key;
-use hash_dirs::dirs_of;
+use hash_dirs::{dirs_of, location_path};
 use log_lines::{LogKind, Topic, Value, newest_of};
 use run_data::{By, Entry, EntryKind, RepoView};
 use std::alloc::Global;
 use thin_model::file_path;
-use trust_groups::{file_name, location_path};
+use trust_groups::file_name;
 
 /// How the logs see a repository: as trusted and claimed to have the job's key, as untrusted or dead, or as one that is to
 /// be asked.

@@ -12,11 +12,12 @@ ghost use Rattle.thin_model.specs.Logs.{file_path, kind_of, branch, branch_after
 ghost use Rattle.thin_model.specs.Branches.{HasBranches, HasPath, LogsToPath};
 
 use annex_base::{Line, NoMemory, Text};
+use hash_dirs::location_path;
 use log_lines::{LogKind, compact};
 use run_data::{Entry, EntryKind, LogFile};
 use std::alloc::Global;
 use std::collections::BTreeMap;
-use trust_groups::{file_name, location_path};
+use trust_groups::file_name;
 use union_merge::{Branch, LineSet};
 
 const NAMED_KINDS: [LogKind; 8] = [

@@ -17,7 +17,8 @@ use Rattle.log_lines.proofs.OrderLemmas.{other}
 use Rattle.log_lines.proofs.PutLemmas.{IsRising, member_at, at_member}
 use Rattle.log_lines.proofs.NewestLemmas.{newest_rising}
 use Rattle.log_lines.proofs.CompactLemmas.{filter_member, member_filter}
-use Rattle.trust_groups.specs.Settings.{Lines, file_name, location_path, location_entries, value_in, groups_in, number_in, level, groups, is_dead, is_present, repo_of, repos_of, are_dead, is_claim, claims, is_some, has_groups, grouped}
+use Rattle.hash_dirs.specs.LogPath.{location_path}
+use Rattle.trust_groups.specs.Settings.{Lines, file_name, location_entries, value_in, groups_in, number_in, level, groups, is_dead, is_present, repo_of, repos_of, are_dead, is_claim, claims, is_some, has_groups, grouped}
 use Rattle.trust_groups.specs.Claims.{IsClaimed}
 use Rattle.trust_groups.specs.Kept.{groups_among, grouped_among}
 use Rattle.trust_groups.proofs.RepoLemmas.{repos_member, member_repos, repos_sorted}

@@ -14,7 +14,8 @@ use Rattle.log_lines.proofs.Steps.{both_true}
 use Rattle.log_lines.proofs.NewerLemmas.{by_test}
 use Rattle.log_lines.proofs.NewestLemmas.{newest_rising}
 use Rattle.log_lines.proofs.CompactLemmas.{filter_member}
-use Rattle.trust_groups.specs.Settings.{Lines, file_name, location_path, level, numcopies, mincopies, is_dead, is_present, repo_of, repos_of, are_dead, is_claim, claims, has_groups, settings}
+use Rattle.hash_dirs.specs.LogPath.{location_path}
+use Rattle.trust_groups.specs.Settings.{Lines, file_name, level, numcopies, mincopies, is_dead, is_present, repo_of, repos_of, are_dead, is_claim, claims, has_groups, settings}
 use Rattle.trust_groups.specs.Kept.{groups_among, text_among, any_dead, claims_by, claims_among, grouped_among}
 use Rattle.trust_groups.proofs.RepoLemmas.{repos_member, repos_sorted}
 use Rattle.trust_groups.proofs.ClaimLemmas.{not_dead}

@@ -11,7 +11,8 @@ use Rattle.union_merge.specs.LineSet.{union}
 use Rattle.union_merge.specs.Branch.{Files, IsBranch, lines_at, merged_branch, merged_branches}
 use Rattle.union_merge.proofs.SetLemmas.{Member-union, union-left, union-right}
 use Rattle.union_merge.proofs.MergeLemmas.{lines_at-merged_branch, merged_branches-order}
-use Rattle.trust_groups.specs.Settings.{Lines, file_name, location_path, settings}
+use Rattle.hash_dirs.specs.LogPath.{location_path}
+use Rattle.trust_groups.specs.Settings.{Lines, file_name, settings}
 use Rattle.trust_groups.specs.Alike.{KeepsFiles, MayCompact, CompactsFiles}
 
 own_lines : (kind : LogKind) (lines : List (List ℕ)) → Keeps kind lines lines

@@ -10,7 +10,8 @@ use Rattle.log_lines.specs.Newest.{newest, newest_of, entry_at, ReadAlike, compa
 use Rattle.log_lines.specs.Keeping.{SameLines}
 use Rattle.log_lines.proofs.NewestLemmas.{alike_by_members}
 use Rattle.log_lines.proofs.CompactLemmas.{compacted_alike, kept_alike}
-use Rattle.trust_groups.specs.Settings.{Lines, file_name, location_path, location_entries, entry_in, value_in, level_in, text_in, groups_in, number_in, level, numcopies, mincopies, groups, description, preferred, required, group_preferred, is_dead, is_present, repo_of, repos_of, are_dead, is_claim, claims, has_groups, grouped, settings}
+use Rattle.hash_dirs.specs.LogPath.{location_path}
+use Rattle.trust_groups.specs.Settings.{Lines, file_name, location_entries, entry_in, value_in, level_in, text_in, groups_in, number_in, level, numcopies, mincopies, groups, description, preferred, required, group_preferred, is_dead, is_present, repo_of, repos_of, are_dead, is_claim, claims, has_groups, grouped, settings}
 use Rattle.trust_groups.specs.Alike.{SameFiles, SameReading, KeepsFiles, MayCompact, CompactsFiles}
 
 -- two files of a kind whose newest entries are the same

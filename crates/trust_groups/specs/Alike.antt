@@ -5,7 +5,8 @@ use Rattle.log_lines.specs.declared.entry.LogKind.{LogKind}
 use Rattle.log_lines.specs.declared.entry.LogKind.TheVariants as kinds
 use Rattle.log_lines.specs.Newest.{ReadAlike, compacted}
 use Rattle.log_lines.specs.Keeping.{SameLines, Keeps}
-use Rattle.trust_groups.specs.Settings.{Lines, file_name, location_path}
+use Rattle.hash_dirs.specs.LogPath.{location_path}
+use Rattle.trust_groups.specs.Settings.{Lines, file_name}
 
 -- each file has the same lines in both, in any order and any number
 abbrev pub SameFiles : Lines → Lines → Type 0

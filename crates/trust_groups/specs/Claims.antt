@@ -7,7 +7,8 @@ use Rattle.log_lines.specs.declared.entry.Topic.TheVariants as topics
 use Rattle.log_lines.specs.declared.entry.Entry.{Entry}
 use Rattle.log_lines.specs.declared.entry.Value.TheVariants as values
 use Rattle.log_lines.specs.Newest.{newest_of}
-use Rattle.trust_groups.specs.Settings.{Lines, location_path, level}
+use Rattle.hash_dirs.specs.LogPath.{location_path}
+use Rattle.trust_groups.specs.Settings.{Lines, level}
 
 -- the newest status of the repository in the key's location log is 1, and the repository isn't dead
 pub record IsClaimed (lines : Lines) (key repo : List ℕ) : Type 0 where

@@ -5,9 +5,7 @@ use Rattle.std.specs.Prelude.{ℕ, Bool, true, false, not, ◌&&◌, List, [], �
 use Rattle.annex_base.specs.Settings.{Settings}
 use Rattle.annex_base.specs.declared.kinds.Level.{Level}
 use Rattle.annex_base.specs.declared.kinds.Level.TheVariants as levels
-use Rattle.annex_key.specs.View.{unchunked_text}
-use Rattle.annex_key.specs.KeyFile.{file_text}
-use Rattle.hash_dirs.specs.LogPath.{location_log}
+use Rattle.hash_dirs.specs.LogPath.{location_path}
 use Rattle.log_lines.specs.declared.entry.Entry.{Entry}
 use Rattle.log_lines.specs.declared.entry.LogKind.{LogKind}
 use Rattle.log_lines.specs.declared.entry.LogKind.TheVariants as kinds
@@ -22,10 +20,6 @@ abbrev pub Lines : Type 0
 Lines = List ℕ → List (List ℕ)
 
 -- ---- files
-
--- the path of a key's location log
-abbrev pub location_path : List ℕ → List ℕ
-location_path key = location_log (unchunked_text key) (file_text key)
 
 -- the name of each file that isn't a location log
 abbrev pub file_name : LogKind → List ℕ

@@ -8,7 +8,7 @@ use Rattle.log_lines.specs.Newest.{newest}
 use Rattle.union_merge.specs.Branch.{lines_at}
 use Rattle.trust_groups.specs.declared.levels.Levels.{Levels}
 use Rattle.trust_groups.specs.declared.settings.Settings.{Settings as Read}
-use Rattle.trust_groups.specs.Settings.{location_path}
+use Rattle.hash_dirs.specs.LogPath.{location_path}
 use Rattle.trust_groups.specs.Kept.{level_among, groups_among, text_among, claims_among, grouped_among}
 
 -- the level of each repository

@@ -1,13 +1,9 @@
-ghost use Rattle.std.specs.Prelude.{◌≡◌, ◌∷◌, ◌++◌, IfOk};
-ghost use Rattle.hash_dirs.specs.LogPath.{location_log};
+ghost use Rattle.std.specs.Prelude.{◌≡◌};
 ghost use Rattle.union_merge.specs.Branch.{lines_at};
-ghost use Rattle.trust_groups.specs.Settings.{file_name, location_path};
+ghost use Rattle.trust_groups.specs.Settings.{file_name};
 
-use annex_base::{Line, NoMemory, Text};
-use annex_key::Key;
-use hash_dirs::dirs_of;
+use annex_base::Line;
 use log_lines::LogKind;
-use std::alloc::Global;
 use union_merge::Branch;
 
 /// The name of a branch's file of this kind; none for a location log, whose path is that of its key (git-annex internals).
@@ -25,29 +21,6 @@ pub fn file_name(kind: LogKind) -> &'static [u8]
         LogKind::Numcopies => b"numcopies.log",
         LogKind::Mincopies => b"mincopies.log",
     }
-}
-
-fn log_path(alloc: Global, unchunked: &[u8], file: &[u8]) -> Result<Text, NoMemory>
-    ensures { IfOk result (λ t. t ≡ location_log unchunked.now file.now) }
-{
-    let dirs = dirs_of(unchunked);
-    let mut path = Vec::from_slice(alloc, &dirs.first)?;
-    path.push(b'/')?;
-    path.extend_from_slice(&dirs.second)?;
-    path.push(b'/')?;
-    path.extend_from_slice(file)?;
-    path.extend_from_slice(b".log")?;
-    Text::new(alloc, &path)
-}
-
-/// The path of a key's location log in a branch: the hash directories are those of the key without its chunk's fields, the
-/// file's name has them (git-annex internals: location tracking, hashing, chunking).
-pub fn location_path(alloc: Global, key: &Key) -> Result<Text, NoMemory>
-    ensures { IfOk result (λ t. t ≡ location_path key.now) }
-{
-    let unchunked = key.unchunked(alloc)?;
-    let file = key.to_file(alloc)?;
-    log_path(alloc, unchunked.text(), &file)
 }
 
 /// The lines of a branch's file, none where it isn't there.

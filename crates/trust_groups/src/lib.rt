@@ -14,7 +14,7 @@ mod values;
 
 pub use claims::claims_of;
 pub use copies::{mincopies_of, numcopies_of};
-pub use files::{file_name, location_path};
+pub use files::file_name;
 pub use groups::groups_of;
 pub use laws::{
     claims_are_exact, equal_lines_read_alike, grouped_are_exact, merges_read_alike,

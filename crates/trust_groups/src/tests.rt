@@ -56,30 +56,6 @@ fn joined(alloc: Global, names: &[Text]) -> Result<Vec<u8>, NoMemory> {
     Ok(out)
 }
 
-#[test]
-fn paths_of_location_logs(rt: HostRuntime) -> Result<(), Fail> {
-    for (key, path) in [
-        // As git-annex has them.
-        (
-            "SHA1-s35--47c57bd0cfe45117c4e2063869796b4a2eae0b9b",
-            "d65/11c/SHA1-s35--47c57bd0cfe45117c4e2063869796b4a2eae0b9b.log",
-        ),
-        (
-            "WORM-s14-m1600000001--f1.mp3",
-            "e4d/ab8/WORM-s14-m1600000001--f1.mp3.log",
-        ),
-        // Of the MD5 of the key, and of a chunk's key the MD5 of `WORM-s9--a`.
-        (KEY, KEY_PATH),
-        ("WORM-s9--a", "de8/f84/WORM-s9--a.log"),
-        ("WORM-s9-S3-C2--a", "de8/f84/WORM-s9-S3-C2--a.log"),
-    ] {
-        let key = Key::parse(rt.alloc(), key.as_bytes())?;
-        let found = location_path(rt.alloc(), &key)?;
-        assert!(rt; found.bytes() == path.as_bytes(), "at {path}");
-    }
-    Ok(())
-}
-
 fn located(alloc: Global, log: &str, trust: &str) -> Result<Branch, NoMemory> {
     let mut branch = one_file(alloc, KEY_PATH.as_bytes(), log)?;
     put(

@@ -1,7 +1,7 @@
 use Rattle.std.proofs.Common.{◌≡◌, [], sym, subst, ap, ◌∙◌}
 use Rattle.std.specs.Prelude.{IfOk, unwrap_or}
 use Rattle.std.specs.Option.{option_copied}
-use Rattle.trust_groups.specs.Settings.{location_path}
+use Rattle.hash_dirs.specs.LogPath.{location_path}
 use Rattle.thin_laws.proofs.ReadingFacts.{path_without_key}
 use Rattle.thin_laws.proofs.reading.log_path.Goals as goal
 

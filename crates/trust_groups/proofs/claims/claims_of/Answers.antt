@@ -5,7 +5,7 @@ use Rattle.annex_base.specs.Lists.{Member}
 use Rattle.log_lines.specs.declared.entry.LogKind.TheVariants as kinds
 use Rattle.log_lines.specs.Newest.{newest}
 use Rattle.union_merge.specs.Branch.{lines_at}
-use Rattle.trust_groups.specs.Settings.{location_path}
+use Rattle.hash_dirs.specs.LogPath.{location_path}
 use Rattle.trust_groups.specs.Claims.{IsClaimed}
 use Rattle.trust_groups.specs.Kept.{claims_among}
 use Rattle.trust_groups.specs.View.{level_of}

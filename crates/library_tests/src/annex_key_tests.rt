@@ -1,4 +1,5 @@
-use crate::{Key, KeyFault, Tree};
+//! Keys, their files, their faults, and trees.
+use annex_key::{Key, KeyFault, Tree};
 use std::alloc::Global;
 use std::cmp::Ordering;
 use std::test::Fail;
@@ -440,5 +441,14 @@ fn a_tree_keeps_the_last_key_of_a_path(rt: HostRuntime) -> Result<(), Fail> {
         assert_eq!(rt; found.bytes(), want.as_bytes());
     }
     assert!(rt; tree.paths(alloc, &two)?.is_empty());
+    Ok(())
+}
+
+#[test]
+fn a_key_whose_name_is_escaped_is_written_and_read_back(rt: HostRuntime) -> Result<(), Fail> {
+    let key = Key::parse(rt.alloc(), b"WORM--a/b:c%d&e")?;
+    let file = key.to_file(rt.alloc())?;
+    assert_eq!(rt; file.as_slice(), b"WORM--a%b&cc&sd&ae".as_slice());
+    assert!(rt; Key::from_file(rt.alloc(), &file)? == key);
     Ok(())
 }

@@ -1,4 +1,8 @@
-use super::*;
+//! Identifiers, sources and sinks, texts, numbers and stamps.
+use annex_base::{
+    Failed, Gate, Items, Level, Line, NotUuid, OpenGate, RepoId, Sink, SliceSource, Source, Stamp,
+    StdSink, StdSource, Text, VecSink, parse_decimal, put_number,
+};
 use std::io::{self, Write};
 use std::test::Fail;
 
@@ -110,6 +114,8 @@ fn readers_and_writers_of_std_serve(rt: HostRuntime) {
 fn texts_lists_and_numbers(rt: HostRuntime) -> Result<(), Fail> {
     let line: Line = Text::new(rt.alloc(), b"abc")?;
     assert_eq!(rt; line.bytes(), b"abc".as_slice());
+    let bytes = Vec::from_slice(rt.alloc(), b"abc")?;
+    assert!(rt; Text::from_vec(bytes) == line);
     let mut items = Items::new(rt.alloc());
     items.push(7u32)?;
     assert_eq!(rt; items.as_slice(), [7].as_slice());

@@ -1,4 +1,5 @@
-use super::*;
+//! Whether what was said of a content is enough to drop a copy of it, and until when that counts.
+use drop_proof::{Evidence, Expired, Judged, Kind, Need, Side, deadline, judge};
 
 fn locked(repo: u32, end: u64) -> Evidence {
     Evidence {

@@ -1,0 +1,58 @@
+-- Tests of one condition and of two: what std's lemmas on `Bool` leave out.
+use Rattle.std.proofs.Common.{◌≡◌, ◌≢◌, ◌⊎◌, inl, inr, ◌↔◌, ℕ, Bool, true, false, IsTrue, List, refl, sym, ◌∙◌, arith}
+use Rattle.std.specs.Prelude.{if◌then◌else◌, ◌==◌, bytes_eq}
+use Rattle.std.specs.Cmp.Lexicographic.{bytes_decides}
+use Rattle.std.proofs.lemmas.Bool.{cases_Bool, false_from_ne_true, true≢false}
+
+-- the branch that an `if` took
+pub if_is : {X : Type 0} (b : Bool) (x y z : X) → (if b then x else y) ≡ z → ((b ≡ true) × (x ≡ z)) ⊎ ((b ≡ false) × (y ≡ z))
+if_is true x y z e = inl (refl, e)
+if_is false x y z e = inr (refl, e)
+
+-- what holds of each branch, with its test, holds of the `if`
+pub if_either : {X : Type 0} (P : X → Type 0) (b : Bool) (x y : X) → (b ≡ true → P x) → (b ≡ false → P y) → P (if b then x else y)
+if_either P true x y f g = f refl
+if_either P false x y f g = g refl
+
+pub if_same : {X : Type 0} (b : Bool) (x : X) → (if b then x else x) ≡ x
+if_same true x = refl
+if_same false x = refl
+
+pub by_test : {P : Type 0} (b : Bool) → (b ≡ true → P) → (b ≡ false → P) → P
+by_test true f g = f refl
+by_test false f g = g refl
+
+-- two tests of one fact
+pub same_test : (b c : Bool) → (b ≡ true → c ≡ true) → (c ≡ true → b ≡ true) → b ≡ c
+same_test true c f g = sym (f refl)
+same_test false c f g = sym (false_from_ne_true c (λ e. true≢false (sym (g e))))
+
+-- what a test decides, and what a test that fails rules out
+pub decided : (b t : Bool) (P : Type 0) → b ≡ t → (t ≡ true → P) → (P → t ≡ true) → IsTrue b ↔ P
+decided b t P is found told = (λ holds. found (sym is ∙ holds), λ p. is ∙ told p)
+
+pub denied : (b : Bool) (P : Type 0) → b ≡ false → (P → ⊥) → IsTrue b ↔ P
+denied b P is none = (λ holds. absurd (true≢false (sym holds ∙ is)), λ p. absurd (none p))
+
+pub eqb_refl : (a : ℕ) → (a == a) ≡ true
+eqb_refl a = grind arith
+
+pub eqb_sym : (a b : ℕ) → (a == b) ≡ (b == a)
+eqb_sym a b = grind arith
+
+-- ---- texts
+
+pub bytes_eq-refl : (x : List ℕ) → bytes_eq x x ≡ true
+bytes_eq-refl x = (bytes_decides x x).1 refl
+
+pub bytes_eq-true : (x y : List ℕ) → bytes_eq x y ≡ true → x ≡ y
+bytes_eq-true x y e = (bytes_decides x y).0 e
+
+pub bytes_eq-other : (x y : List ℕ) → x ≢ y → bytes_eq x y ≡ false
+bytes_eq-other x y other = false_from_ne_true (bytes_eq x y) (λ e. other (bytes_eq-true x y e))
+
+pub bytes_eq_tells : (x y : List ℕ) → ((bytes_eq x y ≡ true) × (x ≡ y)) ⊎ ((bytes_eq x y ≡ false) × (x ≢ y))
+bytes_eq_tells x y = elim (cases_Bool (bytes_eq x y)) [
+  | inl e ↦ inl (e, bytes_eq-true x y e)
+  | inr e ↦ inr (e, λ same. true≢false (sym ((bytes_decides x y).1 same) ∙ e))
+]

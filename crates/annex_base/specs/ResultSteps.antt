@@ -1,0 +1,8 @@
+-- Steps that may fail, one after the other.
+use Rattle.std.specs.Prelude.{Result, Ok, Err}
+
+-- what the second step makes of what the first one gave; the first failure ends them
+infixl 10 ◌>>=◌
+abbrev pub ◌>>=◌ : {A B E : Type 0} → Result A E → (A → Result B E) → Result B E
+(Ok x) >>= f = f x
+(Err e) >>= f = Err e
