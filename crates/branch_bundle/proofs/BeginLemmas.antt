@@ -5,10 +5,11 @@ use Rattle.std.proofs.lemmas.List.{append-nil, nil_from_length, append_cancel_le
 use Rattle.std.proofs.lemmas.Bool.Decides.{eqb_tells}
 use Rattle.annex_base.specs.ByteOrder.{text_cmp, Before, IsInOrder}
 use Rattle.annex_base.specs.Lists.{Each}
-use Rattle.union_merge.specs.LineSet.{newline, IsLine, IsLineSet, text_of}
+use Rattle.annex_base.specs.Lines.{newline, space}
+use Rattle.union_merge.specs.LineSet.{IsLine, IsLineSet, text_of}
 use Rattle.union_merge.specs.Branch.{Files, IsBranch}
 use Rattle.branch_bundle.specs.Bundle.{IsByte, number_text, file_text, bundle_text, BeginsBundle}
-use Rattle.branch_bundle.specs.Parts.{space, IsFree, IsCut, counted_file, file_of, fill, Follow, BeginsLines, BeginsPath, BeginsNumber, BeginsFile, BeginsFiles, MayFollow}
+use Rattle.branch_bundle.specs.Parts.{IsFree, IsCut, counted_file, file_of, fill, Follow, BeginsLines, BeginsPath, BeginsNumber, BeginsFile, BeginsFiles, MayFollow}
 use Rattle.branch_bundle.proofs.FileLemmas.{Lines, empty-is_set, IsFile, Paths}
 use Rattle.annex_base.proofs.TextOrder.{BeforeAll, order_nil, order_cons, order_head, order_tail, BeforeAll-trans}
 use Rattle.branch_bundle.proofs.NumberLemmas.{IsDigit, number_text-one, number_text-more, number_text-first, number_text-digits, number_text-is}

@@ -5,11 +5,12 @@ use Rattle.std.specs.declared.cmp.Ordering.TheVariants.{Less, Equal, Greater}
 use Rattle.std.specs.Ordering.{is_lt}
 use Rattle.std.specs.Bool.{◌==◌}
 use Rattle.std.proofs.lemmas.List.{append-nil, nil_from_length}
-use Rattle.std.proofs.lemmas.Bool.{true≢false}
+use Rattle.std.proofs.lemmas.Bool.{and_from, and_parts, true≢false}
 use Rattle.std.proofs.lemmas.Bool.Decides.{eqb_tells}
 use Rattle.annex_base.specs.ByteOrder.{text_cmp, Before, IsInOrder}
 use Rattle.annex_base.specs.Lists.{Member, Each}
-use Rattle.union_merge.specs.LineSet.{newline, IsLine, IsLineSet, is_empty, text_of}
+use Rattle.annex_base.specs.Lines.{newline}
+use Rattle.union_merge.specs.LineSet.{IsLine, IsLineSet, is_empty, text_of}
 use Rattle.branch_bundle.specs.Bundle.{IsByte}
 use Rattle.branch_bundle.specs.Parts.{IsFree, IsCut, fill, ends_well, BeginsLines}
 use Rattle.branch_bundle.proofs.FileLemmas.{Lines}
@@ -30,13 +31,6 @@ lt_less Greater e = absurd (true≢false (sym e))
 
 pub is_before : (x y : List ℕ) → is_lt (text_cmp x y) ≡ true → Before x y
 is_before x y e = lt_less (text_cmp x y) e
-
-pub both : (a b : Bool) → (a && b) ≡ true → (a ≡ true) × (b ≡ true)
-both true b e = (refl, e)
-both false b e = absurd (true≢false (sym e))
-
-pub and_is : (a b : Bool) → a ≡ true → b ≡ true → (a && b) ≡ true
-and_is a b first second = rw first second
 
 -- ---- the cases of the test
 
@@ -135,7 +129,7 @@ ends_found [] line front (suc left) free passes =
       free_both (x ∷ xs) ys first second = λ among. elim among [ inl same ↦ first (inl same) | inr later ↦ free_both xs ys (λ h. first (inr h)) second later ]
 ends_found (b ∷ bs) line front left free passes = elim (eqb_tells b newline) [
   | inl is ↦
-      let tests = both (is_lt (text_cmp line front)) (ends_well front [] bs left) (sym (ends_well-newline line front bs left) ∙ ap (λ k. ends_well line front (k ∷ bs) left) (sym is.1) ∙ passes) in
+      let tests = and_parts (is_lt (text_cmp line front)) (ends_well front [] bs left) (sym (ends_well-newline line front bs left) ∙ ap (λ k. ends_well line front (k ∷ bs) left) (sym is.1) ∙ passes) in
       let h = ends_found bs front [] left (λ none. none) tests.1 in (
         front ∷ h.0,
         h.1,
@@ -180,7 +174,7 @@ ends_told (b ∷ bs) line front left lines rest free after bytes long is = elim 
   cut [] after is more = absurd (omega (arith, ap length is, length-append front (newline ∷ (bs ++ rest))))
   cut (x ∷ xs) after is more =
       let h = cut_same newline front (bs ++ rest) x (text_of xs) free after.1 (is ∙ text_of-cons x xs) in
-      and_is (is_lt (text_cmp line front)) (ends_well front [] bs left) (lt_is line front (ap (text_cmp line) h.0 ∙ after.0)) (more xs (subst (λ w. LinesAfter w xs) (sym h.0) after.2) h.1)
+      and_from (is_lt (text_cmp line front)) (ends_well front [] bs left) (lt_is line front (ap (text_cmp line) h.0 ∙ after.0)) (more xs (subst (λ w. LinesAfter w xs) (sym h.0) after.2) h.1)
 
 -- where much is left, how much it is changes nothing
 pub ends_well-large : (t line front : List ℕ) (a b : ℕ) → length line + length front + length t + 2 ≤ a → length line + length front + length t + 2 ≤ b → ends_well line front t a ≡ ends_well line front t b

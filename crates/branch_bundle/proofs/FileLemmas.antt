@@ -1,8 +1,8 @@
 -- Files and their paths.
 use Rattle.std.proofs.Common.{◌≡◌, ℕ, List, [], ◌∷◌, refl}
+use Rattle.std.specs.Map.{keys_of}
 use Rattle.annex_base.specs.ByteOrder.{Before}
 use Rattle.union_merge.specs.LineSet.{IsLine, IsLineSet, set_of, text_of}
-use Rattle.std.specs.Map.{keys_of}
 use Rattle.union_merge.specs.Branch.{Files, with_file}
 use Rattle.annex_base.proofs.TextOrder.{before_after, order_nil}
 

@@ -10,7 +10,7 @@ use Rattle.std.specs.Bool.{◌==◌, nat_lt}
 use Rattle.std.specs.List.{prefix_len}
 use Rattle.annex_base.specs.ByteOrder.{text_cmp, Before}
 use Rattle.annex_base.specs.Lists.{Each}
-use Rattle.union_merge.specs.LineSet.{newline}
+use Rattle.annex_base.specs.Lines.{newline}
 use Rattle.branch_bundle.specs.Bundle.{IsByte}
 use Rattle.branch_bundle.specs.Parts.{IsFree, fill}
 

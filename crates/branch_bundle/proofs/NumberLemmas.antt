@@ -5,6 +5,7 @@ use Rattle.std.proofs.lemmas.List.{append-nil}
 use Rattle.std.proofs.lemmas.Bool.{cases_lt, lt-ltb, le-ltb}
 use Rattle.std.proofs.lemmas.Fmt.{decimal_from_appends, length-decimal-le_succ}
 use Rattle.annex_base.specs.Lists.{Each}
+use Rattle.annex_base.proofs.Lists.{Each-append}
 use Rattle.branch_bundle.specs.Bundle.{digits_in, number_text}
 
 abbrev pub IsDigit : ℕ → Type 0
@@ -46,18 +47,6 @@ number_text-decimal n small =
     decimal_from_appends digits_in (record { one = λ k m h. digits_in-one k m h; more = λ k m h. digits_in-more k m h }) (n + 1) n small (length-decimal-le_succ n small)
 
 -- ---- its digits
-
-pub Each-append : {X : Type 0} (P : X → Type 0) (xs ys : List X) → Each P xs → Each P ys → Each P (xs ++ ys)
-Each-append P [] ys first second = second
-Each-append P (x ∷ xs) ys first second = (first.0, Each-append P xs ys first.1 second)
-
-pub Each-left : {X : Type 0} (P : X → Type 0) (xs ys : List X) → Each P (xs ++ ys) → Each P xs
-Each-left P [] ys all = tt
-Each-left P (x ∷ xs) ys all = (all.0, Each-left P xs ys all.1)
-
-pub Each-right : {X : Type 0} (P : X → Type 0) (xs ys : List X) → Each P (xs ++ ys) → Each P ys
-Each-right P [] ys all = all
-Each-right P (x ∷ xs) ys all = Each-right P xs ys all.1
 
 digits_in-first : (k n : ℕ) → n < k → 0 < n → (d : ℕ) × (ds : List ℕ) × (digits_in k n ≡ d ∷ ds) × (48 < d) × (d ≤ 57) × Each IsDigit ds
 digits_in-first zero n room some = absurd (omega arith)

@@ -14,9 +14,10 @@ use Rattle.std.proofs.lemmas.List.{length-take-le}
 use Rattle.annex_base.specs.Decimal.{number_of}
 use Rattle.annex_base.specs.Lists.{Member}
 use Rattle.annex_base.proofs.DecimalLemmas.{number_is, number_some}
-use Rattle.union_merge.specs.LineSet.{newline, IsLine}
+use Rattle.annex_base.specs.Lines.{newline, space}
+use Rattle.union_merge.specs.LineSet.{IsLine}
 use Rattle.branch_bundle.specs.Bundle.{number_text}
-use Rattle.branch_bundle.specs.Parts.{space, IsFree, IsCut, file_of}
+use Rattle.branch_bundle.specs.Parts.{IsFree, IsCut, file_of}
 use Rattle.branch_bundle.proofs.NumberLemmas.{number_text-decimal}
 use Rattle.branch_bundle.proofs.TextLemmas.{word, cut_same, number_free, word_same, file_of-append, counted_file_same}
 

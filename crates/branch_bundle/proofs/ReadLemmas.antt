@@ -4,10 +4,11 @@ use Rattle.std.specs.List.{flat_map}
 use Rattle.std.proofs.lemmas.List.{append-nil}
 use Rattle.annex_base.specs.ByteOrder.{text_cmp, Before, IsInOrder}
 use Rattle.annex_base.specs.Lists.{Member, Each}
-use Rattle.union_merge.specs.LineSet.{newline, IsLine, set_of, text_of}
+use Rattle.annex_base.specs.Lines.{newline, space}
+use Rattle.union_merge.specs.LineSet.{IsLine, set_of, text_of}
 use Rattle.union_merge.specs.Branch.{Files, IsBranch, with_file}
 use Rattle.branch_bundle.specs.Bundle.{file_text, number_text}
-use Rattle.branch_bundle.specs.Parts.{space, file_of}
+use Rattle.branch_bundle.specs.Parts.{file_of}
 use Rattle.branch_bundle.proofs.FileLemmas.{ReadsBack, Lines, File, IsFile, Paths, with_file-above}
 use Rattle.annex_base.proofs.TextOrder.{order_head, order_tail, BeforeAll-member}
 use Rattle.branch_bundle.proofs.TextLemmas.{file_text-file_of, file_of-append, file_of-same}

@@ -6,26 +6,22 @@ use Rattle.std.specs.Option.{MatchOption}
 use Rattle.std.specs.List.{list_all}
 use Rattle.std.specs.Char.{is_ascii_digit}
 use Rattle.std.specs.Ordering.{is_lt}
-use Rattle.std.proofs.lemmas.Bool.{true≢false, leb-true, le-leb, cases_lt}
+use Rattle.std.proofs.lemmas.Bool.{and_from, and_parts, true≢false, leb-true, le-leb, cases_lt}
 use Rattle.std.proofs.lemmas.Bool.Decides.{eqb_tells}
 use Rattle.std.proofs.lemmas.List.{append-nil, nil_from_length}
 use Rattle.annex_base.specs.Decimal.{number_of}
 use Rattle.annex_base.specs.ByteOrder.{text_cmp}
 use Rattle.annex_base.specs.Lists.{Each}
 use Rattle.annex_base.proofs.DecimalLemmas.{number_is, number_some}
-use Rattle.union_merge.specs.LineSet.{newline, IsLine}
+use Rattle.annex_base.specs.Lines.{newline, space}
+use Rattle.annex_base.proofs.Conditions.{decided, denied}
+use Rattle.union_merge.specs.LineSet.{IsLine}
 use Rattle.branch_bundle.specs.Bundle.{IsByte, number_text, BeginsBundle}
-use Rattle.branch_bundle.specs.Parts.{space, IsFree, IsCut, file_of, fill, ends_well, BeginsLines, BeginsPath, BeginsNumber, BeginsFile, BeginsFiles, MayFollow}
+use Rattle.branch_bundle.specs.Parts.{IsFree, IsCut, file_of, fill, ends_well, BeginsLines, BeginsPath, BeginsNumber, BeginsFile, BeginsFiles, MayFollow}
 use Rattle.branch_bundle.proofs.NumberLemmas.{IsDigit, number_text-one, number_text-first, number_text-digits, number_text-injective, number_text-is, number_text-decimal}
 use Rattle.branch_bundle.proofs.TextLemmas.{word}
-use Rattle.branch_bundle.proofs.EndLemmas.{lt_is, is_before, both, and_is, ends_found, ends_told, after_set, set_after, begins_lines-told, begins_lines-found, begins_lines-within}
+use Rattle.branch_bundle.proofs.EndLemmas.{lt_is, is_before, ends_found, ends_told, after_set, set_after, begins_lines-told, begins_lines-found, begins_lines-within}
 use Rattle.branch_bundle.proofs.BeginLemmas.{path_free-told, path_free-found, path_cut-told, path_cut-found, path-large, number_free-told, number_free-found, number_cut-told, number_cut-found, file_word-told, file_word-found, file_number-told, file_number-found, header, bundle_header-told, bundle_header-found, bundle_files-told, bundle_files-found, files_none-found, files_file-found, files_file-told, files_more-told}
-
-pub decided : (b t : Bool) (P : Type 0) → b ≡ t → (t ≡ true → P) → (P → t ≡ true) → IsTrue b ↔ P
-decided b t P is found told = (λ holds. found (sym is ∙ holds), λ p. is ∙ told p)
-
-pub denied : (b : Bool) (P : Type 0) → b ≡ false → (P → ⊥) → IsTrue b ↔ P
-denied b P is none = (λ holds. absurd (true≢false (sym holds ∙ is)), λ p. absurd (none p))
 
 -- ---- numbers
 
@@ -51,18 +47,18 @@ zero_text text rest first b is zero_first test = decided b (length rest == 0) ((
       absurd (omega (arith, head, h.3, zero_first))
 
 digit_of : (d : ℕ) → is_ascii_digit d ≡ true → IsDigit d
-digit_of d holds = let h = both (nat_le 48 d) (nat_le d 57) holds in (leb-true 48 d h.0, leb-true d 57 h.1)
+digit_of d holds = let h = and_parts (nat_le 48 d) (nat_le d 57) holds in (leb-true 48 d h.0, leb-true d 57 h.1)
 
 digit_is : (d : ℕ) → IsDigit d → is_ascii_digit d ≡ true
-digit_is d is = and_is (nat_le 48 d) (nat_le d 57) (le-leb 48 d is.0) (le-leb d 57 is.1)
+digit_is d is = and_from (nat_le 48 d) (nat_le d 57) (le-leb 48 d is.0) (le-leb d 57 is.1)
 
 each_digit : (ds : List ℕ) → list_all is_ascii_digit ds ≡ true → Each IsDigit ds
 each_digit [] holds = tt
-each_digit (d ∷ ds) holds = let h = both (is_ascii_digit d) (list_all is_ascii_digit ds) holds in (digit_of d h.0, each_digit ds h.1)
+each_digit (d ∷ ds) holds = let h = and_parts (is_ascii_digit d) (list_all is_ascii_digit ds) holds in (digit_of d h.0, each_digit ds h.1)
 
 all_digits : (ds : List ℕ) → Each IsDigit ds → list_all is_ascii_digit ds ≡ true
 all_digits [] each = refl
-all_digits (d ∷ ds) each = and_is (is_ascii_digit d) (list_all is_ascii_digit ds) (digit_is d each.0) (all_digits ds each.1)
+all_digits (d ∷ ds) each = and_from (is_ascii_digit d) (list_all is_ascii_digit ds) (digit_is d each.0) (all_digits ds each.1)
 
 pub digits_text : (text rest : List ℕ) (first : ℕ) (b : Bool) → text ≡ first ∷ rest → (first ≡ 48 → ⊥) → b ≡ list_all is_ascii_digit text → IsTrue b ↔ ((n : ℕ) × (text ≡ number_text n))
 digits_text text rest first b is other test = decided b (list_all is_ascii_digit text) ((n : ℕ) × (text ≡ number_text n)) test

@@ -3,9 +3,10 @@ use Rattle.std.proofs.Common.{◌≡◌, inl, inr, ℕ, ◌<◌, ◌^◌, List, 
 use Rattle.std.specs.Fmt.{decimal}
 use Rattle.std.proofs.lemmas.List.{append_cancel_left}
 use Rattle.annex_base.specs.Lists.{Member, Each}
-use Rattle.union_merge.specs.LineSet.{newline, text_of}
+use Rattle.annex_base.specs.Lines.{newline, space}
+use Rattle.union_merge.specs.LineSet.{text_of}
 use Rattle.branch_bundle.specs.Bundle.{number_text, file_text}
-use Rattle.branch_bundle.specs.Parts.{space, IsFree, counted_file, file_of}
+use Rattle.branch_bundle.specs.Parts.{IsFree, counted_file, file_of}
 use Rattle.branch_bundle.proofs.FileLemmas.{Lines}
 use Rattle.branch_bundle.proofs.NumberLemmas.{number_text-decimal, number_text-digits, number_text-injective, IsDigit}
 
@@ -32,10 +33,6 @@ put_file_is o0 o1 o2 o3 o4 o5 o6 path text lines n e1 e2 e3 e4 e5 e6 long small 
       regroup o w number path text = simp append_assoc
 
 -- ---- one way to take a text apart
-
-member_left : {X : Type 0} (y : X) (xs ys : List X) → Member y xs → Member y (xs ++ ys)
-member_left y [] ys among = absurd among
-member_left y (x ∷ xs) ys among = elim among [ inl first ↦ inl first | inr later ↦ inr (member_left y xs ys later) ]
 
 -- a text has one first such byte
 pub cut_same : (b : ℕ) (xs us ys vs : List ℕ) → IsFree b xs → IsFree b ys → xs ++ b ∷ us ≡ ys ++ b ∷ vs → (xs ≡ ys) × (us ≡ vs)

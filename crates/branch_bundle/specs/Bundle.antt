@@ -1,7 +1,8 @@
 -- A branch as one text, as it travels from repository to repository (own).
 use Rattle.std.specs.Prelude.{◌≡◌, ℕ, zero, suc, ◌+◌, ◌/◌, ◌%◌, ◌<◌, ◌≤◌, nat_lt, if◌then◌else◌, List, [], ◌∷◌, ◌++◌, length, take, flat_map, codes}
 use Rattle.annex_base.specs.Lists.{Each}
-use Rattle.union_merge.specs.LineSet.{newline, text_of}
+use Rattle.annex_base.specs.Lines.{newline}
+use Rattle.union_merge.specs.LineSet.{text_of}
 use Rattle.union_merge.specs.Branch.{Files, IsBranch}
 
 -- the decimal digits of a number, where it has at most this many

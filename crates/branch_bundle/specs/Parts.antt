@@ -4,12 +4,10 @@ use Rattle.std.specs.declared.cmp.Ordering.TheVariants.{Less}
 use Rattle.std.specs.Ordering.{is_lt}
 use Rattle.annex_base.specs.ByteOrder.{text_cmp}
 use Rattle.annex_base.specs.Lists.{Member, Each}
-use Rattle.union_merge.specs.LineSet.{newline, IsLine, IsLineSet, is_empty, text_of}
+use Rattle.annex_base.specs.Lines.{newline, space}
+use Rattle.union_merge.specs.LineSet.{IsLine, IsLineSet, is_empty, text_of}
 use Rattle.union_merge.specs.Branch.{Files}
 use Rattle.branch_bundle.specs.Bundle.{IsByte, number_text, file_text}
-
-abbrev pub space : ℕ
-space = 32
 
 -- no byte of the text is this one
 abbrev pub IsFree : ℕ → List ℕ → Type 0

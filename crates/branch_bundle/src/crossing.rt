@@ -1,12 +1,7 @@
-//! The types that cross threads.
+//! Which types go from thread to thread.
 use crate::fault::BundleFault;
+use annex_base::crosses;
 
-fn is_send<T: Send>() {}
-
-fn is_sync<T: Sync>() {}
-
-/// These types may be moved to another thread, and shared with one.
 fn cross_threads() {
-    is_send::<BundleFault>();
-    is_sync::<BundleFault>();
+    crosses::<BundleFault>();
 }

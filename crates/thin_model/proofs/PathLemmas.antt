@@ -18,10 +18,11 @@ use Rattle.annex_key.specs.KeyFile.{ampersand, percent, colon, slash, escaped, f
 use Rattle.annex_key.specs.View.{unchunked_text}
 use Rattle.annex_key.proofs.Steps.{both_true, list_all_weaker}
 use Rattle.annex_base.proofs.Lists.{Contains-from_Member}
+use Rattle.annex_base.specs.Lines.{newline}
 use Rattle.log_lines.specs.declared.entry.LogKind.{LogKind}
 use Rattle.log_lines.specs.declared.entry.LogKind.TheVariants as kinds
 use Rattle.log_lines.proofs.WordLemmas.{all_append, append_all}
-use Rattle.union_merge.specs.LineSet.{newline, IsLine}
+use Rattle.union_merge.specs.LineSet.{IsLine}
 use Rattle.hash_dirs.specs.LogPath.{location_path}
 use Rattle.trust_groups.specs.Settings.{file_name}
 use Rattle.run_data.specs.declared.entry.LogFile.{LogFile}

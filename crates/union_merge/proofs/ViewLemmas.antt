@@ -7,11 +7,11 @@ use Rattle.std.specs.Ordering.{match_ordering, is_eq}
 use Rattle.std.specs.Map.{keys_of, lookup, set_value}
 use Rattle.std.specs.BTreeMap.{insert_entry}
 use Rattle.std.specs.List.{AllZip}
-use Rattle.annex_base.specs.ByteOrder.{text_cmp, Before, IsInOrder}
+use Rattle.annex_base.specs.ByteOrder.{text_cmp, Before, IsInOrder, path_cmp}
 use Rattle.annex_base.specs.Lists.{Member}
 use Rattle.annex_base.proofs.TextOrder.{below, tied, above, compared, text_cmp-same, before_after, Before-other, Before-back, order_head, order_tail, BeforeAll-member}
 use Rattle.union_merge.specs.Branch.{Files, file_at, with_file}
-use Rattle.union_merge.specs.FileView.{files_of, path_cmp}
+use Rattle.union_merge.specs.FileView.{files_of}
 use Rattle.union_merge.proofs.SetLemmas.{Lines}
 use Rattle.union_merge.proofs.BranchLemmas.{with_file-tied, with_file-above}
 

@@ -5,10 +5,8 @@ use Rattle.std.specs.List.{fold, list_any, slice_split}
 use Rattle.std.specs.List.Sorted.{IsStrictlySortedBy}
 use Rattle.std.specs.BTreeSet.{insert_key}
 use Rattle.annex_base.specs.ByteOrder.{text_cmp}
+use Rattle.annex_base.specs.Lines.{newline}
 use Rattle.annex_base.specs.Lists.{Member, Each}
-
-abbrev pub newline : ℕ
-newline = 10
 
 -- a line isn't empty and has no newline
 pub record IsLine (line : List ℕ) : Type 0 where

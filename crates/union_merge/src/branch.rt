@@ -3,11 +3,11 @@ ghost use Rattle.std.specs.Prelude.{◌≡◌, List, ℕ, [], not, None, IsTrue,
 ghost use Rattle.std.specs.BTreeMap.{insert_entry};
 ghost use Rattle.std.specs.List.Sorted.{IsStrictlySortedBy};
 ghost use Rattle.std.specs.Map.{keys_of};
-ghost use Rattle.annex_base.specs.ByteOrder.{text_cmp};
+ghost use Rattle.annex_base.specs.ByteOrder.{text_cmp, path_cmp};
 ghost use Rattle.std.specs.Option.{option_copied};
 ghost use Rattle.union_merge.specs.LineSet.{IsLine};
 ghost use Rattle.union_merge.specs.Branch.{IsBranch, file_at, with_file, merged_file};
-ghost use Rattle.union_merge.specs.FileView.{files_of, path_cmp};
+ghost use Rattle.union_merge.specs.FileView.{files_of};
 
 use crate::line_set::LineSet;
 use annex_base::{NoMemory, Text};

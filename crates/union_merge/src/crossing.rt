@@ -1,15 +1,9 @@
-//! The types that cross threads.
+//! Which types go from thread to thread.
 use crate::branch::Branch;
 use crate::line_set::LineSet;
+use annex_base::crosses;
 
-fn is_send<T: Send>() {}
-
-fn is_sync<T: Sync>() {}
-
-/// These types may be moved to another thread, and shared with one.
 fn cross_threads() {
-    is_send::<LineSet>();
-    is_sync::<LineSet>();
-    is_send::<Branch>();
-    is_sync::<Branch>();
+    crosses::<LineSet>();
+    crosses::<Branch>();
 }

@@ -1,7 +1,8 @@
 use Rattle.std.proofs.Common.{refl}
 use Rattle.std.proofs.Common.{◌≡◌, ℕ, false}
+use Rattle.annex_base.proofs.Conditions.{denied}
 use Rattle.branch_bundle.specs.Bundle.{number_text}
-use Rattle.branch_bundle.proofs.TestLemmas.{denied, no_number_text, zero_text, digits_text}
+use Rattle.branch_bundle.proofs.TestLemmas.{no_number_text, zero_text, digits_text}
 use Rattle.branch_bundle.proofs.place.is_number.Goals as goal
 
 pub returns-in_default : goal.returns-in_default
