@@ -186,7 +186,7 @@ fn compact_file(alloc: Global, branch: &mut Branch, file: &LogFile) -> Result<()
         return Ok(());
     };
     let kept = compacted(alloc, kind_of(file), lines)?;
-    branch.replace_file(path.bytes(), &kept)?;
+    branch.replace_file(path.bytes(), kept)?;
     Ok(())
 }
 
