@@ -37,6 +37,7 @@ with_file files path lines = insert_entry text_cmp files path lines
 abbrev pub merged_file : Files → List ℕ → List (List ℕ) → Files
 merged_file files path lines = with_file files path (union (lines_at files path) lines)
 
+-- the same, where there is a line
 abbrev pub with_some : Files → List ℕ → List (List ℕ) → Files
 with_some files path [] = files
 with_some files path (line ∷ lines) = merged_file files path (line ∷ lines)
