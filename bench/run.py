@@ -121,6 +121,7 @@ def main():
     for work, title in (
         ("sets", "lines, made into a set; half of the number"),
         ("merge", "lines, two sets of half the number merged"),
+        ("lines", "lines, added one by one to one file of a branch"),
         ("newest", "lines, merged and their newest entries read"),
     ):
         table(title, [(n, n, n) for n in (1000, 10000, 100000)], lambda n: log_time(work, n))

@@ -6,6 +6,10 @@ mod annex_base_tests;
 #[cfg(test)]
 mod annex_key_tests;
 #[cfg(test)]
+mod branch_bundle_tests;
+#[cfg(test)]
 mod drop_proof_tests;
 #[cfg(test)]
 mod hash_dirs_tests;
+#[cfg(test)]
+mod union_merge_tests;

@@ -1,4 +1,5 @@
-//! Does one kind of work on logs of a given size, for `bench/run.py` to time: `log_bench WORK NUMBER`.
+//! Does one kind of work on logs of a given size, for `bench/run.py` to time, and prints how much it found:
+//! `log_bench WORK NUMBER`.
 #![tactic(auto)]
 
 use annex_base::NoMemory;
@@ -65,34 +66,85 @@ fn put(branch: &mut Branch, alloc: Global, path: &[u8], lines: &LineSet) -> Resu
     Ok(())
 }
 
+/// A branch with one file, to which the lines of the numbers below `end` came one by one.
+fn one_by_one(alloc: Global, end: u32) -> Result<Branch, NoMemory> {
+    let mut branch = Branch::new(alloc);
+    for number in 0..end {
+        let mut text = String::new(alloc);
+        put_line(&mut text, number)?;
+        let line = LineSet::from_bytes(alloc, text.as_bytes())?;
+        put(&mut branch, alloc, b"file", &line)?;
+    }
+    Ok(branch)
+}
+
+/// The lines of all files of a branch.
+fn lines_in(branch: &Branch) -> usize {
+    let mut count = 0usize;
+    for (_, lines) in branch.files() {
+        count = count.saturating_add(lines.lines().len());
+    }
+    count
+}
+
+/// What is done.
+#[derive(Clone, Copy)]
+enum Work {
+    Sets,
+    Merge,
+    Lines,
+    Newest,
+    Branch,
+    Settings,
+    Claims,
+}
+
+impl Work {
+    fn named(word: &str) -> Option<Work> {
+        match word {
+            "sets" => Some(Work::Sets),
+            "merge" => Some(Work::Merge),
+            "lines" => Some(Work::Lines),
+            "newest" => Some(Work::Newest),
+            "branch" => Some(Work::Branch),
+            "settings" => Some(Work::Settings),
+            "claims" => Some(Work::Claims),
+            _ => None,
+        }
+    }
+}
+
 /// How much the work found.
-fn found(alloc: Global, work: &str, number: u32) -> Result<usize, NoMemory> {
+fn found(alloc: Global, work: Work, number: u32) -> Result<usize, NoMemory> {
     let count = match work {
-        "sets" => half(alloc, 0, number)?.lines().len(),
-        "merge" => both(alloc, number)?.lines().len(),
-        "newest" => newest(alloc, LogKind::Location, both(alloc, number)?.lines())?.len(),
-        "branch" => branch_of(alloc, number)?.paths()?.len(),
-        "settings" => Settings::read(alloc, &branch_of(alloc, number)?)?
+        Work::Sets => half(alloc, 0, number)?.lines().len(),
+        Work::Merge => both(alloc, number)?.lines().len(),
+        Work::Lines => lines_in(&one_by_one(alloc, number)?),
+        Work::Newest => newest(alloc, LogKind::Location, both(alloc, number)?.lines())?.len(),
+        Work::Branch => branch_of(alloc, number)?.paths()?.len(),
+        Work::Settings => Settings::read(alloc, &branch_of(alloc, number)?)?
             .grouped()?
             .len(),
-        "claims" => {
+        Work::Claims => {
             let settings = Settings::read(alloc, &branch_of(alloc, number)?)?;
             settings.claims(&key_of(alloc, 0)?)?.len()
         }
-        _ => 0,
     };
     Ok(count)
 }
 
-/// The work and the number, if there are two words and the second is a number.
-fn wanted(words: &[String]) -> Option<(&str, u32)> {
+/// The work and the number, if there are two words, the first names a work and the second is a number.
+fn wanted(words: &[String]) -> Option<(Work, u32)> {
     let [work, number] = words else {
+        return None;
+    };
+    let Some(work) = Work::named(work.as_str()) else {
         return None;
     };
     let Ok(number) = number.parse::<u32>() else {
         return None;
     };
-    Some((work.as_str(), number))
+    Some((work, number))
 }
 
 fn main(rt: HostRuntime) -> ExitCode {
@@ -108,8 +160,11 @@ fn main(rt: HostRuntime) -> ExitCode {
     let Some((work, number)) = wanted(&words) else {
         return ExitCode::from(1);
     };
-    match found(rt.alloc(), work, number) {
-        Ok(_) => ExitCode::from(0),
-        Err(NoMemory) => ExitCode::from(5),
+    let Ok(count) = found(rt.alloc(), work, number) else {
+        return ExitCode::from(5);
+    };
+    match println!(rt; "{count}") {
+        Ok(()) => ExitCode::from(0),
+        Err(_) => ExitCode::from(1),
     }
 }

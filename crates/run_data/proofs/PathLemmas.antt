@@ -16,8 +16,9 @@ use Rattle.annex_base.specs.Lists.{Member}
 use Rattle.annex_key.specs.KeyText.{is_backend, is_backend_byte, is_upper, field_text, chunk_text, size_letter, mtime_letter, chunk_size_letter, chunk_letter, dash, IsKeyText}
 use Rattle.annex_key.specs.KeyFile.{ampersand, percent, colon, slash, escaped, file_text}
 use Rattle.annex_key.specs.View.{unchunked_text}
-use Rattle.union_merge.specs.LineSet.{newline, IsLine}
-use Rattle.trust_groups.specs.Settings.{location_path}
+use Rattle.annex_base.specs.Lines.{newline}
+use Rattle.union_merge.specs.LineSet.{IsLine}
+use Rattle.hash_dirs.specs.LogPath.{location_path}
 use Rattle.run_data.specs.Files.{is_slash, log_name}
 
 -- ---- tests of all bytes

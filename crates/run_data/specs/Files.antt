@@ -7,7 +7,8 @@ use Rattle.annex_key.specs.KeyText.{IsKeyText}
 use Rattle.log_lines.specs.declared.entry.LogKind.{LogKind}
 use Rattle.log_lines.specs.declared.entry.LogKind.TheVariants as kinds
 use Rattle.union_merge.specs.LineSet.{IsLine}
-use Rattle.trust_groups.specs.Settings.{file_name, location_path}
+use Rattle.hash_dirs.specs.LogPath.{location_path}
+use Rattle.trust_groups.specs.Settings.{file_name}
 use Rattle.run_data.specs.declared.entry.LogFile.{LogFile}
 use Rattle.run_data.specs.declared.entry.LogFile.TheVariants.{Location, Of, Other}
 

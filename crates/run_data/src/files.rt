@@ -9,7 +9,8 @@ use annex_base::{NoMemory, Text};
 use annex_key::{Key, KeyFault};
 use log_lines::LogKind;
 use std::alloc::Global;
-use trust_groups::{file_name, location_path};
+use trust_groups::file_name;
+use hash_dirs::location_path;
 
 const NAMED_KINDS: [LogKind; 8] = [
     LogKind::Trust,

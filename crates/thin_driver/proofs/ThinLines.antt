@@ -10,6 +10,7 @@ use Rattle.annex_base.proofs.RepoLemmas.{repo_text-all}
 use Rattle.annex_base.specs.declared.kinds.Level.{Level}
 use Rattle.annex_base.specs.declared.kinds.Level.TheVariants as levels
 use Rattle.annex_base.specs.StampText.{stamp_text, digits_after_point, fraction_text}
+use Rattle.annex_base.specs.Lines.{newline}
 use Rattle.log_lines.specs.declared.entry.LogKind.{LogKind}
 use Rattle.log_lines.specs.declared.entry.LogKind.TheVariants as kinds
 use Rattle.log_lines.specs.declared.entry.Topic.{Topic}
@@ -21,7 +22,7 @@ use Rattle.log_lines.specs.LineText.{space, stamp_mark, topic_text, value_text, 
 use Rattle.log_lines.specs.Reading.{is_not_newline}
 use Rattle.log_lines.proofs.WordLemmas.{all_append}
 use Rattle.log_lines.proofs.Steps.{both_true}
-use Rattle.union_merge.specs.LineSet.{newline, IsLine}
+use Rattle.union_merge.specs.LineSet.{IsLine}
 use Rattle.std.proofs.lemmas.Bool.{true≢false}
 
 -- no byte is a newline

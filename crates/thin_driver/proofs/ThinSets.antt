@@ -6,8 +6,8 @@ use Rattle.std.proofs.lemmas.List.Kept.{IsStrictlySortedBy-filter}
 use Rattle.std.proofs.lemmas.Bool.{true≢false}
 use Rattle.annex_base.specs.ByteOrder.{text_cmp}
 use Rattle.annex_base.specs.Lists.{Member}
+use Rattle.annex_base.proofs.TextOrder.{order_nil, order_cons}
 use Rattle.union_merge.specs.LineSet.{IsLine, IsLineSet}
-use Rattle.union_merge.proofs.SetLemmas.{order_nil, order_cons}
 use Rattle.thin_driver.proofs.ThinLists.{Each-filter, bytes_refl}
 
 pub one_set : (line : List ℕ) → IsLine line → IsLineSet (line ∷ [])

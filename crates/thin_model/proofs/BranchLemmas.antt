@@ -1,14 +1,17 @@
 -- How a table of branches changes by an entry.
 use Rattle.std.proofs.Common.{◌≡◌, ◌≢◌, inl, inr, ℕ, ◌<◌, Bool, List, [], ◌∷◌, filter, length, set, slice_index_or, get_or-set_same, get_or-set_other, Some, sym, ap, subst, ◌∙◌}
 use Rattle.std.proofs.lemmas.Bool.Decides.{eqb_tells}
+use Rattle.annex_base.specs.ByteOrder.{IsInOrder}
 use Rattle.annex_base.specs.Lists.{Member, Each}
+use Rattle.annex_base.proofs.TextOrder.{order_nil, order_cons, order_head, order_tail, BeforeAll-member, BeforeAll-from_members}
+use Rattle.annex_base.proofs.Lists.{Each-member, Each-from_members}
 use Rattle.log_lines.specs.declared.entry.LogKind.{LogKind}
 use Rattle.log_lines.specs.Newest.{compacted}
 use Rattle.log_lines.proofs.NewerLemmas.{by_test}
 use Rattle.log_lines.proofs.CompactLemmas.{filter_member, compacted_among}
 use Rattle.union_merge.specs.LineSet.{IsLine, IsLineSet, union}
 use Rattle.union_merge.specs.Branch.{Files, IsBranch, file_at, lines_at, with_file, merged_file}
-use Rattle.union_merge.proofs.SetLemmas.{IsInOrder, order_nil, order_cons, order_head, order_tail, Each-member, Each-from_members, BeforeAll-member, BeforeAll-from_members, Member-union, union-left, union-right, union-in_order, union-is, union-nil}
+use Rattle.union_merge.proofs.SetLemmas.{Member-union, union-left, union-right, union-in_order, union-is, union-nil}
 use Rattle.union_merge.proofs.BranchLemmas.{Paths, IsFile, Member-file_at, lines_at-is_set}
 use Rattle.run_data.specs.declared.entry.Entry.{Entry}
 use Rattle.thin_model.specs.Logs.{branch, branch_after}

@@ -103,7 +103,7 @@ fn compact_file(alloc: Global, branch: &mut Branch, file: &LogFile) -> Result<()
         return Ok(());
     };
     let kept = compacted(alloc, file.kind(), lines)?;
-    branch.replace_file(path.bytes(), &kept)?;
+    branch.replace_file(path.bytes(), kept)?;
     Ok(())
 }
 

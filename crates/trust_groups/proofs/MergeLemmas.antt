@@ -8,9 +8,9 @@ use Rattle.log_lines.specs.Keeping.{SameLines, Keeps}
 use Rattle.log_lines.specs.Keeping.Keeps.{Empty, Add, Merge, Arrange, Compact}
 use Rattle.log_lines.proofs.CompactLemmas.{member_append, append_first, append_second}
 use Rattle.union_merge.specs.LineSet.{union}
-use Rattle.union_merge.specs.Branch.{Files, IsBranch, lines_at, merged, merged_all}
+use Rattle.union_merge.specs.Branch.{Files, IsBranch, lines_at, merged_branch, merged_branches}
 use Rattle.union_merge.proofs.SetLemmas.{Member-union, union-left, union-right}
-use Rattle.union_merge.proofs.MergeLemmas.{lines_at-merged, merged_all-order}
+use Rattle.union_merge.proofs.MergeLemmas.{lines_at-merged_branch, merged_branches-order}
 use Rattle.hash_dirs.specs.LogPath.{location_path}
 use Rattle.trust_groups.specs.Settings.{Lines, file_name, settings}
 use Rattle.trust_groups.specs.Alike.{KeepsFiles, MayCompact, CompactsFiles}
@@ -41,18 +41,18 @@ both_lines xs ys line = (
 )
 
 merged_lines : (kind : LogKind) (xs ys : Files) (ever others : Lines) (path : List ℕ) → IsBranch xs → IsBranch ys
-    → Keeps kind (lines_at xs path) (ever path) → Keeps kind (lines_at ys path) (others path) → Keeps kind (lines_at (merged xs ys) path) (ever path ++ others path)
+    → Keeps kind (lines_at xs path) (ever path) → Keeps kind (lines_at ys path) (others path) → Keeps kind (lines_at (merged_branch xs ys) path) (ever path ++ others path)
 merged_lines kind xs ys ever others path one two first second =
     let ours = lines_at xs path in
     let theirs = lines_at ys path in
-    subst (λ lines. Keeps kind lines (ever path ++ others path)) (sym (lines_at-merged path xs ys one two))
+    subst (λ lines. Keeps kind lines (ever path ++ others path)) (sym (lines_at-merged_branch path xs ys one two))
     (Arrange (ours ++ theirs) (ever path ++ others path) (union ours theirs) (both_lines ours theirs) (Merge ours (ever path) theirs (others path) first second))
 
-pub merged_files : (xs ys : Files) (ever others : Lines) → IsBranch xs → IsBranch ys → KeepsFiles (lines_at xs) ever → KeepsFiles (lines_at ys) others → KeepsFiles (lines_at (merged xs ys)) (λ path. ever path ++ others path)
+pub merged_files : (xs ys : Files) (ever others : Lines) → IsBranch xs → IsBranch ys → KeepsFiles (lines_at xs) ever → KeepsFiles (lines_at ys) others → KeepsFiles (lines_at (merged_branch xs ys)) (λ path. ever path ++ others path)
 merged_files xs ys ever others one two first second = record {
   files = λ kind other. merged_lines kind xs ys ever others (file_name kind) one two (first.files kind other) (second.files kind other);
   locations = λ key. merged_lines kinds.Location xs ys ever others (location_path key) one two (first.locations key) (second.locations key);
 }
 
-pub any_order : (start : Files) (xs ys : List Files) → IsBranch start → Each IsBranch xs → Each IsBranch ys → ((b : Files) → (Member b xs → Member b ys) × (Member b ys → Member b xs)) → settings (lines_at (merged_all start xs)) ≡ settings (lines_at (merged_all start ys))
-any_order start xs ys is first second same = ap (λ b. settings (lines_at b)) (merged_all-order start xs ys is first second (λ b. (same b).0) (λ b. (same b).1))
+pub any_order : (start : Files) (xs ys : List Files) → IsBranch start → Each IsBranch xs → Each IsBranch ys → ((b : Files) → (Member b xs → Member b ys) × (Member b ys → Member b xs)) → settings (lines_at (merged_branches start xs)) ≡ settings (lines_at (merged_branches start ys))
+any_order start xs ys is first second same = ap (λ b. settings (lines_at b)) (merged_branches-order start xs ys is first second (λ b. (same b).0) (λ b. (same b).1))

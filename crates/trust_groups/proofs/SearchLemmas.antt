@@ -8,12 +8,12 @@ use Rattle.std.specs.Result.{MatchResult}
 use Rattle.std.proofs.lemmas.List.Sorted.{searchable_from_sorted}
 use Rattle.std.proofs.lemmas.Bool.{cases_lt}
 use Rattle.annex_base.specs.Lists.{Member}
+use Rattle.annex_base.proofs.Lists.{Member-at}
 use Rattle.log_lines.specs.declared.entry.Topic.{Topic}
 use Rattle.log_lines.specs.declared.entry.Entry.{Entry}
 use Rattle.log_lines.specs.Newest.{topic_cmp, same_topic, entry_at}
 use Rattle.log_lines.proofs.OrderLemmas.{other, topic_total, topic_exact}
 use Rattle.log_lines.proofs.PutLemmas.{IsRising, ArePast, rising_parts, member_at}
-use Rattle.union_merge.proofs.PlaceLemmas.{Member-at}
 
 -- ---- entries in order can be searched
 

@@ -3,7 +3,7 @@ ghost use Rattle.std.specs.Prelude.{◌≡◌, ◌≢◌, ◌↔◌, ◌≤◌, 
 ghost use Rattle.std.specs.List.Sorted.{IsStrictlySortedBy};
 ghost use Rattle.annex_base.specs.ByteOrder.{text_cmp};
 ghost use Rattle.annex_base.specs.Lists.{Member, Each};
-ghost use Rattle.union_merge.specs.Branch.{Files, IsBranch, lines_at, merged, merged_all};
+ghost use Rattle.union_merge.specs.Branch.{Files, IsBranch, lines_at, merged_branch, merged_branches};
 ghost use Rattle.trust_groups.specs.Settings.{Lines, settings, claims, grouped, groups, numcopies, mincopies};
 ghost use Rattle.trust_groups.specs.Alike.{SameFiles, SameReading, KeepsFiles, CompactsFiles};
 ghost use Rattle.trust_groups.specs.Claims.{IsClaimed};
@@ -24,8 +24,8 @@ pub fn equal_lines_read_alike()
 pub fn merges_read_alike()
     ensures own { (x : Lines) → KeepsFiles x x }
     ensures compacted { (old new ever : Lines) → CompactsFiles old new → KeepsFiles old ever → KeepsFiles new ever }
-    ensures merged { (xs ys : Files) (ever others : Lines) → IsBranch xs → IsBranch ys → KeepsFiles (lines_at xs) ever → KeepsFiles (lines_at ys) others → KeepsFiles (lines_at (merged xs ys)) (λ path. ever path ++ others path) }
-    ensures order { (start : Files) (xs ys : List Files) → IsBranch start → Each IsBranch xs → Each IsBranch ys → ((b : Files) → Member b xs ↔ Member b ys) → settings (lines_at (merged_all start xs)) ≡ settings (lines_at (merged_all start ys)) }
+    ensures merged { (xs ys : Files) (ever others : Lines) → IsBranch xs → IsBranch ys → KeepsFiles (lines_at xs) ever → KeepsFiles (lines_at ys) others → KeepsFiles (lines_at (merged_branch xs ys)) (λ path. ever path ++ others path) }
+    ensures order { (start : Files) (xs ys : List Files) → IsBranch start → Each IsBranch xs → Each IsBranch ys → ((b : Files) → Member b xs ↔ Member b ys) → settings (lines_at (merged_branches start xs)) ≡ settings (lines_at (merged_branches start ys)) }
 {}
 
 /// A repository is claimed to have a key exactly where its newest status is 1 and it isn't dead (git-annex internals:

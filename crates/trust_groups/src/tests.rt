@@ -7,7 +7,7 @@ use annex_key::Key;
 use log_lines::{LogKind, compact};
 use std::alloc::Global;
 use std::test::Fail;
-use union_merge::{Branch, LineSet};
+use union_merge::{Branch, LineSet, is_line};
 
 const REPO: &str = "22222222-2222-4222-8222-222222222222";
 
@@ -492,6 +492,15 @@ fn compacted(alloc: Global, branch: &Branch) -> Result<Branch, NoMemory> {
     Ok(out)
 }
 
+fn merge_in(all: &mut Branch, other: &Branch) -> Result<(), NoMemory> {
+    for (path, lines) in other.files() {
+        if is_line(path) {
+            all.merge_file(path, lines)?;
+        }
+    }
+    Ok(())
+}
+
 fn merged(
     alloc: Global,
     first: &Branch,
@@ -499,9 +508,9 @@ fn merged(
     third: &Branch,
 ) -> Result<Branch, NoMemory> {
     let mut all = Branch::new(alloc);
-    all.merge(first)?;
-    all.merge(second)?;
-    all.merge(third)?;
+    merge_in(&mut all, first)?;
+    merge_in(&mut all, second)?;
+    merge_in(&mut all, third)?;
     Ok(all)
 }
 

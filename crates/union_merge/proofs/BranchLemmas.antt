@@ -1,12 +1,12 @@
 -- The files of a branch: what a look-up finds, what a change leaves, and that a branch is told by its paths and lines.
 use Rattle.std.proofs.Common.{◌≡◌, ◌⊎◌, inl, inr, ℕ, List, [], ◌∷◌, Some, None, refl, sym, ap, subst, ◌∙◌}
 use Rattle.std.specs.Map.{keys_of}
-use Rattle.annex_base.specs.ByteOrder.{text_cmp}
+use Rattle.annex_base.specs.ByteOrder.{text_cmp, Before, IsInOrder}
 use Rattle.annex_base.specs.Lists.{Member, Each}
+use Rattle.annex_base.proofs.TextOrder.{below, tied, above, compared, text_cmp-same, before_after, Before-itself, Before-other, order_nil, order_cons, order_head, order_tail, BeforeAll-member, BeforeAll-from_members, BeforeAll-trans}
 use Rattle.union_merge.specs.LineSet.{IsLine, IsLineSet, union}
 use Rattle.union_merge.specs.Branch.{Files, IsBranch, file_at, or_none, lines_at, with_file, merged_file}
-use Rattle.union_merge.proofs.OrderLemmas.{Before, below, tied, above, compared, text_cmp-same, before_after, Before-itself, Before-other}
-use Rattle.union_merge.proofs.SetLemmas.{Lines, IsInOrder, order_nil, order_cons, order_head, order_tail, BeforeAll-member, BeforeAll-from_members, BeforeAll-trans, same_members, union-is_set, empty-is_set}
+use Rattle.union_merge.proofs.SetLemmas.{Lines, same_members, union-is_set, empty-is_set}
 
 abbrev pub File : Type 0
 File = List ℕ × Lines
@@ -73,6 +73,15 @@ Member-file_at (f ∷ files) path lines found = elim (compared path f.0) [
   | above more ↦ inr (Member-file_at files path lines (sym (file_at-above f files path more) ∙ found))
 ]
 
+-- a path with a line is one of the paths
+pub path_of-line : (files : Files) (path line : List ℕ) → Member line (lines_at files path) → Member path (Paths files)
+path_of-line [] path line among = absurd among
+path_of-line (f ∷ files) path line among = elim (compared path f.0) [
+  | below less ↦ inr (path_of-line files path line (subst (Member line) (ap or_none (file_at-below f files path less)) among))
+  | tied same ↦ inl same
+  | above more ↦ inr (path_of-line files path line (subst (Member line) (ap or_none (file_at-above f files path more)) among))
+]
+
 pub lines_at-missing : (files : Files) (path : List ℕ) → (Member path (Paths files) → ⊥) → lines_at files path ≡ []
 lines_at-missing files path none = ap or_none (file_at-missing files path none)
 
@@ -81,7 +90,7 @@ lines_at-missing files path none = ap or_none (file_at-missing files path none)
 with_file-below : (f : File) (files : Files) (path : List ℕ) (lines : Lines) → Before path f.0 → with_file (f ∷ files) path lines ≡ (path, lines) ∷ f ∷ files
 with_file-below f files path lines less = rw less refl
 
-with_file-tied : (f : File) (files : Files) (path : List ℕ) (lines : Lines) → path ≡ f.0 → with_file (f ∷ files) path lines ≡ (f.0, lines) ∷ files
+pub with_file-tied : (f : File) (files : Files) (path : List ℕ) (lines : Lines) → path ≡ f.0 → with_file (f ∷ files) path lines ≡ (f.0, lines) ∷ files
 with_file-tied f files path lines same = let e = text_cmp-same path f.0 same in rw e refl
 
 pub with_file-above : (f : File) (files : Files) (path : List ℕ) (lines : Lines) → Before f.0 path → with_file (f ∷ files) path lines ≡ f ∷ with_file files path lines

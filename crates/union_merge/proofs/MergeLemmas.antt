@@ -1,9 +1,9 @@
 -- What merges of branches leave, and the laws of merges.
 use Rattle.std.proofs.Common.{◌≡◌, ◌⊎◌, inl, inr, ℕ, List, [], ◌∷◌, refl, sym, ap, subst, ◌∙◌}
 use Rattle.annex_base.specs.Lists.{Member, Each}
+use Rattle.annex_base.proofs.TextOrder.{below, tied, above, compared, Before-other}
 use Rattle.union_merge.specs.LineSet.{IsLineSet, union}
-use Rattle.union_merge.specs.Branch.{Files, IsBranch, lines_at, merged_file, merged, merged_all}
-use Rattle.union_merge.proofs.OrderLemmas.{below, tied, above, compared, Before-other}
+use Rattle.union_merge.specs.Branch.{Files, IsBranch, lines_at, merged_file, merged_branch, merged_branches}
 use Rattle.union_merge.proofs.SetLemmas.{Lines, same_members, Member-union, union-left, union-right, union-in_order}
 use Rattle.union_merge.proofs.BranchLemmas.{File, IsFile, Paths, lines_at-with_file_same, lines_at-with_file_other, lines_at-tied, lines_at-other, lines_at-missing, Paths-with_file, with_file-new, with_file-old, merged_file-is_branch, first_apart, tail-is_branch, same_content, lines_at-is_set}
 
@@ -15,18 +15,18 @@ lines_at-merged_file_same files path lines = lines_at-with_file_same files path 
 pub lines_at-merged_file_other : (files : Files) (path other : List ℕ) (lines : Lines) → (other ≡ path → ⊥) → lines_at (merged_file files path lines) other ≡ lines_at files other
 lines_at-merged_file_other files path other lines apart = lines_at-with_file_other files path other (union (lines_at files path) lines) apart
 
-data Same (x y : List ℕ) : Type 0 where
+pub data Same (x y : List ℕ) : Type 0 where
   same : x ≡ y → Same x y
   other : (x ≡ y → ⊥) → Same x y
 
-is_same : (x y : List ℕ) → Same x y
+pub is_same : (x y : List ℕ) → Same x y
 is_same x y = elim (compared x y) [
   | below less ↦ other (λ e. Before-other x y less e)
   | tied e ↦ same e
   | above more ↦ other (λ e. Before-other y x more (sym e))
 ]
 
-Member-merged_file : (p z path : List ℕ) (files : Files) (lines : Lines) → Member z (lines_at (merged_file files path lines) p) → Member z (lines_at files p) ⊎ ((p ≡ path) × Member z lines)
+pub Member-merged_file : (p z path : List ℕ) (files : Files) (lines : Lines) → Member z (lines_at (merged_file files path lines) p) → Member z (lines_at files p) ⊎ ((p ≡ path) × Member z lines)
 Member-merged_file p z path files lines among = elim (is_same p path) [
   | same e ↦ elim (Member-union z (lines_at files path) lines (subst (Member z) (ap (lines_at (merged_file files path lines)) e ∙ lines_at-merged_file_same files path lines) among)) [
     | inl old ↦ inl (subst (λ w. Member z (lines_at files w)) (sym e) old)
@@ -35,7 +35,7 @@ Member-merged_file p z path files lines among = elim (is_same p path) [
   | other far ↦ inl (subst (Member z) (lines_at-merged_file_other files path p lines far) among)
 ]
 
-merged_file-old : (p z path : List ℕ) (files : Files) (lines : Lines) → Member z (lines_at files p) → Member z (lines_at (merged_file files path lines) p)
+pub merged_file-old : (p z path : List ℕ) (files : Files) (lines : Lines) → Member z (lines_at files p) → Member z (lines_at (merged_file files path lines) p)
 merged_file-old p z path files lines among = elim (is_same p path) [
   | same e ↦ subst (Member z) (sym (ap (lines_at (merged_file files path lines)) e ∙ lines_at-merged_file_same files path lines)) (union-left z (lines_at files path) lines (subst (λ w. Member z (lines_at files w)) e among))
   | other far ↦ subst (Member z) (sym (lines_at-merged_file_other files path p lines far)) among
@@ -46,26 +46,26 @@ merged_file-new z path files lines among = subst (Member z) (sym (lines_at-merge
 
 -- ---- two branches
 
-pub merged-is_branch : (xs ys : Files) → IsBranch xs → Each IsFile ys → IsBranch (merged xs ys)
-merged-is_branch xs [] is all = is
-merged-is_branch xs (f ∷ ys) is all = merged-is_branch (merged_file xs f.0 f.1) ys (merged_file-is_branch xs f.0 f.1 is all.0.0 all.0.1) all.1
+pub merged_branch-is_branch : (xs ys : Files) → IsBranch xs → Each IsFile ys → IsBranch (merged_branch xs ys)
+merged_branch-is_branch xs [] is all = is
+merged_branch-is_branch xs (f ∷ ys) is all = merged_branch-is_branch (merged_file xs f.0 f.1) ys (merged_file-is_branch xs f.0 f.1 is all.0.0 all.0.1) all.1
 
-pub Paths-merged : (p : List ℕ) (xs ys : Files) → Member p (Paths (merged xs ys)) → Member p (Paths xs) ⊎ Member p (Paths ys)
-Paths-merged p xs [] among = inl among
-Paths-merged p xs (f ∷ ys) among = elim (Paths-merged p (merged_file xs f.0 f.1) ys among) [
+pub Paths-merged_branch : (p : List ℕ) (xs ys : Files) → Member p (Paths (merged_branch xs ys)) → Member p (Paths xs) ⊎ Member p (Paths ys)
+Paths-merged_branch p xs [] among = inl among
+Paths-merged_branch p xs (f ∷ ys) among = elim (Paths-merged_branch p (merged_file xs f.0 f.1) ys among) [
   | inl first ↦ elim (Paths-with_file p f.0 xs (union (lines_at xs f.0) f.1) first) [ inl new ↦ inr (inl new) | inr old ↦ inl old ]
   | inr later ↦ inr (inr later)
 ]
 
-pub merged-path_left : (p : List ℕ) (xs ys : Files) → Member p (Paths xs) → Member p (Paths (merged xs ys))
-merged-path_left p xs [] among = among
-merged-path_left p xs (f ∷ ys) among = merged-path_left p (merged_file xs f.0 f.1) ys (with_file-old p f.0 xs (union (lines_at xs f.0) f.1) among)
+pub merged_branch-path_left : (p : List ℕ) (xs ys : Files) → Member p (Paths xs) → Member p (Paths (merged_branch xs ys))
+merged_branch-path_left p xs [] among = among
+merged_branch-path_left p xs (f ∷ ys) among = merged_branch-path_left p (merged_file xs f.0 f.1) ys (with_file-old p f.0 xs (union (lines_at xs f.0) f.1) among)
 
-pub merged-path_right : (p : List ℕ) (xs ys : Files) → Member p (Paths ys) → Member p (Paths (merged xs ys))
-merged-path_right p xs [] among = absurd among
-merged-path_right p xs (f ∷ ys) among = elim among [
-  | inl first ↦ merged-path_left p (merged_file xs f.0 f.1) ys (subst (λ w. Member w (Paths (merged_file xs f.0 f.1))) (sym first) (with_file-new f.0 xs (union (lines_at xs f.0) f.1)))
-  | inr later ↦ merged-path_right p (merged_file xs f.0 f.1) ys later
+pub merged_branch-path_right : (p : List ℕ) (xs ys : Files) → Member p (Paths ys) → Member p (Paths (merged_branch xs ys))
+merged_branch-path_right p xs [] among = absurd among
+merged_branch-path_right p xs (f ∷ ys) among = elim among [
+  | inl first ↦ merged_branch-path_left p (merged_file xs f.0 f.1) ys (subst (λ w. Member w (Paths (merged_file xs f.0 f.1))) (sym first) (with_file-new f.0 xs (union (lines_at xs f.0) f.1)))
+  | inr later ↦ merged_branch-path_right p (merged_file xs f.0 f.1) ys later
 ]
 
 in_tail : (p z : List ℕ) (f : File) (ys : Files) → IsBranch (f ∷ ys) → Member z (lines_at ys p) → Member z (lines_at (f ∷ ys) p)
@@ -75,9 +75,9 @@ in_tail p z f ys is among = elim (is_same p f.0) [
 ]
 
 -- a line of a merged file is a line of one of the two
-pub Member-merged : (p z : List ℕ) (xs ys : Files) → IsBranch ys → Member z (lines_at (merged xs ys) p) → Member z (lines_at xs p) ⊎ Member z (lines_at ys p)
-Member-merged p z xs [] is among = inl among
-Member-merged p z xs (f ∷ ys) is among = elim (Member-merged p z (merged_file xs f.0 f.1) ys (tail-is_branch f ys is) among) [
+pub Member-merged_branch : (p z : List ℕ) (xs ys : Files) → IsBranch ys → Member z (lines_at (merged_branch xs ys) p) → Member z (lines_at xs p) ⊎ Member z (lines_at ys p)
+Member-merged_branch p z xs [] is among = inl among
+Member-merged_branch p z xs (f ∷ ys) is among = elim (Member-merged_branch p z (merged_file xs f.0 f.1) ys (tail-is_branch f ys is) among) [
   | inl first ↦ elim (Member-merged_file p z f.0 xs f.1 first) [
     | inl old ↦ inl old
     | inr new ↦ inr (subst (Member z) (sym (lines_at-tied f ys p new.0)) new.1)
@@ -85,26 +85,26 @@ Member-merged p z xs (f ∷ ys) is among = elim (Member-merged p z (merged_file 
   | inr later ↦ inr (in_tail p z f ys is later)
 ]
 
-pub merged-left : (p z : List ℕ) (xs ys : Files) → Member z (lines_at xs p) → Member z (lines_at (merged xs ys) p)
-merged-left p z xs [] among = among
-merged-left p z xs (f ∷ ys) among = merged-left p z (merged_file xs f.0 f.1) ys (merged_file-old p z f.0 xs f.1 among)
+pub merged_branch-left : (p z : List ℕ) (xs ys : Files) → Member z (lines_at xs p) → Member z (lines_at (merged_branch xs ys) p)
+merged_branch-left p z xs [] among = among
+merged_branch-left p z xs (f ∷ ys) among = merged_branch-left p z (merged_file xs f.0 f.1) ys (merged_file-old p z f.0 xs f.1 among)
 
-pub merged-right : (p z : List ℕ) (xs ys : Files) → Member z (lines_at ys p) → Member z (lines_at (merged xs ys) p)
-merged-right p z xs [] among = absurd among
-merged-right p z xs (f ∷ ys) among = elim (is_same p f.0) [
-  | same e ↦ merged-left p z (merged_file xs f.0 f.1) ys
+pub merged_branch-right : (p z : List ℕ) (xs ys : Files) → Member z (lines_at ys p) → Member z (lines_at (merged_branch xs ys) p)
+merged_branch-right p z xs [] among = absurd among
+merged_branch-right p z xs (f ∷ ys) among = elim (is_same p f.0) [
+  | same e ↦ merged_branch-left p z (merged_file xs f.0 f.1) ys
       (subst (λ w. Member z (lines_at (merged_file xs f.0 f.1) w)) (sym e) (merged_file-new z f.0 xs f.1 (subst (Member z) (lines_at-tied f ys p e) among)))
-  | other far ↦ merged-right p z (merged_file xs f.0 f.1) ys (subst (Member z) (lines_at-other f ys p far) among)
+  | other far ↦ merged_branch-right p z (merged_file xs f.0 f.1) ys (subst (Member z) (lines_at-other f ys p far) among)
 ]
 
 -- each file of both has the lines of both
-pub lines_at-merged : (p : List ℕ) (xs ys : Files) → IsBranch xs → IsBranch ys → lines_at (merged xs ys) p ≡ union (lines_at xs p) (lines_at ys p)
-lines_at-merged p xs ys first second =
-    same_members (lines_at (merged xs ys) p) (union (lines_at xs p) (lines_at ys p))
-    (lines_at-is_set (merged xs ys) p (merged-is_branch xs ys first second.each).each).sorted
+pub lines_at-merged_branch : (p : List ℕ) (xs ys : Files) → IsBranch xs → IsBranch ys → lines_at (merged_branch xs ys) p ≡ union (lines_at xs p) (lines_at ys p)
+lines_at-merged_branch p xs ys first second =
+    same_members (lines_at (merged_branch xs ys) p) (union (lines_at xs p) (lines_at ys p))
+    (lines_at-is_set (merged_branch xs ys) p (merged_branch-is_branch xs ys first second.each).each).sorted
     (union-in_order (lines_at xs p) (lines_at ys p) (lines_at-is_set xs p first.each).sorted)
-    (λ z among. elim (Member-merged p z xs ys second among) [ inl left ↦ union-left z (lines_at xs p) (lines_at ys p) left | inr right ↦ union-right z (lines_at xs p) (lines_at ys p) right ])
-    (λ z among. elim (Member-union z (lines_at xs p) (lines_at ys p) among) [ inl left ↦ merged-left p z xs ys left | inr right ↦ merged-right p z xs ys right ])
+    (λ z among. elim (Member-merged_branch p z xs ys second among) [ inl left ↦ union-left z (lines_at xs p) (lines_at ys p) left | inr right ↦ union-right z (lines_at xs p) (lines_at ys p) right ])
+    (λ z among. elim (Member-union z (lines_at xs p) (lines_at ys p) among) [ inl left ↦ merged_branch-left p z xs ys left | inr right ↦ merged_branch-right p z xs ys right ])
 
 -- ---- laws of sets
 
@@ -137,47 +137,47 @@ union_idem xs is =
 
 -- ---- laws of branches
 
-pub merged_comm : (xs ys : Files) → IsBranch xs → IsBranch ys → merged xs ys ≡ merged ys xs
+pub merged_comm : (xs ys : Files) → IsBranch xs → IsBranch ys → merged_branch xs ys ≡ merged_branch ys xs
 merged_comm xs ys first second =
-    same_content (merged xs ys) (merged ys xs) (merged-is_branch xs ys first second.each) (merged-is_branch ys xs second first.each)
-    (λ p among. swap_cases (merged-path_left p ys xs) (merged-path_right p ys xs) (Paths-merged p xs ys among))
-    (λ p among. swap_cases (merged-path_left p xs ys) (merged-path_right p xs ys) (Paths-merged p ys xs among))
-    (λ p z among. swap_cases (merged-left p z ys xs) (merged-right p z ys xs) (Member-merged p z xs ys second among))
-    (λ p z among. swap_cases (merged-left p z xs ys) (merged-right p z xs ys) (Member-merged p z ys xs first among))
+    same_content (merged_branch xs ys) (merged_branch ys xs) (merged_branch-is_branch xs ys first second.each) (merged_branch-is_branch ys xs second first.each)
+    (λ p among. swap_cases (merged_branch-path_left p ys xs) (merged_branch-path_right p ys xs) (Paths-merged_branch p xs ys among))
+    (λ p among. swap_cases (merged_branch-path_left p xs ys) (merged_branch-path_right p xs ys) (Paths-merged_branch p ys xs among))
+    (λ p z among. swap_cases (merged_branch-left p z ys xs) (merged_branch-right p z ys xs) (Member-merged_branch p z xs ys second among))
+    (λ p z among. swap_cases (merged_branch-left p z xs ys) (merged_branch-right p z xs ys) (Member-merged_branch p z ys xs first among))
 
-pub merged_assoc : (xs ys zs : Files) → IsBranch xs → IsBranch ys → IsBranch zs → merged (merged xs ys) zs ≡ merged xs (merged ys zs)
+pub merged_assoc : (xs ys zs : Files) → IsBranch xs → IsBranch ys → IsBranch zs → merged_branch (merged_branch xs ys) zs ≡ merged_branch xs (merged_branch ys zs)
 merged_assoc xs ys zs first second third =
-    let front = merged-is_branch xs ys first second.each in
-    let back = merged-is_branch ys zs second third.each in
-    same_content (merged (merged xs ys) zs) (merged xs (merged ys zs)) (merged-is_branch (merged xs ys) zs front third.each) (merged-is_branch xs (merged ys zs) first back.each)
-    (λ p among. elim (Paths-merged p (merged xs ys) zs among) [
-      | inl left ↦ elim (Paths-merged p xs ys left) [ inl one ↦ merged-path_left p xs (merged ys zs) one | inr two ↦ merged-path_right p xs (merged ys zs) (merged-path_left p ys zs two) ]
-      | inr three ↦ merged-path_right p xs (merged ys zs) (merged-path_right p ys zs three)
+    let front = merged_branch-is_branch xs ys first second.each in
+    let back = merged_branch-is_branch ys zs second third.each in
+    same_content (merged_branch (merged_branch xs ys) zs) (merged_branch xs (merged_branch ys zs)) (merged_branch-is_branch (merged_branch xs ys) zs front third.each) (merged_branch-is_branch xs (merged_branch ys zs) first back.each)
+    (λ p among. elim (Paths-merged_branch p (merged_branch xs ys) zs among) [
+      | inl left ↦ elim (Paths-merged_branch p xs ys left) [ inl one ↦ merged_branch-path_left p xs (merged_branch ys zs) one | inr two ↦ merged_branch-path_right p xs (merged_branch ys zs) (merged_branch-path_left p ys zs two) ]
+      | inr three ↦ merged_branch-path_right p xs (merged_branch ys zs) (merged_branch-path_right p ys zs three)
     ])
-    (λ p among. elim (Paths-merged p xs (merged ys zs) among) [
-      | inl one ↦ merged-path_left p (merged xs ys) zs (merged-path_left p xs ys one)
-      | inr right ↦ elim (Paths-merged p ys zs right) [ inl two ↦ merged-path_left p (merged xs ys) zs (merged-path_right p xs ys two) | inr three ↦ merged-path_right p (merged xs ys) zs three ]
+    (λ p among. elim (Paths-merged_branch p xs (merged_branch ys zs) among) [
+      | inl one ↦ merged_branch-path_left p (merged_branch xs ys) zs (merged_branch-path_left p xs ys one)
+      | inr right ↦ elim (Paths-merged_branch p ys zs right) [ inl two ↦ merged_branch-path_left p (merged_branch xs ys) zs (merged_branch-path_right p xs ys two) | inr three ↦ merged_branch-path_right p (merged_branch xs ys) zs three ]
     ])
-    (λ p z among. elim (Member-merged p z (merged xs ys) zs third among) [
-      | inl left ↦ elim (Member-merged p z xs ys second left) [ inl one ↦ merged-left p z xs (merged ys zs) one | inr two ↦ merged-right p z xs (merged ys zs) (merged-left p z ys zs two) ]
-      | inr three ↦ merged-right p z xs (merged ys zs) (merged-right p z ys zs three)
+    (λ p z among. elim (Member-merged_branch p z (merged_branch xs ys) zs third among) [
+      | inl left ↦ elim (Member-merged_branch p z xs ys second left) [ inl one ↦ merged_branch-left p z xs (merged_branch ys zs) one | inr two ↦ merged_branch-right p z xs (merged_branch ys zs) (merged_branch-left p z ys zs two) ]
+      | inr three ↦ merged_branch-right p z xs (merged_branch ys zs) (merged_branch-right p z ys zs three)
     ])
-    (λ p z among. elim (Member-merged p z xs (merged ys zs) back among) [
-      | inl one ↦ merged-left p z (merged xs ys) zs (merged-left p z xs ys one)
-      | inr right ↦ elim (Member-merged p z ys zs third right) [ inl two ↦ merged-left p z (merged xs ys) zs (merged-right p z xs ys two) | inr three ↦ merged-right p z (merged xs ys) zs three ]
+    (λ p z among. elim (Member-merged_branch p z xs (merged_branch ys zs) back among) [
+      | inl one ↦ merged_branch-left p z (merged_branch xs ys) zs (merged_branch-left p z xs ys one)
+      | inr right ↦ elim (Member-merged_branch p z ys zs third right) [ inl two ↦ merged_branch-left p z (merged_branch xs ys) zs (merged_branch-right p z xs ys two) | inr three ↦ merged_branch-right p z (merged_branch xs ys) zs three ]
     ])
 
-pub merged_idem : (xs : Files) → IsBranch xs → merged xs xs ≡ xs
+pub merged_idem : (xs : Files) → IsBranch xs → merged_branch xs xs ≡ xs
 merged_idem xs is =
-    same_content (merged xs xs) xs (merged-is_branch xs xs is is.each) is
-    (λ p among. swap_cases (λ h. h) (λ h. h) (Paths-merged p xs xs among)) (λ p among. merged-path_left p xs xs among)
-    (λ p z among. swap_cases (λ h. h) (λ h. h) (Member-merged p z xs xs is among)) (λ p z among. merged-left p z xs xs among)
+    same_content (merged_branch xs xs) xs (merged_branch-is_branch xs xs is is.each) is
+    (λ p among. swap_cases (λ h. h) (λ h. h) (Paths-merged_branch p xs xs among)) (λ p among. merged_branch-path_left p xs xs among)
+    (λ p z among. swap_cases (λ h. h) (λ h. h) (Member-merged_branch p z xs xs is among)) (λ p z among. merged_branch-left p z xs xs among)
 
 -- ---- any number of branches, in any order
 
-pub merged_all-is_branch : (xs : Files) (bs : List Files) → IsBranch xs → Each IsBranch bs → IsBranch (merged_all xs bs)
-merged_all-is_branch xs [] is all = is
-merged_all-is_branch xs (b ∷ bs) is all = merged_all-is_branch (merged xs b) bs (merged-is_branch xs b is all.0.each) all.1
+pub merged_branches-is_branch : (xs : Files) (bs : List Files) → IsBranch xs → Each IsBranch bs → IsBranch (merged_branches xs bs)
+merged_branches-is_branch xs [] is all = is
+merged_branches-is_branch xs (b ∷ bs) is all = merged_branches-is_branch (merged_branch xs b) bs (merged_branch-is_branch xs b is all.0.each) all.1
 
 -- the branch or one of these has the path
 abbrev HasPath : List ℕ → Files → List Files → Type 0
@@ -187,49 +187,49 @@ HasPath p xs bs = Member p (Paths xs) ⊎ ((b : Files) × Member b bs × Member 
 abbrev HasLine : List ℕ → List ℕ → Files → List Files → Type 0
 HasLine p z xs bs = Member z (lines_at xs p) ⊎ ((b : Files) × Member b bs × Member z (lines_at b p))
 
-pub Paths-merged_all : (p : List ℕ) (xs : Files) (bs : List Files) → Member p (Paths (merged_all xs bs)) → HasPath p xs bs
-Paths-merged_all p xs [] among = inl among
-Paths-merged_all p xs (b ∷ bs) among = elim (Paths-merged_all p (merged xs b) bs among) [
-  | inl first ↦ elim (Paths-merged p xs b first) [ inl left ↦ inl left | inr right ↦ inr (b, inl refl, right) ]
+pub Paths-merged_branches : (p : List ℕ) (xs : Files) (bs : List Files) → Member p (Paths (merged_branches xs bs)) → HasPath p xs bs
+Paths-merged_branches p xs [] among = inl among
+Paths-merged_branches p xs (b ∷ bs) among = elim (Paths-merged_branches p (merged_branch xs b) bs among) [
+  | inl first ↦ elim (Paths-merged_branch p xs b first) [ inl left ↦ inl left | inr right ↦ inr (b, inl refl, right) ]
   | inr later ↦ inr (later.0, inr later.1, later.2)
 ]
 
-merged_all-path_start : (p : List ℕ) (xs : Files) (bs : List Files) → Member p (Paths xs) → Member p (Paths (merged_all xs bs))
-merged_all-path_start p xs [] among = among
-merged_all-path_start p xs (b ∷ bs) among = merged_all-path_start p (merged xs b) bs (merged-path_left p xs b among)
+merged_branches-path_start : (p : List ℕ) (xs : Files) (bs : List Files) → Member p (Paths xs) → Member p (Paths (merged_branches xs bs))
+merged_branches-path_start p xs [] among = among
+merged_branches-path_start p xs (b ∷ bs) among = merged_branches-path_start p (merged_branch xs b) bs (merged_branch-path_left p xs b among)
 
-merged_all-path_one : (p : List ℕ) (xs c : Files) (bs : List Files) → Member c bs → Member p (Paths c) → Member p (Paths (merged_all xs bs))
-merged_all-path_one p xs c [] within among = absurd within
-merged_all-path_one p xs c (b ∷ bs) within among = elim within [
-  | inl first ↦ merged_all-path_start p (merged xs b) bs (merged-path_right p xs b (subst (λ w. Member p (Paths w)) first among))
-  | inr later ↦ merged_all-path_one p (merged xs b) c bs later among
+merged_branches-path_one : (p : List ℕ) (xs c : Files) (bs : List Files) → Member c bs → Member p (Paths c) → Member p (Paths (merged_branches xs bs))
+merged_branches-path_one p xs c [] within among = absurd within
+merged_branches-path_one p xs c (b ∷ bs) within among = elim within [
+  | inl first ↦ merged_branches-path_start p (merged_branch xs b) bs (merged_branch-path_right p xs b (subst (λ w. Member p (Paths w)) first among))
+  | inr later ↦ merged_branches-path_one p (merged_branch xs b) c bs later among
 ]
 
-pub merged_all-path : (p : List ℕ) (xs : Files) (bs : List Files) → HasPath p xs bs → Member p (Paths (merged_all xs bs))
-merged_all-path p xs bs (inl start) = merged_all-path_start p xs bs start
-merged_all-path p xs bs (inr one) = merged_all-path_one p xs one.0 bs one.1 one.2
+pub merged_branches-path : (p : List ℕ) (xs : Files) (bs : List Files) → HasPath p xs bs → Member p (Paths (merged_branches xs bs))
+merged_branches-path p xs bs (inl start) = merged_branches-path_start p xs bs start
+merged_branches-path p xs bs (inr one) = merged_branches-path_one p xs one.0 bs one.1 one.2
 
-pub Member-merged_all : (p z : List ℕ) (xs : Files) (bs : List Files) → Each IsBranch bs → Member z (lines_at (merged_all xs bs) p) → HasLine p z xs bs
-Member-merged_all p z xs [] all among = inl among
-Member-merged_all p z xs (b ∷ bs) all among = elim (Member-merged_all p z (merged xs b) bs all.1 among) [
-  | inl first ↦ elim (Member-merged p z xs b all.0 first) [ inl left ↦ inl left | inr right ↦ inr (b, inl refl, right) ]
+pub Member-merged_branches : (p z : List ℕ) (xs : Files) (bs : List Files) → Each IsBranch bs → Member z (lines_at (merged_branches xs bs) p) → HasLine p z xs bs
+Member-merged_branches p z xs [] all among = inl among
+Member-merged_branches p z xs (b ∷ bs) all among = elim (Member-merged_branches p z (merged_branch xs b) bs all.1 among) [
+  | inl first ↦ elim (Member-merged_branch p z xs b all.0 first) [ inl left ↦ inl left | inr right ↦ inr (b, inl refl, right) ]
   | inr later ↦ inr (later.0, inr later.1, later.2)
 ]
 
-merged_all-line_start : (p z : List ℕ) (xs : Files) (bs : List Files) → Member z (lines_at xs p) → Member z (lines_at (merged_all xs bs) p)
-merged_all-line_start p z xs [] among = among
-merged_all-line_start p z xs (b ∷ bs) among = merged_all-line_start p z (merged xs b) bs (merged-left p z xs b among)
+merged_branches-line_start : (p z : List ℕ) (xs : Files) (bs : List Files) → Member z (lines_at xs p) → Member z (lines_at (merged_branches xs bs) p)
+merged_branches-line_start p z xs [] among = among
+merged_branches-line_start p z xs (b ∷ bs) among = merged_branches-line_start p z (merged_branch xs b) bs (merged_branch-left p z xs b among)
 
-merged_all-line_one : (p z : List ℕ) (xs c : Files) (bs : List Files) → Member c bs → Member z (lines_at c p) → Member z (lines_at (merged_all xs bs) p)
-merged_all-line_one p z xs c [] within among = absurd within
-merged_all-line_one p z xs c (b ∷ bs) within among = elim within [
-  | inl first ↦ merged_all-line_start p z (merged xs b) bs (merged-right p z xs b (subst (λ w. Member z (lines_at w p)) first among))
-  | inr later ↦ merged_all-line_one p z (merged xs b) c bs later among
+merged_branches-line_one : (p z : List ℕ) (xs c : Files) (bs : List Files) → Member c bs → Member z (lines_at c p) → Member z (lines_at (merged_branches xs bs) p)
+merged_branches-line_one p z xs c [] within among = absurd within
+merged_branches-line_one p z xs c (b ∷ bs) within among = elim within [
+  | inl first ↦ merged_branches-line_start p z (merged_branch xs b) bs (merged_branch-right p z xs b (subst (λ w. Member z (lines_at w p)) first among))
+  | inr later ↦ merged_branches-line_one p z (merged_branch xs b) c bs later among
 ]
 
-pub merged_all-line : (p z : List ℕ) (xs : Files) (bs : List Files) → HasLine p z xs bs → Member z (lines_at (merged_all xs bs) p)
-merged_all-line p z xs bs (inl start) = merged_all-line_start p z xs bs start
-merged_all-line p z xs bs (inr one) = merged_all-line_one p z xs one.0 bs one.1 one.2
+pub merged_branches-line : (p z : List ℕ) (xs : Files) (bs : List Files) → HasLine p z xs bs → Member z (lines_at (merged_branches xs bs) p)
+merged_branches-line p z xs bs (inl start) = merged_branches-line_start p z xs bs start
+merged_branches-line p z xs bs (inr one) = merged_branches-line_one p z xs one.0 bs one.1 one.2
 
 moved_path : (p : List ℕ) (xs : Files) (bs cs : List Files) → ((b : Files) → Member b bs → Member b cs) → HasPath p xs bs → HasPath p xs cs
 moved_path p xs bs cs within (inl start) = inl start
@@ -240,11 +240,11 @@ moved_line p z xs bs cs within (inl start) = inl start
 moved_line p z xs bs cs within (inr one) = inr (one.0, within one.0 one.1, one.2)
 
 -- the same branches, in whatever order and however often
-pub merged_all-order : (xs : Files) (bs cs : List Files) → IsBranch xs → Each IsBranch bs → Each IsBranch cs
-    → ((b : Files) → Member b bs → Member b cs) → ((b : Files) → Member b cs → Member b bs) → merged_all xs bs ≡ merged_all xs cs
-merged_all-order xs bs cs is first second forth back =
-    same_content (merged_all xs bs) (merged_all xs cs) (merged_all-is_branch xs bs is first) (merged_all-is_branch xs cs is second)
-    (λ p among. merged_all-path p xs cs (moved_path p xs bs cs forth (Paths-merged_all p xs bs among)))
-    (λ p among. merged_all-path p xs bs (moved_path p xs cs bs back (Paths-merged_all p xs cs among)))
-    (λ p z among. merged_all-line p z xs cs (moved_line p z xs bs cs forth (Member-merged_all p z xs bs first among)))
-    (λ p z among. merged_all-line p z xs bs (moved_line p z xs cs bs back (Member-merged_all p z xs cs second among)))
+pub merged_branches-order : (xs : Files) (bs cs : List Files) → IsBranch xs → Each IsBranch bs → Each IsBranch cs
+    → ((b : Files) → Member b bs → Member b cs) → ((b : Files) → Member b cs → Member b bs) → merged_branches xs bs ≡ merged_branches xs cs
+merged_branches-order xs bs cs is first second forth back =
+    same_content (merged_branches xs bs) (merged_branches xs cs) (merged_branches-is_branch xs bs is first) (merged_branches-is_branch xs cs is second)
+    (λ p among. merged_branches-path p xs cs (moved_path p xs bs cs forth (Paths-merged_branches p xs bs among)))
+    (λ p among. merged_branches-path p xs bs (moved_path p xs cs bs back (Paths-merged_branches p xs cs among)))
+    (λ p z among. merged_branches-line p z xs cs (moved_line p z xs bs cs forth (Member-merged_branches p z xs bs first among)))
+    (λ p z among. merged_branches-line p z xs bs (moved_line p z xs cs bs back (Member-merged_branches p z xs cs second among)))

@@ -4,41 +4,24 @@ use Rattle.std.specs.declared.cmp.Ordering.{Ordering}
 use Rattle.std.specs.declared.cmp.Ordering.TheVariants.{Less, Greater}
 use Rattle.std.specs.Ordering.{is_lt}
 use Rattle.std.specs.Bool.{nat_eq}
-use Rattle.std.specs.List.{Contains, dedup, insert}
+use Rattle.std.specs.List.{dedup, insert}
 use Rattle.std.specs.List.Sorted.{IsBinarySearchResult, IsSortedBy, IsSorted, IsPermutation}
 use Rattle.std.specs.List.Retain.{IsFiltered, DiffersFromLast}
 use Rattle.std.specs.Cmp.Lexicographic.{pointwise, texts_ties}
 use Rattle.std.specs.Result.{MatchResult, OnOk, OnErr, IfErr}
 use Rattle.std.proofs.lemmas.Cmp.{nat_list_cmp_total, nat_list_eq_equiv}
-use Rattle.std.proofs.lemmas.List.Elements.{Contains-append_right}
 use Rattle.std.proofs.lemmas.List.Filters.{dedup_is}
 use Rattle.std.proofs.lemmas.List.Kept.{IsStrictlySortedBy-dedup, Contains-dedup, Contains-from_dedup}
 use Rattle.std.proofs.lemmas.List.Sorted.{searchable_from_sorted, Contains-permutation, IsPermutation-sym}
 use Rattle.std.proofs.lemmas.Bool.{cases_lt}
 use Rattle.std.proofs.lemmas.Slice.Eq.{bytes_eq-Decides}
 use Rattle.std.proofs.lemmas.Map.Keys.{Less-from_sorted}
-use Rattle.annex_base.specs.ByteOrder.{text_cmp}
+use Rattle.annex_base.specs.ByteOrder.{text_cmp, IsInOrder}
 use Rattle.annex_base.specs.Lists.{Member}
+use Rattle.annex_base.proofs.Lists.{Member-at, Member-from_Contains, Contains-from_Member}
+use Rattle.annex_base.proofs.TextOrder.{before_after, after_before, same_text, Before-other, order_nil}
 use Rattle.union_merge.specs.LineSet.{with_line, union}
-use Rattle.union_merge.proofs.OrderLemmas.{before_after, after_before, same_text, Before-other}
-use Rattle.union_merge.proofs.SetLemmas.{Lines, IsInOrder, with_line-below, with_line-above, order_nil, union-is}
-
--- ---- members and places
-
-pub Member-at : {X : Type 0} (xs : List X) (k : ℕ) (d : X) → k < length xs → Member (get_or xs k d) xs
-Member-at [] k d within = absurd (omega (arith, within))
-Member-at (x ∷ xs) zero d within = inl refl
-Member-at (x ∷ xs) (suc k) d within = inr (Member-at xs k d (omega arith))
-
-pub Contains-member : {X : Type 0} (xs : List X) (y : X) → Contains xs y → Member y xs
-Contains-member xs y c = subst (λ w. Member w xs) c.2 (Member-at xs c.0 y c.1)
-
-pub Member-contains : {X : Type 0} (xs : List X) (y : X) → Member y xs → Contains xs y
-Member-contains [] y among = absurd among
-Member-contains (x ∷ xs) y among = elim among [
-  | inl same ↦ (0, omega arith, sym same)
-  | inr later ↦ Contains-append_right (x ∷ []) xs y (Member-contains xs y later)
-]
+use Rattle.union_merge.proofs.SetLemmas.{Lines, with_line-below, with_line-above, union-is}
 
 -- ---- a binary search
 
@@ -66,7 +49,7 @@ not_among : (line : List ℕ) (xs : Lines) (i : ℕ)
     → ((k : ℕ) (d : List ℕ) → i ≤ k → k < length xs → text_cmp (get_or xs k d) line ≡ Greater)
     → Member line xs → ⊥
 not_among line xs i front back among =
-    let c = Member-contains xs line among in
+    let c = Contains-from_Member xs line among in
     elim (low_or_high c.0 i) [
       | inl low ↦ Before-other (get_or xs c.0 line) line (front c.0 line (omega arith) low) c.2
       | inr high ↦ Before-other line (get_or xs c.0 line) (after_before (get_or xs c.0 line) line (back c.0 line high c.1)) (sym c.2)
@@ -89,9 +72,9 @@ sorted_set xs ys zs moved sorted kept =
     let is = dedup_is (pointwise nat_eq) ys zs kept in
     is ∙ union-is [] xs (dedup (pointwise nat_eq) ys) order_nil
     (IsStrictlySortedBy-dedup nat_list_cmp_total texts_ties ys sorted)
-    (λ z among. inr (Contains-member xs z (Contains-permutation ys xs z (IsPermutation-sym xs ys moved) (Contains-from_dedup (pointwise nat_eq) ys z (Member-contains (dedup (pointwise nat_eq) ys) z among)))))
+    (λ z among. inr (Member-from_Contains xs z (Contains-permutation ys xs z (IsPermutation-sym xs ys moved) (Contains-from_dedup (pointwise nat_eq) ys z (Contains-from_Member (dedup (pointwise nat_eq) ys) z among)))))
     (λ z none. absurd none)
-    (λ z among. Contains-member (dedup (pointwise nat_eq) ys) z (Contains-dedup nat_list_eq_equiv (λ x y. bytes_exact x y) ys z (Contains-permutation xs ys z moved (Member-contains xs z among)))) where
+    (λ z among. Member-from_Contains (dedup (pointwise nat_eq) ys) z (Contains-dedup nat_list_eq_equiv (λ x y. bytes_exact x y) ys z (Contains-permutation xs ys z moved (Contains-from_Member xs z among)))) where
       bytes_exact : (x y : List ℕ) → pointwise nat_eq x y ≡ true → x ≡ y
       bytes_exact x y same = (bytes_eq-Decides x y).0 same
 

@@ -1,59 +1,94 @@
 -- A map's entries as a branch sees them.
-use Rattle.std.proofs.Common.{◌≡◌, ℕ, true, false, cond, List, [], ◌∷◌, map, Option, Some, None, Result, Ok, Err, refl, sym, ap, ◌∙◌}
+use Rattle.std.proofs.Common.{◌≡◌, inl, inr, ℕ, Bool, true, false, cond, List, [], ◌∷◌, map, Some, refl, sym, ap, ◌∙◌}
 use Rattle.std.specs.declared.vec.Vec.{Vec}
 use Rattle.std.specs.declared.alloc.Global.{Global}
 use Rattle.std.specs.declared.cmp.Ordering.TheVariants.{Less, Equal, Greater}
 use Rattle.std.specs.Ordering.{match_ordering, is_eq}
-use Rattle.std.specs.Map.{keys_of, lookup}
+use Rattle.std.specs.Map.{keys_of, lookup, set_value}
 use Rattle.std.specs.BTreeMap.{insert_entry}
 use Rattle.std.specs.List.{AllZip}
-use Rattle.std.specs.Borrow.{Bor}
-use Rattle.std.specs.Option.{option_copied}
-use Rattle.std.specs.Result.{IfOk}
-use Rattle.annex_base.specs.ByteOrder.{text_cmp}
-use Rattle.union_merge.specs.LineSet.{IsLineSet, union}
-use Rattle.union_merge.specs.Branch.{Files, file_at, or_none, with_file}
-use Rattle.union_merge.specs.FileView.{seen, path_cmp}
-use Rattle.union_merge.proofs.SetLemmas.{Lines, union-nil}
+use Rattle.annex_base.specs.ByteOrder.{text_cmp, Before, IsInOrder, path_cmp}
+use Rattle.annex_base.specs.Lists.{Member}
+use Rattle.annex_base.proofs.TextOrder.{below, tied, above, compared, text_cmp-same, before_after, Before-other, Before-back, order_head, order_tail, BeforeAll-member}
+use Rattle.union_merge.specs.Branch.{Files, file_at, with_file}
+use Rattle.union_merge.specs.FileView.{files_of}
+use Rattle.union_merge.proofs.SetLemmas.{Lines}
+use Rattle.union_merge.proofs.BranchLemmas.{with_file-tied, with_file-above}
 
 abbrev pub Row : Type 0
 Row = Vec ℕ Global × List (List ℕ)
 
-pub seen-insert_entry : (es : List Row) (path : Vec ℕ Global) (lines : Lines) → seen (insert_entry path_cmp es path lines) ≡ with_file (seen es) path.items lines
-seen-insert_entry [] path lines = refl
-seen-insert_entry (e ∷ es) path lines =
-    elim (text_cmp path.items e.0.items) as (λ o. seen (match_ordering o ((path, lines) ∷ e ∷ es) ((e.0, lines) ∷ es) (e ∷ insert_entry path_cmp es path lines)) ≡ match_ordering o ((path.items, lines) ∷ seen (e ∷ es)) ((e.0.items, lines) ∷ seen es) ((e.0.items, e.1) ∷ with_file (seen es) path.items lines)) [
+pub files_of-insert_entry : (es : List Row) (path : Vec ℕ Global) (lines : Lines) → files_of (insert_entry path_cmp es path lines) ≡ with_file (files_of es) path.items lines
+files_of-insert_entry [] path lines = refl
+files_of-insert_entry (e ∷ es) path lines =
+    elim (text_cmp path.items e.0.items) as (λ o. files_of (match_ordering o ((path, lines) ∷ e ∷ es) ((e.0, lines) ∷ es) (e ∷ insert_entry path_cmp es path lines)) ≡ match_ordering o ((path.items, lines) ∷ files_of (e ∷ es)) ((e.0.items, lines) ∷ files_of es) ((e.0.items, e.1) ∷ with_file (files_of es) path.items lines)) [
       | Less ↦ refl
       | Equal ↦ refl
-      | Greater ↦ ap (λ (w : Files). (e.0.items, e.1) ∷ w) (seen-insert_entry es path lines)
+      | Greater ↦ ap (λ (w : Files). (e.0.items, e.1) ∷ w) (files_of-insert_entry es path lines)
     ]
 
-pub lookup-seen : (es : List Row) (path : List ℕ) → lookup (λ k. is_eq (text_cmp path k.items)) es ≡ file_at (seen es) path
-lookup-seen [] path = refl
-lookup-seen (e ∷ es) path =
-    elim (is_eq (text_cmp path e.0.items)) as (λ b. cond b (Some e.1) (lookup (λ k. is_eq (text_cmp path k.items)) es) ≡ cond b (Some e.1) (file_at (seen es) path)) [
+pub lookup-files_of : (es : List Row) (path : List ℕ) → lookup (λ k. is_eq (text_cmp path k.items)) es ≡ file_at (files_of es) path
+lookup-files_of [] path = refl
+lookup-files_of (e ∷ es) path =
+    elim (is_eq (text_cmp path e.0.items)) as (λ b. cond b (Some e.1) (lookup (λ k. is_eq (text_cmp path k.items)) es) ≡ cond b (Some e.1) (file_at (files_of es) path)) [
       | true ↦ refl
-      | false ↦ lookup-seen es path
+      | false ↦ lookup-files_of es path
     ]
 
-pub file_is : (old new : Files) (es : List Row) (path : Vec ℕ Global) (lines : Lines) (p : List ℕ) → new ≡ seen (insert_entry path_cmp es path lines) → seen es ≡ old → path.items ≡ p → new ≡ with_file old p lines
+pub file_is : (old new : Files) (es : List Row) (path : Vec ℕ Global) (lines : Lines) (p : List ℕ) → new ≡ files_of (insert_entry path_cmp es path lines) → files_of es ≡ old → path.items ≡ p → new ≡ with_file old p lines
 file_is old new es path lines p is before same =
-    is ∙ seen-insert_entry es path lines ∙ ap (λ (w : Files). with_file w path.items lines) before ∙ ap (λ (w : List ℕ). with_file old w lines) same
+    is ∙ files_of-insert_entry es path lines ∙ ap (λ (w : Files). with_file w path.items lines) before ∙ ap (λ (w : List ℕ). with_file old w lines) same
 
 -- a clone has the same files
-pub seen-clone : (C : Vec ℕ Global → Vec ℕ Global → Type 0) (D : Lines → Lines → Type 0) → ((x y : Vec ℕ Global) → C x y → y.items ≡ x.items) → ((v w : Lines) → D v w → w ≡ v) → (es fs : List Row) → AllZip (λ p q. C p.0 q.0 × D p.1 q.1) es fs → seen fs ≡ seen es
-seen-clone C D paths lines [] [] all = refl
-seen-clone C D paths lines [] (f ∷ fs) all = absurd all
-seen-clone C D paths lines (e ∷ es) [] all = absurd all
-seen-clone C D paths lines (e ∷ es) (f ∷ fs) all =
-    ap (λ (p : List ℕ). (p, f.1) ∷ seen fs) (paths e.0 f.0 all.0.0) ∙ ap (λ (t : Lines). (e.0.items, t) ∷ seen fs) (lines e.1 f.1 all.0.1)
-    ∙ ap (λ (w : Files). (e.0.items, e.1) ∷ w) (seen-clone C D paths lines es fs all.1)
+pub files_of-clone : (C : Vec ℕ Global → Vec ℕ Global → Type 0) (D : Lines → Lines → Type 0) → ((x y : Vec ℕ Global) → C x y → y.items ≡ x.items) → ((v w : Lines) → D v w → w ≡ v) → (es fs : List Row) → AllZip (λ p q. C p.0 q.0 × D p.1 q.1) es fs → files_of fs ≡ files_of es
+files_of-clone C D paths lines [] [] all = refl
+files_of-clone C D paths lines [] (f ∷ fs) all = absurd all
+files_of-clone C D paths lines (e ∷ es) [] all = absurd all
+files_of-clone C D paths lines (e ∷ es) (f ∷ fs) all =
+    ap (λ (p : List ℕ). (p, f.1) ∷ files_of fs) (paths e.0 f.0 all.0.0) ∙ ap (λ (t : Lines). (e.0.items, t) ∷ files_of fs) (lines e.1 f.1 all.0.1)
+    ∙ ap (λ (w : Files). (e.0.items, e.1) ∷ w) (files_of-clone C D paths lines es fs all.1)
 
-pub keys_of-seen : (es : List Row) → keys_of (seen es) ≡ map (λ p. p.items) (keys_of es)
-keys_of-seen [] = refl
-keys_of-seen (e ∷ es) = ap (λ (w : Lines). e.0.items ∷ w) (keys_of-seen es)
+pub keys_of-files_of : (es : List Row) → keys_of (files_of es) ≡ map (λ p. p.items) (keys_of es)
+keys_of-files_of [] = refl
+keys_of-files_of (e ∷ es) = ap (λ (w : Lines). e.0.items ∷ w) (keys_of-files_of es)
 
--- the lines of both, where the file isn't there
-pub union-copied : {E : Type 0} (own : Option (Bor Lines)) (lines : Lines) (r : Result Lines E) → own ≡ None → IsLineSet lines → IfOk r (λ s. s ≡ lines) → IfOk r (λ s. s ≡ union (or_none (option_copied own)) lines)
-union-copied own lines (Ok s) none set same = same ∙ sym (union-nil lines set.sorted) ∙ ap (λ o. union (or_none (option_copied o)) lines) (sym none)
-union-copied own lines (Err e) none set same = tt
+-- ---- a file that is there, and is written
+
+-- what finds the path in a map
+abbrev pub is_path : List ℕ → Vec ℕ Global → Bool
+is_path path = λ k. is_eq (text_cmp path k.items)
+
+set-tied : (e : Row) (es : List Row) (path : List ℕ) (lines : Lines) → path ≡ e.0.items → set_value (is_path path) (e ∷ es) lines ≡ (e.0, lines) ∷ es
+set-tied e es path lines same = let tied = text_cmp-same path e.0.items same in rw tied refl
+
+set-above : (e : Row) (es : List Row) (path : List ℕ) (lines : Lines) → Before e.0.items path → set_value (is_path path) (e ∷ es) lines ≡ e ∷ set_value (is_path path) es lines
+set-above e es path lines more = let above = before_after e.0.items path more in rw above refl
+
+pub files_of-set_value : (es : List Row) (path : List ℕ) (lines : Lines) → IsInOrder (keys_of (files_of es)) → Member path (keys_of (files_of es)) → files_of (set_value (is_path path) es lines) ≡ with_file (files_of es) path lines
+files_of-set_value [] path lines sorted among = absurd among
+files_of-set_value (e ∷ es) path lines sorted among = elim (compared path e.0.items) [
+  | below less ↦ absurd (elim among [
+    | inl same ↦ Before-other path e.0.items less same
+    | inr later ↦ Before-back path e.0.items less (BeforeAll-member e.0.items path (keys_of (files_of es)) (order_head e.0.items (keys_of (files_of es)) sorted) later)
+  ])
+  | tied same ↦ ap files_of (set-tied e es path lines same) ∙ sym (with_file-tied (e.0.items, e.1) (files_of es) path lines same)
+  | above more ↦
+      ap files_of (set-above e es path lines more)
+      ∙ ap (λ (w : Files). (e.0.items, e.1) ∷ w) (files_of-set_value es path lines (order_tail e.0.items (keys_of (files_of es)) sorted) (elim among [
+        | inl same ↦ absurd (Before-other e.0.items path more (sym same))
+        | inr later ↦ later
+      ]))
+      ∙ sym (with_file-above (e.0.items, e.1) (files_of es) path lines more)
+]
+
+some_same : (x y : Lines) → Some y ≡ Some x → x ≡ y
+some_same x y same = cc
+
+-- where the lines are those that it has, nothing changes
+pub set_value-same : (es : List Row) (path : List ℕ) (lines : Lines) → lookup (is_path path) es ≡ Some lines → set_value (is_path path) es lines ≡ es
+set_value-same [] path lines found = refl
+set_value-same (e ∷ es) path lines found = go (is_path path e.0) found (λ later. set_value-same es path lines later)
+  where
+    go : (b : Bool) → cond b (Some e.1) (lookup (is_path path) es) ≡ Some lines → (lookup (is_path path) es ≡ Some lines → set_value (is_path path) es lines ≡ es) → cond b ((e.0, lines) ∷ es) (e ∷ set_value (is_path path) es lines) ≡ e ∷ es
+    go true same later = ap (λ (w : Lines). (e.0, w) ∷ es) (some_same lines e.1 same)
+    go false other later = ap (λ (w : List Row). e ∷ w) (later other)

@@ -1,13 +1,13 @@
 -- The files of a branch, as a map of their paths to the sets of their lines (git-annex internals: branch files). A branch
 -- stands as the list of its files in byte order of path.
-use Rattle.std.specs.Prelude.{ℕ, List, [], Option, Some, None}
+use Rattle.std.specs.Prelude.{ℕ, List, [], ◌∷◌, Option, Some, None}
 use Rattle.std.specs.List.{fold}
 use Rattle.std.specs.List.Sorted.{IsStrictlySortedBy}
 use Rattle.std.specs.Map.{lookup, keys_of}
 use Rattle.std.specs.BTreeMap.{insert_entry, is_at}
 use Rattle.annex_base.specs.ByteOrder.{text_cmp}
 use Rattle.annex_base.specs.Lists.{Each}
-use Rattle.union_merge.specs.LineSet.{IsLine, IsLineSet, union}
+use Rattle.union_merge.specs.LineSet.{IsLine, IsLineSet, union, difference}
 
 abbrev pub Files : Type 0
 Files = List (List ℕ × List (List ℕ))
@@ -37,10 +37,23 @@ with_file files path lines = insert_entry text_cmp files path lines
 abbrev pub merged_file : Files → List ℕ → List (List ℕ) → Files
 merged_file files path lines = with_file files path (union (lines_at files path) lines)
 
+-- the same, where there is a line
+abbrev pub with_some : Files → List ℕ → List (List ℕ) → Files
+with_some files path [] = files
+with_some files path (line ∷ lines) = merged_file files path (line ∷ lines)
+
+-- the branch with those of these lines that its file lacks; where it lacks none, the branch stays as it is
+abbrev pub with_new_lines : Files → List ℕ → List (List ℕ) → Files
+with_new_lines files path lines = with_some files path (difference lines (lines_at files path))
+
+-- path by path, those lines of the other branch's file are added that the file lacks
+abbrev pub merge_by_path : Files → Files → Files
+merge_by_path files others = fold (λ all f. with_new_lines all f.0 f.1) files others
+
 -- the files of both branches, a file of both with the lines of both
-abbrev pub merged : Files → Files → Files
-merged files others = fold (λ all f. merged_file all f.0 f.1) files others
+abbrev pub merged_branch : Files → Files → Files
+merged_branch files others = fold (λ all f. merged_file all f.0 f.1) files others
 
 -- the files of all these branches
-abbrev pub merged_all : Files → List Files → Files
-merged_all files branches = fold merged files branches
+abbrev pub merged_branches : Files → List Files → Files
+merged_branches files branches = fold merged_branch files branches

@@ -6,9 +6,5 @@ use Rattle.std.specs.declared.cmp.Ordering.{Ordering}
 use Rattle.annex_base.specs.ByteOrder.{text_cmp}
 use Rattle.union_merge.specs.Branch.{Files}
 
--- the order of the map's paths
-abbrev pub path_cmp : Vec ℕ Global → Vec ℕ Global → Ordering
-path_cmp x y = text_cmp x.items y.items
-
-abbrev pub seen : List (Vec ℕ Global × List (List ℕ)) → Files
-seen entries = map (λ e. (e.0.items, e.1)) entries
+abbrev pub files_of : List (Vec ℕ Global × List (List ℕ)) → Files
+files_of entries = map (λ e. (e.0.items, e.1)) entries

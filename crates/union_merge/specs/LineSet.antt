@@ -1,14 +1,12 @@
 -- The lines of a file of a branch, as a set (git-annex internals: branch files, which merge as the union of their lines). A
 -- set stands as the list of its lines, each once, in byte order.
-use Rattle.std.specs.Prelude.{◌≢◌, ℕ, Bool, true, false, not, ◌==◌, List, [], ◌∷◌, ◌++◌, filter, flat_map}
-use Rattle.std.specs.List.{fold, slice_split}
+use Rattle.std.specs.Prelude.{◌≢◌, ℕ, Bool, true, false, not, ◌==◌, List, [], ◌∷◌, ◌++◌, filter, flat_map, bytes_eq}
+use Rattle.std.specs.List.{fold, list_any, slice_split}
 use Rattle.std.specs.List.Sorted.{IsStrictlySortedBy}
 use Rattle.std.specs.BTreeSet.{insert_key}
 use Rattle.annex_base.specs.ByteOrder.{text_cmp}
+use Rattle.annex_base.specs.Lines.{newline}
 use Rattle.annex_base.specs.Lists.{Member, Each}
-
-abbrev pub newline : ℕ
-newline = 10
 
 -- a line isn't empty and has no newline
 pub record IsLine (line : List ℕ) : Type 0 where
@@ -27,6 +25,14 @@ with_line lines line = insert_key text_cmp lines line
 -- the lines of both
 abbrev pub union : List (List ℕ) → List (List ℕ) → List (List ℕ)
 union lines others = fold with_line lines others
+
+-- whether the line is one of these
+abbrev pub has_line : List (List ℕ) → List ℕ → Bool
+has_line lines line = list_any (bytes_eq line) lines
+
+-- those of the lines that the others lack
+abbrev pub difference : List (List ℕ) → List (List ℕ) → List (List ℕ)
+difference lines others = filter (λ line. not (has_line others line)) lines
 
 abbrev pub is_empty : List ℕ → Bool
 is_empty [] = true

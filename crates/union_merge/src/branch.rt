@@ -1,18 +1,15 @@
-ghost use Rattle.std.specs.Prelude.{◌≡◌, List, ℕ, [], ◌∷◌, ◌++◌, ◌⊎◌, Ok, Err, IfOk, OnOk, OnErr};
+//! A branch: its files by path.
+ghost use Rattle.std.specs.Prelude.{◌≡◌, List, ℕ, [], not, None, IsTrue, IfOk, OnOk, OnErr};
 ghost use Rattle.std.specs.BTreeMap.{insert_entry};
+ghost use Rattle.std.specs.List.Sorted.{IsStrictlySortedBy};
 ghost use Rattle.std.specs.Map.{keys_of};
+ghost use Rattle.annex_base.specs.ByteOrder.{text_cmp, path_cmp};
 ghost use Rattle.std.specs.Option.{option_copied};
-ghost use Rattle.annex_base.specs.Lists.{Each};
-ghost use Rattle.union_merge.specs.LineSet.{IsLine, IsLineSet, union};
-ghost use Rattle.union_merge.specs.Branch.{Files, IsBranch, file_at, or_none, with_file, merged_file, merged};
-ghost use Rattle.union_merge.specs.Bundle.{IsBundle, IsFirstWrong};
-ghost use Rattle.union_merge.specs.FileView.{seen, path_cmp};
+ghost use Rattle.union_merge.specs.LineSet.{IsLine};
+ghost use Rattle.union_merge.specs.Branch.{IsBranch, file_at, with_file, merged_file};
+ghost use Rattle.union_merge.specs.FileView.{files_of};
 
-use crate::bundle::print;
-use crate::fault::BundleFault;
 use crate::line_set::LineSet;
-use crate::place::first_wrong;
-use crate::reading::read;
 use annex_base::{NoMemory, Text};
 use std::alloc::{AllocError, Global};
 use std::collections::BTreeMap;
@@ -30,13 +27,13 @@ pub struct Branch {
 impl Model for Branch {
     ghost use Rattle.std.specs.Prelude.{List, ℕ};
     ghost use Rattle.union_merge.specs.Branch.{IsBranch};
-    ghost use Rattle.union_merge.specs.FileView.{seen};
+    ghost use Rattle.union_merge.specs.FileView.{files_of};
 
     ghost Value = { List (List ℕ × List (List ℕ)) };
 
-    ghost view = { λ b. seen b.files.entries };
+    ghost view = { λ b. files_of b.files.entries };
 
-    ghost invariant = { λ b. IsBranch (seen b.files.entries) };
+    ghost invariant = { λ b. IsBranch (files_of b.files.entries) };
 }
 
 impl Branch {
@@ -50,27 +47,24 @@ impl Branch {
         }
     }
 
-    /// Adds lines to those of a file, which may be new.
+    /// Adds lines to those of a file, which may be new. Only lines that the file lacks are copied.
     pub fn merge_file(&mut self, path: &[u8], lines: &LineSet) -> Result<(), NoMemory>
         requires { IsLine path.now }
         ensures ok { OnOk result (self.new ≡ merged_file self.old path.now lines.now) }
         ensures err { OnErr result (self.new ≡ self.old) }
     {
-        let merged = with_lines(self.file(path), lines)?;
-        self.put_file(path, merged)?;
+        // Its lines are in order, which the branch keeps.
+        let _ = lines.lines();
+        if merge_into(&mut self.files, path, lines)? {
+            return Ok(());
+        }
+        let lines = lines.copy()?;
+        self.replace_file(path, lines)?;
         Ok(())
     }
 
     /// Gives a file these lines, in place of those that it may have.
-    pub fn replace_file(&mut self, path: &[u8], lines: &LineSet) -> Result<(), NoMemory>
-        requires { IsLine path.now }
-        ensures ok { OnOk result (self.new ≡ with_file self.old path.now lines.now) }
-        ensures err { OnErr result (self.new ≡ self.old) }
-    {
-        self.put_file(path, lines.copy()?)
-    }
-
-    pub(crate) fn put_file(&mut self, path: &[u8], lines: LineSet) -> Result<(), NoMemory>
+    pub fn replace_file(&mut self, path: &[u8], lines: LineSet) -> Result<(), NoMemory>
         requires { IsLine path.now }
         ensures ok { OnOk result (self.new ≡ with_file self.old path.now lines) }
         ensures err { OnErr result (self.new ≡ self.old) }
@@ -91,7 +85,7 @@ impl Branch {
 
     /// The files in byte order of path.
     pub fn files(&self) -> Iter<'_, Vec<u8>, LineSet>
-        ensures value { seen result ≡ self.now }
+        ensures value { files_of result ≡ self.now }
         ensures branch { IsBranch self.now }
     {
         self.files.iter()
@@ -102,47 +96,6 @@ impl Branch {
         ensures { IfOk result (λ v. v.items ≡ keys_of self.now) }
     {
         paths_in(self.alloc, &self.files)
-    }
-
-    /// Adds the files and lines of another branch.
-    pub fn merge(&mut self, other: &Branch) -> Result<(), NoMemory>
-        ensures ok { OnOk result (self.new ≡ merged self.old other.now) }
-        ensures err { OnErr result (self.new ≡ self.old) }
-    {
-        let mut all = self.clone()?;
-        for (path, lines) in other.files() {
-            all.merge_file(path, lines)?;
-        }
-        *self = all;
-        Ok(())
-    }
-}
-
-impl Branch {
-    /// The branch as one text, as it travels: `annex-bundle 1`, and then for each file `file N PATH` and its lines,
-    /// which are N bytes (own).
-    pub fn bundle(&self) -> Result<Vec<u8>, NoMemory>
-        ensures { IfOk result (λ v. IsBundle v.items self.now) }
-    {
-        print(self.alloc, self)
-    }
-
-    /// The branch of a bundle. A text that is none is refused at the place where it goes wrong, as a file whose count
-    /// has a leading zero, or a path or a line that isn't greater than the one before (own).
-    pub fn read_bundle(alloc: Global, bytes: &[u8]) -> Result<Branch, BundleFault>
-        ensures found { IfOk result (λ b. IsBundle bytes.now b) }
-        ensures only { (files : Files) → IsBundle bytes.now files → (result ≡ Ok files) ⊎ (result ≡ Err BundleFault.NoMemory) }
-
-        // The place is the first wrong one, and no other.
-        ensures wrong { (at : ℕ) → result ≡ Err (BundleFault.BadBundle at) → IsFirstWrong bytes.now at }
-        ensures first { (at : ℕ) → IsFirstWrong bytes.now at → (result ≡ Err (BundleFault.BadBundle at)) ⊎ (result ≡ Err BundleFault.NoMemory) }
-    {
-        match read(alloc, bytes)? {
-            Some(branch) => Ok(branch),
-            None => Err(BundleFault::BadBundle {
-                at: first_wrong(bytes) as u64,
-            }),
-        }
     }
 }
 
@@ -157,14 +110,22 @@ impl Clone for Branch {
     }
 }
 
-// The lines that a file has, if it is there, and these.
-fn with_lines(own: Option<&LineSet>, lines: &LineSet) -> Result<LineSet, NoMemory>
-    ensures { IfOk result (λ s. s ≡ union (or_none (option_copied own.entry)) lines.now) }
+// Adds lines to those of a file that is there, and answers whether it is.
+fn merge_into(
+    files: &mut BTreeMap<Vec<u8>, LineSet>,
+    path: &[u8],
+    lines: &LineSet,
+) -> Result<bool, NoMemory>
+    requires { IsStrictlySortedBy text_cmp (keys_of (files_of files.old.entries)) }
+    ensures there { IfOk result (λ there. IsTrue there → files_of files.new.entries ≡ merged_file (files_of files.old.entries) path.now lines.now) }
+    ensures missing { IfOk result (λ there. IsTrue (not there) → (file_at (files_of files.old.entries) path.now ≡ None) × (files_of files.new.entries ≡ files_of files.old.entries)) }
+    ensures err { OnErr result (files_of files.new.entries ≡ files_of files.old.entries) }
 {
-    match own {
-        Some(own) => own.union(lines),
-        None => lines.copy(),
-    }
+    let Some(own) = files.get_mut(path) else {
+        return Ok(false);
+    };
+    own.merge(lines)?;
+    Ok(true)
 }
 
 fn put(
@@ -180,7 +141,7 @@ fn put(
 }
 
 fn paths_in(alloc: Global, files: &BTreeMap<Vec<u8>, LineSet>) -> Result<Vec<Text>, NoMemory>
-    ensures { IfOk result (λ v. v.items ≡ keys_of (seen files.now.entries)) }
+    ensures { IfOk result (λ v. v.items ≡ keys_of (files_of files.now.entries)) }
 {
     let mut paths = Vec::new(alloc);
     for path in files.keys() {

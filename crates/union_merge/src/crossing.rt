@@ -1,17 +1,9 @@
+//! Which types go from thread to thread.
 use crate::branch::Branch;
-use crate::fault::BundleFault;
 use crate::line_set::LineSet;
+use annex_base::crosses;
 
-fn is_send<T: Send>() {}
-
-fn is_sync<T: Sync>() {}
-
-/// These types may be moved to another thread, and shared with one.
 fn cross_threads() {
-    is_send::<LineSet>();
-    is_sync::<LineSet>();
-    is_send::<Branch>();
-    is_sync::<Branch>();
-    is_send::<BundleFault>();
-    is_sync::<BundleFault>();
+    crosses::<LineSet>();
+    crosses::<Branch>();
 }

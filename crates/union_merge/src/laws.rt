@@ -1,11 +1,10 @@
-//! Laws of the merges of line sets and of branches.
+//! Laws of sets of lines, and of the merges of sets and of branches.
 
-ghost use Rattle.std.specs.Prelude.{◌≡◌, ◌⊎◌, ◌↔◌, List, ℕ, []};
+ghost use Rattle.std.specs.Prelude.{◌≡◌, ◌≢◌, ◌⊎◌, ◌↔◌, List, ℕ, []};
 ghost use Rattle.std.specs.Map.{keys_of};
 ghost use Rattle.annex_base.specs.Lists.{Member, Each};
-ghost use Rattle.union_merge.specs.LineSet.{IsLineSet, union};
-ghost use Rattle.union_merge.specs.Branch.{Files, IsBranch, lines_at, file_at, merged, merged_all};
-ghost use Rattle.union_merge.specs.Bundle.{IsByte, IsBundle, IsFirstWrong, bundle_text};
+ghost use Rattle.union_merge.specs.LineSet.{IsLineSet, union, difference, set_of, text_of};
+ghost use Rattle.union_merge.specs.Branch.{Files, IsBranch, lines_at, file_at, merged_branch, merge_by_path, merged_branches};
 
 /// The union of two sets of lines has exactly the lines of both, whichever comes first, in whatever groups, and however
 /// often (git-annex internals: branch files).
@@ -15,35 +14,47 @@ pub fn unions_have_the_lines_of_both()
     ensures commutes { (xs ys : List (List ℕ)) → IsLineSet xs → IsLineSet ys → union xs ys ≡ union ys xs }
     ensures associates { (xs ys zs : List (List ℕ)) → IsLineSet xs → IsLineSet ys → IsLineSet zs → union (union xs ys) zs ≡ union xs (union ys zs) }
     ensures idempotent { (xs : List (List ℕ)) → IsLineSet xs → union xs xs ≡ xs }
+    ensures alone { (xs : List (List ℕ)) → IsLineSet xs → union [] xs ≡ xs }
+{}
+
+/// The text of a set of lines is read back as that set.
+pub fn texts_of_sets_read_back()
+    ensures { (lines : List (List ℕ)) → IsLineSet lines → set_of (text_of lines) ≡ lines }
+{}
+
+/// The lines of one set that another lacks are a set, and make the other set the union.
+pub fn differences_make_the_union()
+    ensures set { (xs ys : List (List ℕ)) → IsLineSet xs → IsLineSet (difference xs ys) }
+    ensures lacking { (xs ys : List (List ℕ)) (line : List ℕ) → Member line (difference xs ys) ↔ (Member line xs × ¬ Member line ys) }
+    ensures union { (xs ys : List (List ℕ)) → IsLineSet xs → union xs (difference ys xs) ≡ union xs ys }
+{}
+
+/// A merge that goes path by path, and adds to each file those lines of the other branch's file that it lacks, leaves at
+/// each path the lines of both. Where no file of the other branch is empty, it is the merge of the two branches.
+pub fn merges_by_path_have_the_lines_of_both()
+    ensures branch { (xs ys : Files) → IsBranch xs → IsBranch ys → IsBranch (merge_by_path xs ys) }
+    ensures lines { (xs ys : Files) (path : List ℕ) → IsBranch xs → IsBranch ys → lines_at (merge_by_path xs ys) path ≡ union (lines_at xs path) (lines_at ys path) }
+    ensures whole { (xs ys : Files) → IsBranch xs → IsBranch ys → Each (λ f. f.1 ≢ []) ys → merge_by_path xs ys ≡ merged_branch xs ys }
 {}
 
 /// The merge of two branches has the files of both, each with exactly the lines of both, whichever branch comes first,
 /// in whatever groups, and however often (git-annex internals: branch files).
 pub fn merges_have_the_files_of_both()
-    ensures branch { (xs ys : Files) → IsBranch xs → IsBranch ys → IsBranch (merged xs ys) }
-    ensures files { (xs ys : Files) (path : List ℕ) → Member path (keys_of (merged xs ys)) ↔ (Member path (keys_of xs) ⊎ Member path (keys_of ys)) }
-    ensures lines { (xs ys : Files) (path : List ℕ) → IsBranch xs → IsBranch ys → lines_at (merged xs ys) path ≡ union (lines_at xs path) (lines_at ys path) }
-    ensures commutes { (xs ys : Files) → IsBranch xs → IsBranch ys → merged xs ys ≡ merged ys xs }
-    ensures associates { (xs ys zs : Files) → IsBranch xs → IsBranch ys → IsBranch zs → merged (merged xs ys) zs ≡ merged xs (merged ys zs) }
-    ensures idempotent { (xs : Files) → IsBranch xs → merged xs xs ≡ xs }
+    ensures branch { (xs ys : Files) → IsBranch xs → IsBranch ys → IsBranch (merged_branch xs ys) }
+    ensures files { (xs ys : Files) (path : List ℕ) → Member path (keys_of (merged_branch xs ys)) ↔ (Member path (keys_of xs) ⊎ Member path (keys_of ys)) }
+    ensures lines { (xs ys : Files) (path : List ℕ) → IsBranch xs → IsBranch ys → lines_at (merged_branch xs ys) path ≡ union (lines_at xs path) (lines_at ys path) }
+    ensures commutes { (xs ys : Files) → IsBranch xs → IsBranch ys → merged_branch xs ys ≡ merged_branch ys xs }
+    ensures associates { (xs ys zs : Files) → IsBranch xs → IsBranch ys → IsBranch zs → merged_branch (merged_branch xs ys) zs ≡ merged_branch xs (merged_branch ys zs) }
+    ensures idempotent { (xs : Files) → IsBranch xs → merged_branch xs xs ≡ xs }
 {}
 
 /// Repositories that have merged the same branches, in whatever order and however often, have the same branch.
 pub fn any_order_of_merges_gives_one_branch()
-    ensures start { (start : Files) (xs ys : List Files) → IsBranch start → Each IsBranch xs → Each IsBranch ys → ((b : Files) → Member b xs ↔ Member b ys) → merged_all start xs ≡ merged_all start ys }
-    ensures empty { (xs ys : List Files) → Each IsBranch xs → Each IsBranch ys → ((b : Files) → Member b xs ↔ Member b ys) → merged_all [] xs ≡ merged_all [] ys }
+    ensures start { (start : Files) (xs ys : List Files) → IsBranch start → Each IsBranch xs → Each IsBranch ys → ((b : Files) → Member b xs ↔ Member b ys) → merged_branches start xs ≡ merged_branches start ys }
+    ensures empty { (xs ys : List Files) → Each IsBranch xs → Each IsBranch ys → ((b : Files) → Member b xs ↔ Member b ys) → merged_branches [] xs ≡ merged_branches [] ys }
 {}
 
 /// A branch is told by what a look-up at each path finds.
 pub fn branches_are_told_by_their_files()
     ensures { (xs ys : Files) → IsBranch xs → IsBranch ys → ((path : List ℕ) → file_at xs path ≡ file_at ys path) → xs ≡ ys }
-{}
-
-/// Each branch has one bundle, a text is the bundle of at most one branch, and a text that is none goes wrong at one
-/// place.
-pub fn bundles_are_exact()
-    ensures bundle { (files : Files) → IsBranch files → IsBundle (bundle_text files) files }
-    ensures one_text { (files : Files) (x y : List ℕ) → IsBundle x files → IsBundle y files → x ≡ y }
-    ensures one_branch { (text : List ℕ) (xs ys : Files) → IsBundle text xs → IsBundle text ys → xs ≡ ys }
-    ensures one_place { (text : List ℕ) (p q : ℕ) → Each IsByte text → IsFirstWrong text p → IsFirstWrong text q → p ≡ q }
 {}

@@ -1,4 +1,5 @@
-ghost use Rattle.std.specs.Prelude.{◌≡◌, ◌+◌, ◌<◌, ◌↔◌, List, ℕ, [], ◌∷◌, ◌++◌, length, insert, IsTrue, IfOk, IfErr, OnOk, OnErr, MatchBool, MatchOption, IfSome, map, ◌≤◌};
+//! A set of lines, in byte order.
+ghost use Rattle.std.specs.Prelude.{◌≡◌, ◌+◌, ◌<◌, ◌↔◌, List, ℕ, [], ◌++◌, length, insert, IsTrue, IfOk, IfErr, OnOk, OnErr, MatchBool, map, ◌≤◌, vec_len, vec_capacity};
 ghost use Rattle.std.specs.Cmp.Rules.{comparing};
 ghost use Rattle.std.specs.Cmp.Lexicographic.{pointwise};
 ghost use Rattle.std.specs.Prelude.{◌==◌};
@@ -7,13 +8,15 @@ ghost use Rattle.std.specs.List.{slice_split};
 ghost use Rattle.std.proofs.Common.{rules};
 ghost use Rattle.annex_base.specs.ByteOrder.{text_cmp};
 ghost use Rattle.annex_base.specs.Lists.{Member, Each};
-ghost use Rattle.union_merge.specs.LineSet.{IsLine, IsLineSet, with_line, union, lines_in, set_of, text_of};
+ghost use Rattle.union_merge.specs.LineSet.{IsLine, IsLineSet, has_line, with_line, union, difference, lines_in, set_of, text_of};
 
-use crate::parts::cut_at;
 use annex_base::{Line, NoMemory};
 use std::alloc::{AllocError, Global};
 use std::cmp::Ordering;
 use std::marker::Model;
+
+// Up to this many new lines are cheaper to put each in its place than to sort with all others.
+const FEW: usize = 64;
 
 /// The lines of a file of a branch, as a set (git-annex internals: branch files). Contracts see it as the list of its
 /// lines in byte order, each once. A line has a byte or more, and no newline.
@@ -57,8 +60,7 @@ impl LineSet {
         ensures { result ≡ union [] lines.items }
     {
         let mut lines = lines;
-        lines.sort_unstable();
-        lines.dedup();
+        put_in_order(&mut lines);
         LineSet { lines }
     }
 
@@ -79,22 +81,24 @@ impl LineSet {
         Ok(true)
     }
 
-    /// The lines of both sets.
-    pub fn union(&self, other: &LineSet) -> Result<LineSet, NoMemory>
-        ensures { IfOk result (λ s. s ≡ union self.now other.now) }
-    {
-        let alloc = *self.lines.allocator();
-        let lines = merged_lines(alloc, &self.lines, other.lines())?;
-        Ok(LineSet { lines })
-    }
-
-    /// Adds the lines of another set.
+    /// Adds the lines of another set. Only those that are new are copied.
     pub fn merge(&mut self, other: &LineSet) -> Result<(), NoMemory>
         ensures ok { OnOk result (self.new ≡ union self.old other.now) }
         ensures err { OnErr result (self.new ≡ self.old) }
     {
-        *self = self.union(other)?;
+        let new = other.difference(self)?;
+        self.lines.reserve(new.lines.len())?;
+        add_lines(&mut self.lines, new.lines);
         Ok(())
+    }
+
+    /// Those of its lines that the other set lacks.
+    pub fn difference(&self, other: &LineSet) -> Result<LineSet, NoMemory>
+        ensures { IfOk result (λ s. s ≡ difference self.now other.now) }
+    {
+        let alloc = *self.lines.allocator();
+        let lines = lines_without(alloc, &self.lines, other)?;
+        Ok(LineSet { lines })
     }
 
     /// The same lines once more.
@@ -136,7 +140,7 @@ impl LineSet {
 pub fn is_line(bytes: &[u8]) -> bool
     ensures { IsTrue result ↔ IsLine bytes.now }
 {
-    !bytes.is_empty() && cut_at(bytes, b'\n').is_none()
+    !bytes.is_empty() && !bytes.contains(&b'\n')
 }
 
 impl Clone for LineSet {
@@ -197,48 +201,77 @@ fn place_of(lines: &[Line], line: &[u8]) -> Result<usize, usize>
     )
 }
 
-// The least line of both, and what is left.
-fn split_least<'a>(
-    ours: &'a [Line],
-    theirs: &'a [Line],
-) -> Option<(&'a Line, &'a [Line], &'a [Line])>
-    requires ours { IsStrictlySortedBy text_cmp ours.now }
-    requires theirs { IsStrictlySortedBy text_cmp theirs.now }
-    ensures value { MatchOption result (union ours.now theirs.now ≡ []) (λ t. union ours.now theirs.now ≡ t.0.now ∷ union t.1.now t.2.now) }
-    ensures ours { IfSome result (λ t. IsStrictlySortedBy text_cmp t.1.now) }
-    ensures theirs { IfSome result (λ t. IsStrictlySortedBy text_cmp t.2.now) }
-    ensures less { IfSome result (λ t. length t.1.now + length t.2.now < length ours.now + length theirs.now) }
+fn is_among(lines: &LineSet, line: &[u8]) -> bool
+    ensures { result ≡ has_line lines.now line.now }
 {
-    let Some((x, xs)) = ours.split_first() else {
-        return match theirs.split_first() {
-            Some((y, ys)) => Some((y, ours, ys)),
-            None => None,
-        };
-    };
-    let Some((y, ys)) = theirs.split_first() else {
-        return Some((x, xs, theirs));
-    };
-    match x.cmp(y) {
-        Ordering::Less => Some((x, xs, theirs)),
-        Ordering::Equal => Some((x, xs, ys)),
-        Ordering::Greater => Some((y, ours, ys)),
+    lines.contains(line)
+}
+
+// Copies of those of the lines that the set lacks.
+fn lines_without(alloc: Global, lines: &[Line], other: &LineSet) -> Result<Vec<Line>, NoMemory>
+    ensures { IfOk result (λ v. v.items ≡ difference lines.now other.now) }
+{
+    let mut new = Vec::new(alloc);
+    for line in lines {
+        if !is_among(other, line.bytes()) {
+            new.push(line.clone()?)?;
+        }
+    }
+    Ok(new)
+}
+
+// Adds lines for which there is room: few each in its place, which moves what stands behind it, and many at the end,
+// after which all are sorted.
+fn add_lines(lines: &mut Vec<Line>, new: Vec<Line>)
+    requires order { IsStrictlySortedBy text_cmp lines.old.items }
+    requires room { vec_len lines.old + vec_len new ≤ vec_capacity lines.old }
+    ensures { lines.new.items ≡ union lines.old.items new.items }
+{
+    if new.len() <= FEW {
+        put_each(lines, new);
+    } else {
+        append(lines, new);
+        put_in_order(lines);
     }
 }
 
-fn merged_lines(alloc: Global, ours: &[Line], theirs: &[Line]) -> Result<Vec<Line>, NoMemory>
-    requires ours { IsStrictlySortedBy text_cmp ours.now }
-    requires theirs { IsStrictlySortedBy text_cmp theirs.now }
-    ensures { IfOk result (λ v. v.items ≡ union ours.now theirs.now) }
+fn put_each(lines: &mut Vec<Line>, new: Vec<Line>)
+    requires order { IsStrictlySortedBy text_cmp lines.old.items }
+    requires room { vec_len lines.old + vec_len new ≤ vec_capacity lines.old }
+    ensures { lines.new.items ≡ union lines.old.items new.items }
 {
-    let mut out = Vec::new(alloc);
-    let mut ours = ours;
-    let mut theirs = theirs;
-    while let Some((line, xs, ys)) = split_least(ours, theirs) {
-        out.push(line.clone()?)?;
-        ours = xs;
-        theirs = ys;
+    for line in new {
+        put_line(lines, line);
     }
-    Ok(out)
+}
+
+fn put_line(lines: &mut Vec<Line>, line: Line)
+    requires order { IsStrictlySortedBy text_cmp lines.old.items }
+    requires room { vec_len lines.old < vec_capacity lines.old }
+    ensures items { lines.new.items ≡ with_line lines.old.items line }
+    ensures len { vec_len lines.new ≤ vec_len lines.old + 1 }
+    ensures capacity { vec_capacity lines.old ≤ vec_capacity lines.new }
+{
+    if let Err(at) = place_of(lines, line.bytes()) {
+        lines.insert(at, line).unwrap();
+    }
+}
+
+fn append(lines: &mut Vec<Line>, new: Vec<Line>)
+    requires { vec_len lines.old + vec_len new ≤ vec_capacity lines.old }
+    ensures { lines.new.items ≡ lines.old.items ++ new.items }
+{
+    for line in new {
+        lines.push(line).unwrap();
+    }
+}
+
+// Sorts the lines, and leaves each once.
+fn put_in_order(lines: &mut Vec<Line>)
+    ensures { lines.new.items ≡ union [] lines.old.items }
+{
+    lines.sort_unstable();
+    lines.dedup();
 }
 
 /// Adds each line and a newline.

@@ -1,4 +1,4 @@
-use Rattle.union_merge.proofs.SetLemmas.{Member-union, union-left, union-right, union-is_set}
+use Rattle.union_merge.proofs.SetLemmas.{Member-union, union-left, union-right, union-is_set, union-nil}
 use Rattle.union_merge.proofs.MergeLemmas.{swap_cases, union_comm, union_assoc, union_idem}
 use Rattle.union_merge.proofs.laws.unions_have_the_lines_of_both.Goals as goal
 
@@ -9,4 +9,5 @@ returns c = record {
   commutes = union_comm;
   associates = union_assoc;
   idempotent = union_idem;
+  alone = λ xs is. union-nil xs is.sorted;
 }

@@ -1,6 +1,6 @@
 use Rattle.std.proofs.Common.{List, ℕ, ◌∙◌, refl, sym, ap, subst}
 use Rattle.union_merge.specs.Branch.{Files}
-use Rattle.union_merge.specs.FileView.{seen}
+use Rattle.union_merge.specs.FileView.{files_of}
 use Rattle.union_merge.specs.LineSet.{IsLine}
 use Rattle.run_data.specs.declared.entry.LogFile.{LogFile}
 use Rattle.thin_model.specs.Logs.{file_named}
@@ -11,15 +11,15 @@ use Rattle.thin_driver.proofs.driver.Driver.add_files.Goals as goal
 
 pub add_lines-requires-clause-path : goal.add_lines-requires-clause-path
 add_lines-requires-clause-path c =
-    let walk = subst (λ (fs : Files). Walk (add_files c.args.repo) c.args.self.now c.loop-path.self c.args.files.now fs) (ap seen c.in-Some.ensures.steps) c.loop-path.invariant in
+    let walk = subst (λ (fs : Files). Walk (add_files c.args.repo) c.args.self.now c.loop-path.self c.args.files.now fs) (ap files_of c.in-Some.ensures.steps) c.loop-path.invariant in
     c.in_ok-file.ensures.path (subst (λ (p : List ℕ). IsLine p) (sym c.deref.ensures.value) walk.each.0.0)
 
 pub loop-path-preserved : goal.loop-path-preserved
 loop-path-preserved c =
-    let walk = subst (λ (fs : Files). Walk (add_files c.args.repo) c.args.self.now c.loop-path.self c.args.files.now fs) (ap seen c.in-Some.ensures.steps) c.loop-path.invariant in
+    let walk = subst (λ (fs : Files). Walk (add_files c.args.repo) c.args.self.now c.loop-path.self c.args.files.now fs) (ap files_of c.in-Some.ensures.steps) c.loop-path.invariant in
     let path = c.in-Some.path.now.items in
     let lines = c.in-Some.lines.now in
-    Walk-step (add_files c.args.repo) c.args.self.now c.loop-path.self c.add_lines.new.self c.args.files.now (path, lines) (seen c.next.new.self) (λ past. add_lines past c.args.repo (file_named past path) lines)
+    Walk-step (add_files c.args.repo) c.args.self.now c.loop-path.self c.add_lines.new.self c.args.files.now (path, lines) (files_of c.next.new.self) (λ past. add_lines past c.args.repo (file_named past path) lines)
     walk c.add_lines.ensures.kept (λ past. refl)
     (λ past rests.
     subst (λ (f : LogFile). Rests c.add_lines.new.self (add_lines past c.args.repo f lines)) (c.in_ok-file.ensures.exact past rests.at ∙ ap (λ (p : List ℕ). file_named past p) c.deref.ensures.value)

@@ -1,6 +1,6 @@
 use Rattle.std.proofs.Common.{ℕ, length, sym, ap, subst}
 use Rattle.script_lang.specs.declared.command.Command.{Command}
-use Rattle.union_merge.proofs.PlaceLemmas.{Member-contains}
+use Rattle.annex_base.proofs.Lists.{Contains-from_Member}
 use Rattle.thin_driver.specs.Driver.{done, have}
 use Rattle.thin_driver.specs.Standing.{CanRun}
 use Rattle.thin_driver.specs.State.{Rests}
@@ -12,7 +12,7 @@ write_raw-requires-clause-path c = let can = subst (λ (x : Command). CanRun c.a
 
 pub write_raw-requires-clause-line : goal.write_raw-requires-clause-line
 write_raw-requires-clause-line c =
-    let can = subst (λ (x : Command). CanRun c.args.self.now.run.repos x) c.in-Log.is c.requires in record { some = can.2; single = λ among. can.3 (Member-contains c.in-Log.line 10 among) }
+    let can = subst (λ (x : Command). CanRun c.args.self.now.run.repos x) c.in-Log.is c.requires in record { some = can.2; single = λ among. can.3 (Contains-from_Member c.in-Log.line 10 among) }
 
 pub returns-in_ok-have-in-Have-clause-done : goal.returns-in_ok-have-in-Have-clause-done
 returns-in_ok-have-in-Have-clause-done c past rests =

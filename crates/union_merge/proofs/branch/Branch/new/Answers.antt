@@ -1,8 +1,8 @@
 use Rattle.std.proofs.Common.{sym, subst}
 use Rattle.union_merge.specs.Branch.{IsBranch}
-use Rattle.union_merge.specs.FileView.{seen}
+use Rattle.union_merge.specs.FileView.{files_of}
 use Rattle.union_merge.proofs.BranchLemmas.{empty-is_branch}
 use Rattle.union_merge.proofs.branch.Branch.new.Goals as goal
 
 pub invariant_of-result : goal.invariant_of-result
-invariant_of-result c = subst (λ es. IsBranch (seen es)) (sym c.new.ensures.empty) empty-is_branch
+invariant_of-result c = subst (λ es. IsBranch (files_of es)) (sym c.new.ensures.empty) empty-is_branch

@@ -1,9 +1,0 @@
-use Rattle.std.proofs.Common.{◌≡◌, ◌++◌}
-use Rattle.std.specs.List.{flat_map}
-use Rattle.union_merge.specs.Bundle.{file_text, bundle_text}
-use Rattle.union_merge.specs.FileView.{seen}
-use Rattle.union_merge.proofs.bundle.print.Given as goal
-
--- the text so far, with the files that are left, is the whole
-abbrev pub invariant-loop-path : goal.invariant-loop-path
-invariant-loop-path l = l.out.items ++ flat_map file_text (seen l.path-iterator) ≡ bundle_text l.branch

@@ -1,0 +1,5 @@
+use Rattle.union_merge.proofs.LineLemmas.{set_of-text_of}
+use Rattle.union_merge.proofs.laws.texts_of_sets_read_back.Goals as goal
+
+pub returns : goal.returns
+returns c = set_of-text_of

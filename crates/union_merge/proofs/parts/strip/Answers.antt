@@ -1,5 +1,0 @@
-use Rattle.union_merge.proofs.PartLemmas.{stripped}
-use Rattle.union_merge.proofs.parts.strip.Goals as goal
-
-pub returns : goal.returns
-returns c = stripped c.args.text.now c.args.prefix.now c.strip_prefix.result c.strip_prefix.ensures.cases

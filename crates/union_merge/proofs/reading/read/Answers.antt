@@ -1,6 +1,0 @@
-use Rattle.std.specs.List.{flat_map}
-use Rattle.union_merge.specs.Bundle.{file_text}
-use Rattle.union_merge.proofs.reading.read.Goals as goal
-
-pub returns-in_default-clause-only : goal.returns-in_default-clause-only
-returns-in_default-clause-only c = λ files is. absurd (c.in_default.ensures (flat_map file_text files) is.spelled)
