@@ -1,5 +1,5 @@
 -- What stands between an identifier and a stamp: levels, texts and groups; and the letters of a location log.
-use Rattle.std.proofs.Common.{inl, inr, ◌≡◌, ℕ, Bool, true, false, not, nat_lt, nat_le, ◌&&◌, ◌==◌, IsTrue, List, [], ◌∷◌, ◌++◌, length, take, drop, get_or, flat_map, Some, refl, sym, ap, subst, ◌∙◌}
+use Rattle.std.proofs.Common.{◌⊎◌, inl, inr, true≢false, ◌≡◌, ℕ, Bool, true, false, not, nat_lt, nat_le, ◌&&◌, ◌==◌, IsTrue, List, [], ◌∷◌, ◌++◌, length, take, drop, get_or, flat_map, Some, refl, sym, ap, subst, ◌∙◌}
 use Rattle.std.specs.Char.{is_ascii_digit, is_ascii_control}
 use Rattle.std.specs.List.{All, list_all, position_or_len, slice_split, onto_first}
 use Rattle.std.specs.Str.Parse.{digits_value}
@@ -12,7 +12,7 @@ use Rattle.annex_base.specs.declared.kinds.Level.TheVariants as levels
 use Rattle.log_lines.specs.declared.entry.Value.{Value}
 use Rattle.log_lines.specs.declared.entry.Value.TheVariants as values
 use Rattle.log_lines.specs.LineText.{space, is_not_space, IsWord, is_group_byte, is_group, IsStatus, level_letter, IsLevelBody, IsTextBody, IsGroupBody, IsNumber}
-use Rattle.log_lines.specs.Reading.{is_space, letter_status, status_of, number_of, letter_level, level_body, text_body, all_groups, group_body, group_front}
+use Rattle.log_lines.specs.Reading.{is_space, letter_status, status_of, number_of, letter_level, level_body, text_body, all_groups, groups_after, group_body, group_front}
 use Rattle.log_lines.proofs.Steps.{chosen, some_where, where_some, some_is, both_true}
 use Rattle.log_lines.proofs.WordLemmas.{word_len, word_len-whole}
 
@@ -137,25 +137,44 @@ split_again g (h ∷ hs) is all =
     let both = both_true (is_group h) (list_all is_group hs) all in
     slice_split_at is_space g space (h ++ spaced hs) (no_spaces g is) refl ∙ ap (λ (l : List (List ℕ)). g ∷ l) (split_again h hs both.0 both.1)
 
-group_body_again : (gs : List (List ℕ)) → list_all is_group gs ≡ true → group_body (spaced gs) ≡ Some gs
-group_body_again [] all = refl
-group_body_again (g ∷ gs) all =
-    let both = both_true (is_group g) (list_all is_group gs) all in
-    ap all_groups (split_again g gs both.0 both.1) ∙ rw (both.0, both.1) refl
+-- a group that stands after the first space
+after_again : (stamped : Bool) (g : List ℕ) (gs : List (List ℕ)) → is_group g ≡ true → list_all is_group gs ≡ true → groups_after stamped (g ++ spaced gs) ≡ Some (g ∷ gs)
+after_again stamped [] gs is all = absurd (true≢false (sym is))
+after_again false (b ∷ bs) gs is all = ap all_groups (split_again (b ∷ bs) gs is all) ∙ rw (is, all) refl
+after_again true (b ∷ bs) gs is all = ap all_groups (split_again (b ∷ bs) gs is all) ∙ rw (is, all) refl
 
-pub groups_takes : (body : List ℕ) (gs : List (List ℕ)) → group_body body ≡ Some gs → IsGroupBody (values.Groups gs) body
-groups_takes [] gs e =
+group_body_again : (stamped : Bool) (gs : List (List ℕ)) → list_all is_group gs ≡ true → group_body stamped (spaced gs) ≡ Some gs
+group_body_again stamped [] all = refl
+group_body_again stamped (g ∷ gs) all = let both = both_true (is_group g) (list_all is_group gs) all in after_again stamped g gs both.0 both.1
+
+-- no group, one space and a stamp
+pub record IsLeft (stamped : Bool) (gs : List (List ℕ)) (body : List ℕ) : Type 0 where
+  pub at : stamped ≡ true
+  pub none : gs ≡ []
+  pub spaced : body ≡ space ∷ []
+
+split_takes : (bs : List ℕ) (gs : List (List ℕ)) → all_groups (slice_split is_space bs) ≡ Some gs → IsGroupBody (values.Groups gs) (space ∷ bs)
+split_takes bs gs h =
+    let all = some_where (list_all is_group (slice_split is_space bs)) (slice_split is_space bs) gs h in
+    let P : List (List ℕ) → Type 0 = λ hs. IsGroupBody (values.Groups hs) (space ∷ bs) in
+    subst P all.1 (all.0, sym (spaced-slice_split bs))
+
+after_takes : (stamped : Bool) (bs : List ℕ) (gs : List (List ℕ)) → groups_after stamped bs ≡ Some gs → IsGroupBody (values.Groups gs) (space ∷ bs) ⊎ IsLeft stamped gs (space ∷ bs)
+after_takes false bs gs h = inl (split_takes bs gs h)
+after_takes true [] gs h = inr (record { at = refl; none = sym (some_is [] gs h); spaced = refl })
+after_takes true (b ∷ bs) gs h = inl (split_takes (b ∷ bs) gs h)
+
+pub groups_takes : (stamped : Bool) (body : List ℕ) (gs : List (List ℕ)) → group_body stamped body ≡ Some gs → IsGroupBody (values.Groups gs) body ⊎ IsLeft stamped gs body
+groups_takes stamped [] gs e =
     let P : List (List ℕ) → Type 0 = λ hs. IsGroupBody (values.Groups hs) [] in
-    subst P (some_is [] gs e) (refl, refl)
-groups_takes (b ∷ bs) gs e =
-    let h = where_some (b == space) (all_groups (slice_split is_space bs)) gs e in
-    let all = some_where (list_all is_group (slice_split is_space bs)) (slice_split is_space bs) gs h.1 in
-    let P : List (List ℕ) → Type 0 = λ hs. IsGroupBody (values.Groups hs) (b ∷ bs) in
-    subst P all.1 (all.0, ap (λ (c : ℕ). c ∷ bs) (eqb-true b space h.0) ∙ sym (spaced-slice_split bs))
+    inl (subst P (some_is [] gs e) (refl, refl))
+groups_takes stamped (b ∷ bs) gs e =
+    let h = where_some (b == space) (groups_after stamped bs) gs e in
+    subst (λ (c : ℕ). IsGroupBody (values.Groups gs) (c ∷ bs) ⊎ IsLeft stamped gs (c ∷ bs)) (sym (eqb-true b space h.0)) (after_takes stamped bs gs h.1)
 
-pub groups_value : (v : Value) (body : List ℕ) → IsGroupBody v body → (gs : List (List ℕ)) × (v ≡ values.Groups gs) × (group_body body ≡ Some gs)
-groups_value (values.Groups gs) body is = (gs, refl, ap group_body is.1 ∙ group_body_again gs is.0)
-groups_value v body is = absurd is
+pub groups_value : (stamped : Bool) (v : Value) (body : List ℕ) → IsGroupBody v body → (gs : List (List ℕ)) × (v ≡ values.Groups gs) × (group_body stamped body ≡ Some gs)
+groups_value stamped (values.Groups gs) body is = (gs, refl, ap (group_body stamped) is.1 ∙ group_body_again stamped gs is.0)
+groups_value stamped v body is = absurd is
 
 -- ---- a group in front
 

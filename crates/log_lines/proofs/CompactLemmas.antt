@@ -1,6 +1,7 @@
 -- Compaction keeps the reading, as additions and merges do.
-use Rattle.std.proofs.Common.{◌⊎◌, inl, inr, ◌≡◌, ◌↔◌, ℕ, Bool, true, false, not, ◌||◌, List, [], ◌∷◌, ◌++◌, filter, Option, Some, None, refl, sym, ap, subst, ◌∙◌}
+use Rattle.std.proofs.Common.{◌⊎◌, inl, inr, ◌≡◌, ◌↔◌, ℕ, Bool, true, false, not, ◌||◌, List, [], ◌∷◌, ◌++◌, filter, length, ◌<◌, ◌≤◌, nat_lt, Option, Some, None, refl, sym, ap, subst, ◌∙◌, arith}
 use Rattle.std.specs.List.{list_any}
+use Rattle.std.proofs.lemmas.Bool.{lt-ltb, le-ltb}
 use Rattle.std.proofs.lemmas.List.{append-nil}
 use Rattle.std.proofs.lemmas.List.Elements.{filter-append}
 use Rattle.annex_base.specs.Lists.{Member, Each}
@@ -223,3 +224,30 @@ outdated_by_newest kind lines line = outdated_in kind lines (entry_of kind line)
 pub stays : (kind : LogKind) (lines : List (List ℕ)) (line : List ℕ) → Member line lines → ¬ HasNewer kind lines line → Member line (compacted kind lines)
 stays kind lines line among last =
     among_compacted kind lines line among (by_test (is_outdated kind lines line) (λ t. absurd (last (outdated_has_newer kind lines line t))) (λ t. t))
+
+-- ---- whether a line is left out
+
+not_more : {X : Type 0} (p : X → Bool) (xs : List X) → length (filter p xs) ≤ length xs
+not_more p [] = omega arith
+not_more p (x ∷ xs) =
+    let rest = not_more p xs in by_test (p x) (λ t. rw t (omega (arith, rest))) (λ t. rw t (omega (arith, rest)))
+
+fewer_where : {X : Type 0} (p : X → Bool) (xs : List X) → list_any p xs ≡ true → length (filter (λ x. not (p x)) xs) < length xs
+fewer_where p [] h = other h
+fewer_where p (x ∷ xs) h =
+    by_test (p x)
+    (λ t. let rest = not_more (λ y. not (p y)) xs in rw t (omega (arith, rest)))
+    (λ t. let rest = fewer_where p xs (rw t at h) in rw t (omega (arith, rest)))
+
+all_where : {X : Type 0} (p : X → Bool) (xs : List X) → list_any p xs ≡ false → length xs ≤ length (filter (λ x. not (p x)) xs)
+all_where p [] h = omega arith
+all_where p (x ∷ xs) h =
+    by_test (p x)
+    (λ t. other (sym (rw t at h)))
+    (λ t. let rest = all_where p xs (rw t at h) in rw t (omega (arith, rest)))
+
+pub fewer_is : {X : Type 0} (p : X → Bool) (xs : List X) → nat_lt (length (filter (λ x. not (p x)) xs)) (length xs) ≡ list_any p xs
+fewer_is p xs =
+    by_test (list_any p xs)
+    (λ t. lt-ltb (length (filter (λ x. not (p x)) xs)) (length xs) (fewer_where p xs t) ∙ sym t)
+    (λ t. le-ltb (length (filter (λ x. not (p x)) xs)) (length xs) (all_where p xs t) ∙ sym t)

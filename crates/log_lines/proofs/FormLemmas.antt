@@ -1,6 +1,7 @@
 -- What is read is in the grammar, and each line of the grammar is read.
-use Rattle.std.proofs.Common.{inl, inr, ◌≡◌, ℕ, suc, true, nat_le, ◌&&◌, ◌==◌, true≢false, List, [], ◌∷◌, ◌++◌, length, slice_index_or, Contains, Option, Some, refl, sym, ap, subst, ◌∙◌, arith}
+use Rattle.std.proofs.Common.{inl, inr, ◌≡◌, ℕ, suc, true, nat_le, ◌&&◌, ◌==◌, true≢false, List, [], ◌∷◌, ◌++◌, length, slice_index_or, Contains, Option, Some, None, refl, sym, ap, subst, ◌∙◌, arith}
 use Rattle.std.specs.List.{list_all}
+use Rattle.std.specs.Option.{is_some}
 use Rattle.std.specs.Str.{is_utf8}
 use Rattle.std.proofs.lemmas.Bool.{leb-true, le-leb, cases_Bool, eqb-true}
 use Rattle.std.proofs.lemmas.List.Sums.{AllPass-from_list_all}
@@ -13,7 +14,7 @@ use Rattle.log_lines.specs.declared.entry.Topic.TheVariants as topics
 use Rattle.log_lines.specs.declared.entry.Value.{Value}
 use Rattle.log_lines.specs.declared.entry.Value.TheVariants as values
 use Rattle.log_lines.specs.declared.entry.Entry.{Entry}
-use Rattle.log_lines.specs.LineText.{space, newline, IsWord, BeginsStamped, IsLineText, IsLocationLine, IsRepoLine, IsLevelBody, IsTextBody, IsGroupBody, IsGroupTextLine, IsNumberLine, IsStatus, HasForm, IsLine}
+use Rattle.log_lines.specs.LineText.{space, newline, IsWord, BeginsStamped, IsLineText, IsLocationLine, IsRepoLine, IsLevelBody, IsTextBody, IsGroupLine, Ends, IsGroupTextLine, IsNumberLine, IsStatus, HasForm, IsLine}
 use Rattle.log_lines.specs.Reading.{is_not_newline, first_word, stamp_front, repo_of, repo_line, status_of, location_of, number_of, copies_of, level_body, trust_of, text_body, text_of, group_body, groups_of, group_front, group_text_of, form_of, is_line_text, entry_of}
 use Rattle.log_lines.proofs.Steps.{bind_some, some_is, where_some, both_true}
 use Rattle.log_lines.proofs.WordLemmas.{first_again, first_takes}
@@ -124,21 +125,41 @@ text_line_again line e is =
     let text = text_value e.value is.body is.says in
     rw (parts, text_again is.body text.0 text.2) (ap Some (made_is e (topics.Repo is.id) e.stamp (values.Text text.0) is.topic refl text.1))
 
-group_line_takes : (line : List ℕ) (e : Entry) → groups_of line ≡ Some e → IsRepoLine IsGroupBody line e
+stamp_time : (o : Option ℕ) → is_some o ≡ true → (time : ℕ) × (o ≡ Some time)
+stamp_time None h = absurd (true≢false (sym h))
+stamp_time (Some time) h = (time, refl)
+
+group_line_takes : (line : List ℕ) (e : Entry) → groups_of line ≡ Some e → IsGroupLine line e
 unfolding groups_of
 group_line_takes line e h =
     let parts = bind_some (repo_line line) _ e h in
-    let names = bind_some (group_body parts.0.1) _ e parts.2 in
+    let names = bind_some (group_body (is_some parts.0.2) parts.0.1) _ e parts.2 in
     let is = line_takes line parts.0 parts.1 in
-    subst (IsRepoLine IsGroupBody line) (some_is (made (topics.Repo parts.0.0) parts.0.2 (values.Groups names.0)) e names.2)
-    (record { id = parts.0.0; body = parts.0.1; ends = is.1; repo = is.0; says = groups_takes parts.0.1 names.0 names.1; topic = refl })
+    subst (IsGroupLine line) (some_is (made (topics.Repo parts.0.0) parts.0.2 (values.Groups names.0)) e names.2)
+    (elim (groups_takes (is_some parts.0.2) parts.0.1 names.0 names.1) [
+      | inl says ↦ inl (record { id = parts.0.0; body = parts.0.1; ends = is.1; repo = is.0; says = says; topic = refl })
+      | inr left ↦ inr (
+          let stamp = stamp_time parts.0.2 left.at in
+          record {
+            id = parts.0.0;
+            time = stamp.0;
+            ends = subst (Ends line (repo_text parts.0.0 ++ (space ∷ []))) stamp.1 (subst (λ (b : List ℕ). Ends line (repo_text parts.0.0 ++ b) parts.0.2) left.spaced is.1);
+            repo = is.0;
+            topic = refl;
+            at = stamp.1;
+            none = ap (λ (gs : List (List ℕ)). values.Groups gs) left.none;
+          })
+    ])
 
-group_line_again : (line : List ℕ) (e : Entry) → IsRepoLine IsGroupBody line e → groups_of line ≡ Some e
+group_line_again : (line : List ℕ) (e : Entry) → IsGroupLine line e → groups_of line ≡ Some e
 unfolding groups_of
-group_line_again line e is =
+group_line_again line e (inl is) =
     let parts = line_again line is.id is.body e.stamp is.repo is.ends in
-    let names = groups_value e.value is.body is.says in
+    let names = groups_value (is_some e.stamp) e.value is.body is.says in
     rw (parts, names.2) (ap Some (made_is e (topics.Repo is.id) e.stamp (values.Groups names.0) is.topic refl names.1))
+group_line_again line e (inr is) =
+    let parts = line_again line is.id (space ∷ []) (Some is.time) is.repo is.ends in
+    rw parts (ap Some (made_is e (topics.Repo is.id) (Some is.time) (values.Groups []) is.topic is.at is.none))
 
 -- ---- lines of a group
 

@@ -1,7 +1,8 @@
 pub mod EqualLemmas
-pub mod ClaimLemmas
+pub mod StatementLemmas
 pub mod CompactLemmas
 pub mod BodyLemmas
+pub mod FileLemmas
 pub mod FormLemmas
 pub mod GroupLemmas
 pub mod NewerLemmas

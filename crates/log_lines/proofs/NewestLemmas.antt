@@ -18,7 +18,7 @@ use Rattle.log_lines.proofs.Steps.{some_is, none_some, none_by}
 use Rattle.log_lines.proofs.FormLemmas.{entry_takes, entry_again}
 use Rattle.log_lines.proofs.OrderLemmas.{same_topic_is, same_topic_own}
 use Rattle.log_lines.proofs.NewerLemmas.{by_test, newer_stays, newer_later, newer_not_before, newer_not_after, not_lt_through, tied_is, newer_of_assoc, newer_of_none, said_same}
-use Rattle.log_lines.proofs.PutLemmas.{IsRising, none_rising, put_rising, put_at, at_member, member_at, rising_same}
+use Rattle.log_lines.proofs.PutLemmas.{IsRising, none_rising, put_if_rising, put_at, at_member, member_at, rising_same}
 
 -- the newest entry of the topic, by recursion on the lines
 pub latest : LogKind → List (List ℕ) → Topic → Option Entry
@@ -36,10 +36,6 @@ read_append kind es (x ∷ xs) ys = read_append kind (put_if es (entry_of kind x
 
 pub newest_append : (kind : LogKind) (xs ys : List (List ℕ)) → newest kind (xs ++ ys) ≡ fold (λ es line. put_if es (entry_of kind line)) (newest kind xs) ys
 newest_append kind xs ys = read_append kind [] xs ys
-
-put_if_rising : (es : List Entry) (o : Option Entry) → IsRising es → IsRising (put_if es o)
-put_if_rising es None h = h
-put_if_rising es (Some e) h = put_rising es e h
 
 put_if_at : (es : List Entry) (o : Option Entry) (t : Topic) → IsRising es → entry_at (put_if es o) t ≡ newer_of (entry_at es t) (said_of t o)
 put_if_at es None t h = sym (newer_of_none (entry_at es t))
@@ -269,3 +265,7 @@ newest_of_none kind lines t = (
 -- files that read alike have the same newest entry of each topic
 pub newest_of_alike : (kind : LogKind) (xs ys : List (List ℕ)) (t : Topic) → ReadAlike kind xs ys → newest_of kind xs t ≡ newest_of kind ys t
 newest_of_alike kind xs ys t alike = ap (λ es. entry_at es t) alike
+
+-- one line more
+pub newest_more : (kind : LogKind) (lines : List (List ℕ)) (line : List ℕ) → newest kind (lines ++ line ∷ []) ≡ put_if (newest kind lines) (entry_of kind line)
+newest_more kind lines line = newest_append kind lines (line ∷ [])

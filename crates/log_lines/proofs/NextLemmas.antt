@@ -1,5 +1,5 @@
 -- A line that is added: what it changes, and that an entry with the next stamp is the newest.
-use Rattle.std.proofs.Common.{◌≡◌, ◌≢◌, ℕ, length-take, ◌^◌, ◌<◌, ◌≤◌, false, List, [], ◌∷◌, ◌++◌, length, take, Option, Some, None, refl, sym, ap, subst, ◌∙◌, lit<, arith}
+use Rattle.std.proofs.Common.{inl, inr, ◌≡◌, ◌≢◌, ℕ, length-take, ◌^◌, ◌<◌, ◌≤◌, false, List, [], ◌∷◌, ◌++◌, length, take, Option, Some, None, refl, sym, ap, subst, ◌∙◌, lit<, arith}
 use Rattle.std.specs.declared.cmp.Ordering.TheVariants.{Less, Greater}
 use Rattle.std.specs.Ordering.{nat_cmp, ordering_reverse, is_lt}
 use Rattle.std.specs.Char.{is_ascii_digit}
@@ -58,7 +58,8 @@ form_below : (kind : LogKind) (line : List ℕ) (e : Entry) (n : ℕ) → HasFor
 form_below kinds.Location line e n f at = begins_below e.stamp f.time n f.begins.stamp f.at f.begins.is at
 form_below kinds.Trust line e n f at = repo_below _ line e n f at
 form_below kinds.Uuid line e n f at = repo_below _ line e n f at
-form_below kinds.Group line e n f at = repo_below _ line e n f at
+form_below kinds.Group line e n (inl f) at = repo_below _ line e n f at
+form_below kinds.Group line e n (inr f) at = begins_below e.stamp f.time n f.ends.stamp f.at f.ends.is at
 form_below kinds.Preferred line e n f at = repo_below _ line e n f at
 form_below kinds.Required line e n f at = repo_below _ line e n f at
 form_below kinds.GroupPreferred line e n f at = begins_below e.stamp f.time n f.begins.stamp f.at f.begins.is at

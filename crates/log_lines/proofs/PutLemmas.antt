@@ -1,5 +1,5 @@
 -- Entries in order of topic, and one more of them.
-use Rattle.std.proofs.Common.{inl, inr, ◌≡◌, true, false, List, [], ◌∷◌, map, Some, None, refl, sym, ap, subst, ◌∙◌}
+use Rattle.std.proofs.Common.{inl, inr, ◌≡◌, true, false, List, [], ◌∷◌, map, Option, Some, None, refl, sym, ap, subst, ◌∙◌}
 use Rattle.std.specs.declared.cmp.Ordering.{Ordering}
 use Rattle.std.specs.declared.cmp.Ordering.TheVariants.{Less, Equal, Greater}
 use Rattle.std.specs.Ordering.{is_eq, is_lt, ordering_reverse}
@@ -9,7 +9,7 @@ use Rattle.std.proofs.lemmas.Cmp.{tied_itself}
 use Rattle.annex_base.specs.Lists.{Member}
 use Rattle.log_lines.specs.declared.entry.Topic.{Topic}
 use Rattle.log_lines.specs.declared.entry.Entry.{Entry}
-use Rattle.log_lines.specs.Newest.{topic_cmp, same_topic, newer, put, entry_at}
+use Rattle.log_lines.specs.Newest.{topic_cmp, same_topic, newer, put, put_if, entry_at}
 use Rattle.log_lines.specs.Latest.{said_of, newer_of}
 use Rattle.log_lines.proofs.OrderLemmas.{other, topic_total, topic_exact, same_topic_is, same_topic_own}
 use Rattle.log_lines.proofs.NewerLemmas.{by_test, newer_topic, newer_of_none}
@@ -81,6 +81,10 @@ put_rising (x ∷ xs) e h =
     (λ o. rw o (parts_rising e (x ∷ xs) (o, past_further e.topic x.topic xs o parts.0) h))
     (λ o. rw o (parts_rising (newer x e) xs (subst (λ t. ArePast t xs) (sym (newer_topic x e x.topic refl (topic_exact e.topic x.topic o))) parts.0) parts.1))
     (λ o. rw o (parts_rising x (put xs e) (put_past x.topic xs e (turned e.topic x.topic o) parts.0) (put_rising xs e parts.1)))
+
+pub put_if_rising : (es : List Entry) (o : Option Entry) → IsRising es → IsRising (put_if es o)
+put_if_rising es None h = h
+put_if_rising es (Some e) h = put_rising es e h
 
 -- ---- the entry of each topic with one more entry
 

@@ -17,7 +17,7 @@ use Rattle.log_lines.specs.declared.entry.Topic.{Topic}
 use Rattle.log_lines.specs.declared.entry.Value.{Value}
 use Rattle.log_lines.specs.declared.entry.Value.TheVariants as values
 use Rattle.log_lines.specs.declared.entry.Entry.{Entry}
-use Rattle.log_lines.specs.LineText.{space, is_not_space, stamp_mark, EndsMarked, BeginsStamped, Ends, IsLocationLine, IsRepoLine, IsLevelBody, IsTextBody, IsGroupBody, IsGroupTextLine, IsNumber, IsNumberLine, IsStatus, HasForm, IsLine, HasLine, topic_text, value_text, spaced_value, stamp_first, stamp_last, location_text, repo_line_text, group_line_text, number_line_text, line_text}
+use Rattle.log_lines.specs.LineText.{space, is_not_space, stamp_mark, EndsMarked, BeginsStamped, Ends, IsLocationLine, IsRepoLine, IsLevelBody, IsTextBody, IsGroupBody, IsUngroupedLine, IsGroupLine, IsGroupTextLine, IsNumber, IsNumberLine, IsStatus, HasForm, IsLine, HasLine, topic_text, value_text, spaced_value, stamp_first, stamp_last, location_text, repo_line_text, group_line_text, number_line_text, line_text}
 use Rattle.log_lines.specs.Reading.{last_word}
 use Rattle.log_lines.proofs.Steps.{some_is}
 use Rattle.log_lines.proofs.NumberLemmas.{nine_digits_below}
@@ -212,13 +212,35 @@ repo_written IsBody spaced line e p is =
       form = record { id = is.id; body = body'; ends = ends_written line repo is.body body' e.stamp is.ends s.same; repo = is.repo; says = s.says; topic = is.topic };
     })
 
+-- two spaces come back as one
+ungrouped_written : (line : List ℕ) (e : Entry) → Plain line → IsUngroupedLine line e → Written IsGroupLine (repo_line_text e) e
+ungrouped_written line e p is =
+    let repo = repo_text is.id in
+    let spelled : repo_line_text e ≡ repo ++ [] ++ stamp_last (Some is.time) =
+    ap (λ (t : Topic). topic_text t ++ spaced_value e.value ++ stamp_last e.stamp) is.topic
+    ∙ ap (λ (v : Value). repo ++ spaced_value v ++ stamp_last e.stamp) is.none
+    ∙ ap (λ (s : Option ℕ). repo ++ [] ++ stamp_last s) is.at in
+    let front = plain_before repo [] (front_plain line (repo ++ (space ∷ [])) (Some is.time) p is.ends) in
+    let stamp = stamp_written is.time (stamp_below is.ends.stamp is.time is.ends.is) in
+    let ends : Ends (repo ++ [] ++ stamp_last (Some is.time)) (repo ++ []) (Some is.time) = record { stamp = stamp_text is.time; is = stamp; spelled = refl } in
+    let last = last_plain line (repo ++ (space ∷ [])) (Some is.time) is.ends in
+    let says : IsGroupBody e.value [] = subst (λ (v : Value). IsGroupBody v []) (sym is.none) (refl, refl) in
+    subst (λ (t : List ℕ). Written IsGroupLine t e) (sym spelled) (record {
+      plain = plain_append (repo ++ []) (stamp_last (Some is.time)) (plain_append repo [] front plain_nil) last;
+      form = inl (record { id = is.id; body = []; ends = subst (Ends (repo ++ [] ++ stamp_last (Some is.time)) (repo ++ [])) (sym is.at) ends; repo = is.repo; says = says; topic = is.topic });
+    })
+
+groups_written : (line : List ℕ) (e : Entry) → Plain line → IsGroupLine line e → Written IsGroupLine (repo_line_text e) e
+groups_written line e p (inl is) = let w = repo_written IsGroupBody groups_spaced line e p is in record { plain = w.plain; form = inl w.form }
+groups_written line e p (inr is) = ungrouped_written line e p is
+
 -- ---- each kind
 
 form_written : (kind : LogKind) (line : List ℕ) (e : Entry) → Plain line → HasForm kind line e → Written (HasForm kind) (line_text kind e) e
 form_written kinds.Location = location_written
 form_written kinds.Trust = repo_written IsLevelBody level_spaced
 form_written kinds.Uuid = repo_written IsTextBody text_spaced
-form_written kinds.Group = repo_written IsGroupBody groups_spaced
+form_written kinds.Group = groups_written
 form_written kinds.Preferred = repo_written IsTextBody text_spaced
 form_written kinds.Required = repo_written IsTextBody text_spaced
 form_written kinds.GroupPreferred = group_written

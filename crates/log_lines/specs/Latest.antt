@@ -1,5 +1,5 @@
--- The newest entry of one topic, line by line.
-use Rattle.std.specs.Prelude.{ℕ, Bool, true, false, if◌then◌else◌, List, map, Option, Some, None}
+-- The newest entry of one topic, line by line (for private contracts).
+use Rattle.std.specs.Prelude.{ℕ, Bool, true, false, if◌then◌else◌, List, Option, Some, None}
 use Rattle.std.specs.declared.cmp.Ordering.{Ordering}
 use Rattle.std.specs.Ordering.{nat_cmp, ordering_then, is_lt}
 use Rattle.std.specs.Option.{option_cmp}
@@ -7,7 +7,7 @@ use Rattle.log_lines.specs.declared.entry.Topic.{Topic}
 use Rattle.log_lines.specs.declared.entry.Value.{Value}
 use Rattle.log_lines.specs.declared.entry.Value.TheVariants as values
 use Rattle.log_lines.specs.declared.entry.Entry.{Entry}
-use Rattle.log_lines.specs.declared.claims.Claim.{Claim}
+use Rattle.log_lines.specs.declared.statement.Statement.{Statement}
 use Rattle.log_lines.specs.Newest.{same_topic, value_cmp, newer, entry_at, says_newer}
 
 -- the entry, if it speaks of the topic
@@ -31,27 +31,19 @@ value_rank (values.Text t) = 4
 value_rank (values.Groups gs) = 5
 value_rank (values.Number n) = 6
 
--- the claim that an entry makes of its topic, and which of two is older
-abbrev pub claim_cmp : Claim → Claim → Ordering
-claim_cmp c d = ordering_then (option_cmp nat_cmp c.stamp d.stamp) (value_cmp c.value d.value)
+-- which of two statements of one topic is the older
+abbrev pub statement_cmp : Statement → Statement → Ordering
+statement_cmp c d = ordering_then (option_cmp nat_cmp c.stamp d.stamp) (value_cmp c.value d.value)
 
--- the claim as an entry of the topic
-abbrev pub entry_with : Topic → Claim → Entry
-entry_with topic c = record { topic = topic; stamp = c.stamp; value = c.value }
-
--- claims by topic, as entries
-abbrev pub entries_in : List (Topic × Claim) → List Entry
-entries_in claims = map (λ p. entry_with p.0 p.1) claims
-
--- the claim is the first of its topic, or the one that is known is older
-abbrev pub is_news : Claim → Option Claim → Bool
+-- the statement is the first of its topic, or the one that is known is older
+abbrev pub is_news : Statement → Option Statement → Bool
 is_news c None = true
-is_news c (Some known) = is_lt (claim_cmp known c)
+is_news c (Some known) = is_lt (statement_cmp known c)
 
--- the claim that is known is newer
-abbrev pub is_old : Claim → Option Claim → Bool
+-- the statement that is known is newer
+abbrev pub is_old : Statement → Option Statement → Bool
 is_old c None = false
-is_old c (Some known) = is_lt (claim_cmp c known)
+is_old c (Some known) = is_lt (statement_cmp c known)
 
 -- the newest entry of the topic among these is newer than the entry
 abbrev pub is_outdated_in : List Entry → Option Entry → Bool

@@ -123,6 +123,19 @@ abbrev pub IsGroupBody : Value → List ℕ → Type 0
 IsGroupBody (values.Groups gs) body = IsTrue (list_all is_group gs) × (body ≡ flat_map (λ g. space ∷ g) gs)
 IsGroupBody v body = ⊥
 
+-- UUID, two spaces and timestamp=STAMP: no group, as git-annex writes it after the last one is left
+pub record IsUngroupedLine (line : List ℕ) (e : Entry) : Type 0 where
+  pub id : List ℕ
+  pub time : ℕ
+  pub ends : EndsStamped line (repo_text id ++ (space ∷ [])) time
+  pub repo : IsId id
+  pub topic : e.topic ≡ topics.Repo id
+  pub at : e.stamp ≡ Some time
+  pub none : e.value ≡ values.Groups []
+
+abbrev pub IsGroupLine : List ℕ → Entry → Type 0
+IsGroupLine line e = IsRepoLine IsGroupBody line e ⊎ IsUngroupedLine line e
+
 -- STAMP GROUP and a body
 pub record IsGroupTextLine (line : List ℕ) (e : Entry) : Type 0 where
   pub time : ℕ
@@ -153,7 +166,7 @@ abbrev pub HasForm : LogKind → List ℕ → Entry → Type 0
 HasForm kinds.Location = IsLocationLine
 HasForm kinds.Trust = IsRepoLine IsLevelBody
 HasForm kinds.Uuid = IsRepoLine IsTextBody
-HasForm kinds.Group = IsRepoLine IsGroupBody
+HasForm kinds.Group = IsGroupLine
 HasForm kinds.Preferred = IsRepoLine IsTextBody
 HasForm kinds.Required = IsRepoLine IsTextBody
 HasForm kinds.GroupPreferred = IsGroupTextLine

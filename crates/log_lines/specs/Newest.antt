@@ -155,3 +155,7 @@ is_outdated kind lines line = outdated_by kind lines (entry_of kind line)
 -- the lines without those that are outdated
 abbrev pub compacted : LogKind → List (List ℕ) → List (List ℕ)
 compacted kind lines = filter (λ line. not (is_outdated kind lines line)) lines
+
+-- compaction leaves out a line
+abbrev pub has_outdated : LogKind → List (List ℕ) → Bool
+has_outdated kind lines = list_any (λ line. is_outdated kind lines line) lines

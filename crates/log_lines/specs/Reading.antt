@@ -1,8 +1,8 @@
 -- Reading a line: each function gives what stands in front and what follows it.
-use Rattle.std.specs.Prelude.{ℕ, ◌+◌, ◌-◌, ◌==◌, Bool, not, nat_lt, nat_le, ◌&&◌, if◌then◌else◌, List, [], ◌∷◌, length, take, drop, Option, Some, None}
+use Rattle.std.specs.Prelude.{ℕ, ◌+◌, ◌-◌, ◌==◌, Bool, true, false, not, nat_lt, nat_le, ◌&&◌, if◌then◌else◌, List, [], ◌∷◌, length, take, drop, Option, Some, None}
 use Rattle.std.specs.Char.{is_ascii_digit}
 use Rattle.std.specs.List.{list_all, position_or_len, suffix_len, starts_with, slice_split}
-use Rattle.std.specs.Option.{option_map}
+use Rattle.std.specs.Option.{is_some, option_map}
 use Rattle.std.specs.Str.{is_utf8, bytes_eq}
 use Rattle.std.specs.Str.Parse.{digits_value}
 use Rattle.uuid.specs.Text.{parsed}
@@ -146,16 +146,22 @@ text_of line = do
 abbrev pub all_groups : List (List ℕ) → Option (List (List ℕ))
 all_groups words = if list_all is_group words then Some words else None
 
+-- the groups after the first space; where a stamp follows, there may be none
+abbrev pub groups_after : Bool → List ℕ → Option (List (List ℕ))
+groups_after false text = all_groups (slice_split is_space text)
+groups_after true [] = Some []
+groups_after true (b ∷ bs) = all_groups (slice_split is_space (b ∷ bs))
+
 -- a space before each group
-abbrev pub group_body : List ℕ → Option (List (List ℕ))
-group_body [] = Some []
-group_body (b ∷ bs) = if b == space then all_groups (slice_split is_space bs) else None
+abbrev pub group_body : Bool → List ℕ → Option (List (List ℕ))
+group_body stamped [] = Some []
+group_body stamped (b ∷ bs) = if b == space then groups_after stamped bs else None
 
 -- UUID GROUP GROUP .. timestamp=STAMP
 unfoldable pub groups_of : List ℕ → Option Entry
 groups_of line = do
   parts ← repo_line line
-  names ← group_body parts.1
+  names ← group_body (is_some parts.2) parts.1
   Some (record { topic = topics.Repo parts.0; stamp = parts.2; value = values.Groups names })
 
 -- a group in front, and what follows it

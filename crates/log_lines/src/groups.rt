@@ -1,7 +1,9 @@
+//! Lines of group.log, and the names of groups.
+
 ghost use Rattle.std.specs.Prelude.{◌≡◌, length, map, IfOk};
 ghost use Rattle.std.specs.List.{list_all, slice_split};
 ghost use Rattle.log_lines.specs.LineText.{is_group_byte, is_group};
-ghost use Rattle.log_lines.specs.Reading.{is_space, all_groups, group_body, groups_of};
+ghost use Rattle.log_lines.specs.Reading.{is_space, all_groups, groups_after, group_body, groups_of};
 
 use crate::entry::{Entry, Topic, Value};
 use crate::group_list::GroupList;
@@ -59,14 +61,26 @@ fn split_groups(alloc: Global, text: &[u8]) -> Result<Option<GroupList>, NoMemor
     }
 }
 
-fn group_body(alloc: Global, body: &[u8]) -> Result<Option<GroupList>, NoMemory>
-    ensures { IfOk result (λ o. o ≡ group_body body.now) }
+/// The groups after the first space. Where a stamp follows there may be none: git-annex leaves two spaces when the last
+/// group is left.
+fn groups_after(alloc: Global, stamped: bool, text: &[u8]) -> Result<Option<GroupList>, NoMemory>
+    ensures { IfOk result (λ o. o ≡ groups_after stamped text.now) }
+{
+    if stamped && text.is_empty() {
+        Ok(Some(GroupList::new(alloc)))
+    } else {
+        split_groups(alloc, text)
+    }
+}
+
+fn group_body(alloc: Global, stamped: bool, body: &[u8]) -> Result<Option<GroupList>, NoMemory>
+    ensures { IfOk result (λ o. o ≡ group_body stamped body.now) }
 {
     match body.split_first() {
         None => Ok(Some(GroupList::new(alloc))),
         Some((first, text)) => {
             if *first == b' ' {
-                split_groups(alloc, text)
+                groups_after(alloc, stamped, text)
             } else {
                 Ok(None)
             }
@@ -82,7 +96,7 @@ pub(crate) fn read_groups(alloc: Global, line: &[u8]) -> Result<Option<Entry>, N
     let Some((id, body, stamp)) = split_repo_line(line) else {
         return Ok(None);
     };
-    let Some(names) = group_body(alloc, body)? else {
+    let Some(names) = group_body(alloc, stamp.is_some(), body)? else {
         return Ok(None);
     };
     Ok(Some(Entry {

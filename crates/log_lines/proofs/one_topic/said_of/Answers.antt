@@ -1,7 +1,7 @@
 use Rattle.std.proofs.Common.{sym, ap, ◌∙◌}
 use Rattle.log_lines.specs.Latest.{said_of}
 use Rattle.log_lines.proofs.NewerLemmas.{said_when, said_other}
-use Rattle.log_lines.proofs.ClaimLemmas.{topic_eq_same}
+use Rattle.log_lines.proofs.StatementLemmas.{topic_eq_same}
 use Rattle.log_lines.proofs.one_topic.said_of.Goals as goal
 
 pub returns-then-eq : goal.returns-then-eq

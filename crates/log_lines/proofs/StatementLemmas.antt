@@ -1,20 +1,23 @@
--- Claims by topic in a map, as entries in order of topic.
-use Rattle.std.proofs.Common.{◌≡◌, true, false, List, [], ◌∷◌, Option, None, refl, sym, ap, ◌∙◌}
+-- Statements by topic in a map, as entries in order of topic.
+use Rattle.std.proofs.Common.{◌≡◌, true, false, List, [], ◌∷◌, Option, None, Result, Ok, Err, OnOk, OnErr, refl, sym, ap, subst, ◌∙◌}
 use Rattle.std.specs.declared.cmp.Ordering.{Ordering}
 use Rattle.std.specs.Ordering.{is_lt}
 use Rattle.std.specs.Map.{lookup}
+use Rattle.std.specs.Option.{option_map}
 use Rattle.std.specs.BTreeMap.{insert_entry, is_at}
 use Rattle.log_lines.specs.declared.entry.Topic.{Topic}
 use Rattle.log_lines.specs.declared.entry.Topic.TheVariants as topics
-use Rattle.log_lines.specs.declared.claims.Claim.{Claim}
+use Rattle.log_lines.specs.declared.statement.Statement.{Statement}
 use Rattle.log_lines.specs.contracts.entry.TopicOrd.TheImpl as topic_ord
-use Rattle.log_lines.specs.Newest.{topic_cmp, same_topic, put, entry_at, says_newer}
-use Rattle.log_lines.specs.Latest.{claim_cmp, entry_with, entries_in, is_news, is_old}
+use Rattle.log_lines.specs.Newest.{topic_cmp, same_topic, put, put_if, entry_at, says_newer}
+use Rattle.log_lines.specs.declared.entry.Entry.{Entry}
+use Rattle.log_lines.specs.Index.{statement_of, entry_with, entries_in}
+use Rattle.log_lines.specs.Latest.{statement_cmp, is_news, is_old}
 use Rattle.log_lines.specs.contracts.entry.TopicPartialEq.TheImpl as topic_impl
 use Rattle.log_lines.proofs.EqualLemmas.{topic_same, topic_equal}
 use Rattle.log_lines.proofs.OrderLemmas.{other, topic_exact, same_topic_is, same_topic_own}
 use Rattle.log_lines.proofs.NewerLemmas.{by_test}
-use Rattle.log_lines.proofs.PutLemmas.{IsRising, ArePast, rising_parts, past_further, by_order}
+use Rattle.log_lines.proofs.PutLemmas.{IsRising, put_if_rising, ArePast, rising_parts, past_further, by_order}
 
 -- the derived order of topics is theirs
 pub topic_order : (t u : Topic) → topic_ord.ghosts.cmp t u ≡ topic_cmp t u
@@ -31,27 +34,27 @@ topic_order topics.Whole topics.Whole = refl
 pub topic_orders : topic_ord.ghosts.cmp ≡ topic_cmp
 topic_orders = λ i t u. topic_order t u i
 
-abbrev known_at : (Topic → Topic → Ordering) → List (Topic × Claim) → Topic → Option Claim
-known_at cmp claims t = lookup (is_at (cmp t)) claims
+abbrev known_at : (Topic → Topic → Ordering) → List (Topic × Statement) → Topic → Option Statement
+known_at cmp statements t = lookup (is_at (cmp t)) statements
 
--- a claim that is news is put
-pub put_news : (claims : List (Topic × Claim)) (t : Topic) (c : Claim) → is_news c (known_at topic_cmp claims t) ≡ true → entries_in (insert_entry topic_cmp claims t c) ≡ put (entries_in claims) (entry_with t c)
+-- a statement that is news is put
+pub put_news : (statements : List (Topic × Statement)) (t : Topic) (c : Statement) → is_news c (known_at topic_cmp statements t) ≡ true → entries_in (insert_entry topic_cmp statements t c) ≡ put (entries_in statements) (entry_with t c)
 put_news [] t c news = refl
 put_news (p ∷ ps) t c news =
     by_order (topic_cmp t p.0)
     (λ o. rw o refl)
     (λ o.
-    let less : is_lt (claim_cmp p.1 c) ≡ true = rw o at news in
+    let less : is_lt (statement_cmp p.1 c) ≡ true = rw o at news in
     let topic = topic_exact t p.0 o in
     rw (o, less, topic) refl)
     (λ o. let more : is_news c (known_at topic_cmp ps t) ≡ true = rw o at news in rw (o, put_news ps t c more) refl)
 
-past_unknown : (claims : List (Topic × Claim)) (t : Topic) → ArePast t (entries_in claims) → known_at topic_cmp claims t ≡ None
+past_unknown : (statements : List (Topic × Statement)) (t : Topic) → ArePast t (entries_in statements) → known_at topic_cmp statements t ≡ None
 past_unknown [] t past = refl
 past_unknown (p ∷ ps) t past = rw past.0 (past_unknown ps t past.1)
 
 -- where it isn't, it changes nothing
-pub put_known : (claims : List (Topic × Claim)) (t : Topic) (c : Claim) → IsRising (entries_in claims) → is_news c (known_at topic_cmp claims t) ≡ false → entries_in claims ≡ put (entries_in claims) (entry_with t c)
+pub put_known : (statements : List (Topic × Statement)) (t : Topic) (c : Statement) → IsRising (entries_in statements) → is_news c (known_at topic_cmp statements t) ≡ false → entries_in statements ≡ put (entries_in statements) (entry_with t c)
 put_known [] t c up news = other (sym news)
 put_known (p ∷ ps) t c up news =
     let parts = rising_parts (entry_with p.0 p.1) (entries_in ps) up in
@@ -59,7 +62,7 @@ put_known (p ∷ ps) t c up news =
     (λ o.
     let none = past_unknown (p ∷ ps) t (o, past_further t p.0 (entries_in ps) o parts.0) in
     other (sym news ∙ ap (is_news c) none))
-    (λ o. let not_less : is_lt (claim_cmp p.1 c) ≡ false = rw o at news in rw (o, not_less) refl)
+    (λ o. let not_less : is_lt (statement_cmp p.1 c) ≡ false = rw o at news in rw (o, not_less) refl)
     (λ o.
     let more : is_news c (known_at topic_cmp ps t) ≡ false = rw o at news in
     rw o (ap (λ es. entry_with p.0 p.1 ∷ es) (put_known ps t c parts.1 more)))
@@ -75,6 +78,16 @@ topic_eq_same t u =
     (λ s. e ∙ sym s))
 
 -- what is known of a topic is the entry of it
-pub old_at : (claims : List (Topic × Claim)) (t : Topic) (c : Claim) → is_old c (known_at topic_cmp claims t) ≡ says_newer (entry_with t c) (entry_at (entries_in claims) t)
+pub old_at : (statements : List (Topic × Statement)) (t : Topic) (c : Statement) → is_old c (known_at topic_cmp statements t) ≡ says_newer (entry_with t c) (entry_at (entries_in statements) t)
 old_at [] t c = refl
 old_at (p ∷ ps) t c = by_test (same_topic t p.0) (λ s. rw (s, s) refl) (λ s. rw s (old_at ps t c))
+
+-- what a topic's entry says is what the map has
+pub statement_at : (statements : List (Topic × Statement)) (t : Topic) → known_at topic_cmp statements t ≡ option_map statement_of (entry_at (entries_in statements) t)
+statement_at [] t = refl
+statement_at (p ∷ ps) t = by_test (same_topic t p.0) (λ s. rw s refl) (λ s. rw s (statement_at ps t))
+
+-- the topics still rise when a line is put, or nothing is changed
+pub kept_rising : {T E : Type 0} (r : Result T E) (old new : List (Topic × Statement)) (o : Option Entry) → IsRising (entries_in old) → OnOk r (entries_in new ≡ put_if (entries_in old) o) → OnErr r (new ≡ old) → IsRising (entries_in new)
+kept_rising (Ok v) old new o up ok err = subst IsRising (sym ok) (put_if_rising (entries_in old) o up)
+kept_rising (Err e) old new o up ok err = subst (λ s. IsRising (entries_in s)) (sym err) up

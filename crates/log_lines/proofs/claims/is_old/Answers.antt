@@ -1,8 +1,0 @@
-use Rattle.std.proofs.Common.{ap, ◌∙◌}
-use Rattle.std.specs.BTreeMap.{get}
-use Rattle.log_lines.specs.Latest.{is_old}
-use Rattle.log_lines.proofs.ClaimLemmas.{topic_orders}
-use Rattle.log_lines.proofs.claims.is_old.Goals as goal
-
-pub returns-in-Some : goal.returns-in-Some
-returns-in-Some c = c.is_older.ensures ∙ ap (is_old c.args.claim.now) (c.in-Some.ensures.value ∙ ap (λ R. get R c.args.claims.now c.args.topic.now) topic_orders)

@@ -1,0 +1,5 @@
+use Rattle.log_lines.proofs.FileLemmas.{kind_of_name}
+use Rattle.log_lines.proofs.laws.file_names_are_exact.Goals as goal
+
+pub returns : goal.returns
+returns c = kind_of_name
