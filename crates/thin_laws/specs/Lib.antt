@@ -1,5 +1,5 @@
 pub use Rattle.annex_base.specs.Lists
-pub use Rattle.thin_model.specs.SetUp
+pub use Rattle.run_data.specs.Repos
 pub use Rattle.thin_model.specs.Past
 pub use Rattle.thin_model.specs.Frames
 pub use Rattle.thin_model.specs.Logs
