@@ -1,5 +1,5 @@
 -- Why a call of a source, a sink or a store failed (own).
-use Rattle.std.specs.Prelude.{ℕ, ◌+◌, ◌-◌, ◌^◌, ◌≤◌, min, OnErr}
+use Rattle.std.specs.Prelude.{◌≡◌, ℕ, ◌+◌, ◌-◌, ◌^◌, ◌≤◌, min, OnErr, OnOk}
 use Rattle.std.specs.declared.result.Result.{Result}
 
 -- a count one higher, which stays at its type's end
@@ -10,7 +10,8 @@ next_count n = min (n + 1) (2 ^ 64 - 1)
 abbrev pub Rose : ℕ → ℕ → Type 0
 Rose before now = next_count before ≤ now
 
--- the count doesn't fall, and a call fails only where it rose
+-- a call fails only where the count rose, and else the count stays
 pub record HasCause {T E : Type 0} (before now : ℕ) (result : Result T E) : Type 0 where
   pub later : before ≤ now
   pub failed : OnErr result (Rose before now)
+  pub kept : OnOk result (now ≡ before)

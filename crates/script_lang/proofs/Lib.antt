@@ -12,3 +12,4 @@ pub mod OneLemmas
 pub mod StopLemmas
 pub mod TextLemmas
 pub mod ParseLemmas
+pub mod CoverageLemmas

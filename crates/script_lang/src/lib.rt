@@ -3,6 +3,7 @@
 
 mod actions;
 mod command;
+mod coverage;
 mod declare;
 mod fault;
 mod fields;
@@ -18,6 +19,7 @@ mod verb;
 mod words;
 
 pub use command::Command;
+pub use coverage::each_text_has_a_reading;
 pub use fault::{Quantity, ScriptFault};
 pub use laws::scripts_have_one_reading;
 pub use script::Script;
