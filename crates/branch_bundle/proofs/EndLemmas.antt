@@ -1,5 +1,5 @@
 -- Lines that are cut short: whether some lines in order go on from there, to so many bytes.
-use Rattle.std.proofs.Common.{◌≡◌, inl, inr, ℕ, zero, suc, ◌+◌, ◌-◌, ◌*◌, ◌<◌, ◌≤◌, Bool, true, false, ◌&&◌, List, [], ◌∷◌, ◌++◌, length, arith, refl, sym, ap, subst, ◌∙◌, append_assoc, length-append}
+use Rattle.std.proofs.Common.{◌≡◌, inl, inr, ℕ, zero, suc, ◌+◌, ◌-◌, ◌*◌, ◌<◌, ◌≤◌, true, false, ◌&&◌, List, [], ◌∷◌, ◌++◌, length, arith, refl, sym, ap, subst, ◌∙◌, append_assoc, length-append}
 use Rattle.std.specs.declared.cmp.Ordering.{Ordering}
 use Rattle.std.specs.declared.cmp.Ordering.TheVariants.{Less, Equal, Greater}
 use Rattle.std.specs.Ordering.{is_lt}
@@ -15,7 +15,7 @@ use Rattle.branch_bundle.specs.Bundle.{IsByte}
 use Rattle.branch_bundle.specs.Parts.{IsFree, IsCut, fill, ends_well, BeginsLines}
 use Rattle.branch_bundle.proofs.FileLemmas.{Lines}
 use Rattle.annex_base.proofs.TextOrder.{BeforeAll, order_nil, order_cons, order_head, order_tail, BeforeAll-trans}
-use Rattle.annex_base.proofs.Lists.{Each-append, Each-left}
+use Rattle.annex_base.proofs.Lists.{Each-append, Each-left, Member-append_cases, Member-append_right}
 use Rattle.branch_bundle.proofs.TextLemmas.{cut_same}
 use Rattle.branch_bundle.proofs.FillLemmas.{fill-bytes, fill-free, length-fill, before_best, before_none, filled_cmp}
 
@@ -125,8 +125,7 @@ ends_found [] line front (suc left) free passes =
       sym (text_of-cons (front ++ fill left) [] ∙ append_assoc front (fill left) (newline ∷ [])),
     ) where
       free_both : (xs ys : List ℕ) → IsFree newline xs → IsFree newline ys → IsFree newline (xs ++ ys)
-      free_both [] ys first second = second
-      free_both (x ∷ xs) ys first second = λ among. elim among [ inl same ↦ first (inl same) | inr later ↦ free_both xs ys (λ h. first (inr h)) second later ]
+      free_both xs ys first second = λ among. elim (Member-append_cases xs ys newline among) [ inl front ↦ first front | inr back ↦ second back ]
 ends_found (b ∷ bs) line front left free passes = elim (eqb_tells b newline) [
   | inl is ↦
       let tests = and_parts (is_lt (text_cmp line front)) (ends_well front [] bs left) (sym (ends_well-newline line front bs left) ∙ ap (λ k. ends_well line front (k ∷ bs) left) (sym is.1) ∙ passes) in
@@ -146,10 +145,7 @@ ends_found (b ∷ bs) line front left free passes = elim (eqb_tells b newline) [
 -- ---- and the front of lines in order passes it
 
 no_newline : (xs ys : List ℕ) (front : List ℕ) → IsFree newline front → front ≡ xs ++ newline ∷ ys → ⊥
-no_newline xs ys front free is = free (subst (Member newline) (sym is) (middle xs ys)) where
-  middle : (xs ys : List ℕ) → Member newline (xs ++ newline ∷ ys)
-  middle [] ys = inl refl
-  middle (x ∷ xs) ys = inr (middle xs ys)
+no_newline xs ys front free is = free (subst (Member newline) (sym is) (Member-append_right xs (newline ∷ ys) newline (inl refl)))
 
 pub ends_told : (t line front : List ℕ) (left : ℕ) (lines : Lines) (rest : List ℕ) → IsFree newline front → LinesAfter line lines → Each IsByte rest → length rest ≡ left → front ++ (t ++ rest) ≡ text_of lines
     → ends_well line front t left ≡ true

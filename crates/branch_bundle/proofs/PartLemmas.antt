@@ -1,5 +1,5 @@
 -- Taking the parts of a bundle's text apart.
-use Rattle.std.proofs.Common.{◌≡◌, inl, inr, ℕ, suc, ◌+◌, ◌<◌, ◌≤◌, ◌^◌, Bool, true, false, List, [], ◌∷◌, ◌++◌, length, take, drop, not, Option, Some, None, arith, refl, sym, ap, subst, ◌∙◌, length-append, take-append-drop, ◌↔◌, IsTrue, is_some}
+use Rattle.std.proofs.Common.{◌≡◌, inl, inr, ℕ, suc, ◌+◌, ◌<◌, ◌≤◌, ◌^◌, true, false, List, [], ◌∷◌, ◌++◌, length, take, drop, not, Option, Some, None, arith, refl, sym, ap, subst, ◌∙◌, length-append, take-append-drop}
 use Rattle.std.specs.Bool.{◌==◌}
 use Rattle.std.specs.Borrow.{Bor}
 use Rattle.std.specs.Option.{MatchOption}
@@ -15,6 +15,7 @@ use Rattle.annex_base.specs.Decimal.{number_of}
 use Rattle.annex_base.specs.Lists.{Member}
 use Rattle.annex_base.proofs.DecimalLemmas.{number_is, number_some}
 use Rattle.annex_base.specs.Lines.{newline, space}
+use Rattle.annex_base.proofs.Lists.{Member-append_right}
 use Rattle.union_merge.specs.LineSet.{IsLine}
 use Rattle.branch_bundle.specs.Bundle.{number_text}
 use Rattle.branch_bundle.specs.Parts.{IsFree, IsCut, file_of}
@@ -85,10 +86,6 @@ cut_is b y ys xs is = record {
 
 -- ---- the first file
 
-member_middle : (b : ℕ) (xs ys : List ℕ) → Member b (xs ++ b ∷ ys)
-member_middle b [] ys = inl refl
-member_middle b (x ∷ xs) ys = inr (member_middle b xs ys)
-
 after_word : (text rest path lines more : List ℕ) → text ≡ word ++ rest → text ≡ file_of path lines ++ more → rest ≡ number_text (length lines) ++ space ∷ (path ++ newline ∷ (lines ++ more))
 after_word text rest path lines more is file = word_same _ _ (sym is ∙ file ∙ file_of-append path lines more)
 
@@ -97,7 +94,7 @@ no_word text none path lines more line file = none _ (file ∙ file_of-append pa
 
 pub no_number : (text rest : List ℕ) → text ≡ word ++ rest → IsFree space rest → (path lines more : List ℕ) → IsLine path → text ≡ file_of path lines ++ more → ⊥
 no_number text rest is free path lines more line file =
-    free (subst (Member space) (sym (after_word text rest path lines more is file)) (member_middle space (number_text (length lines)) (path ++ newline ∷ (lines ++ more))))
+    free (subst (Member space) (sym (after_word text rest path lines more is file)) (Member-append_right (number_text (length lines)) (space ∷ (path ++ newline ∷ (lines ++ more))) space (inl refl)))
 
 -- the number and what follows it are those of the file
 number_parts : (text rest number after path lines more : List ℕ) → text ≡ word ++ rest → IsCut space rest number after → text ≡ file_of path lines ++ more
@@ -122,7 +119,7 @@ no_count text rest number after is cut none short path lines more line file =
 pub no_path : (text rest number after : List ℕ) → text ≡ word ++ rest → IsCut space rest number after → IsFree newline after
     → (path lines more : List ℕ) → IsLine path → text ≡ file_of path lines ++ more → ⊥
 no_path text rest number after is cut free path lines more line file =
-    free (subst (Member newline) (sym (number_parts text rest number after path lines more is cut file).1) (member_middle newline path (lines ++ more)))
+    free (subst (Member newline) (sym (number_parts text rest number after path lines more is cut file).1) (Member-append_right path (newline ∷ (lines ++ more)) newline (inl refl)))
 
 -- the count, the path and what follows it are those of the file
 pub path_parts : (text rest number after front back : List ℕ) (count : ℕ) → text ≡ word ++ rest → IsCut space rest number after → number_of number ≡ Some count → IsCut newline after front back
@@ -170,12 +167,4 @@ pub found_parts : (text rest number after front back lines more : List ℕ) (cou
 found_parts text rest number after front back lines more count is cut some second room other one two = (
   is_line front second.free other,
   file_found text rest number after front back count is cut some second room ∙ ap (λ (w : List ℕ). file_of front w ++ drop count back) (sym one) ∙ ap (λ (w : List ℕ). file_of front lines ++ w) (sym two),
-)
-
-pub line_test : (bytes : List ℕ) (b : Bool) (r : Option (Bor (List ℕ) × Bor (List ℕ))) → false ≡ (length bytes == 0) → MatchOption r (IsFree newline bytes) (λ p. IsCut newline bytes p.0.now p.1.now) → is_some r ≡ not b → IsTrue b ↔ IsLine bytes
-line_test bytes true None some free test = (λ _. is_line bytes free some, λ _. refl)
-line_test bytes false None some free test = absurd (true≢false (sym test))
-line_test bytes b (Some p) some cut test = (
-  λ holds. absurd (true≢false (test ∙ ap not holds)),
-  λ line. absurd (line.single (subst (Member newline) (sym cut.spelled) (member_middle newline p.0.now p.1.now))),
 )

@@ -2,7 +2,7 @@
 use Rattle.std.proofs.Common.{◌≡◌, inl, inr, ℕ, ◌<◌, ◌^◌, List, [], ◌∷◌, ◌++◌, length, arith, refl, sym, ap, ◌∙◌, append_assoc, codes}
 use Rattle.std.specs.Fmt.{decimal}
 use Rattle.std.proofs.lemmas.List.{append_cancel_left}
-use Rattle.annex_base.specs.Lists.{Member, Each}
+use Rattle.annex_base.specs.Lists.{Each}
 use Rattle.annex_base.specs.Lines.{newline, space}
 use Rattle.union_merge.specs.LineSet.{text_of}
 use Rattle.branch_bundle.specs.Bundle.{number_text, file_text}

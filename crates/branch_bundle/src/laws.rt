@@ -15,6 +15,6 @@ pub fn bundles_are_exact()
     ensures one_branch { (text : List ℕ) (xs ys : Files) → IsBundle text xs → IsBundle text ys → xs ≡ ys }
     ensures one_place { (text : List ℕ) (p q : ℕ) → Each IsByte text → IsFirstWrong text p → IsFirstWrong text q → p ≡ q }
 {
-    // The files of a bundle are told by the texts of their lines.
+    // For the proof: the lines of a file are told by their text.
     texts_of_sets_read_back();
 }

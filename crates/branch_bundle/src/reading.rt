@@ -50,7 +50,7 @@ fn read(alloc: Global, bytes: &[u8]) -> Result<Option<Branch>, NoMemory>
 fn read_files(alloc: Global, text: &[u8]) -> Result<Branch, NoMemory>
     ensures { (files : Files) → IsBranch files → text.now ≡ flat_map file_text files → IfOk result (λ b. b ≡ files) }
 {
-    // The lines of a file are those of its text.
+    // For the proof: the lines of a file are those of its text.
     texts_of_sets_read_back();
     let mut branch = Branch::new(alloc);
     let mut rest = text;

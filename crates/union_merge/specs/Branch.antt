@@ -1,6 +1,6 @@
 -- The files of a branch, as a map of their paths to the sets of their lines (git-annex internals: branch files). A branch
 -- stands as the list of its files in byte order of path.
-use Rattle.std.specs.Prelude.{ℕ, List, [], ◌∷◌, Option, Some, None}
+use Rattle.std.specs.Prelude.{◌≡◌, ℕ, List, [], ◌∷◌, Option, Some, None}
 use Rattle.std.specs.List.{fold}
 use Rattle.std.specs.List.Sorted.{IsStrictlySortedBy}
 use Rattle.std.specs.Map.{lookup, keys_of}
@@ -49,6 +49,10 @@ with_new_lines files path lines = with_some files path (difference lines (lines_
 -- path by path, those lines of the other branch's file are added that the file lacks
 abbrev pub merge_by_path : Files → Files → Files
 merge_by_path files others = fold (λ all f. with_new_lines all f.0 f.1) files others
+
+-- a branch has, path by path, the lines of two others
+abbrev pub HasLinesOfBoth : Files → Files → Files → Type 0
+HasLinesOfBoth files others both = (path : List ℕ) → lines_at both path ≡ union (lines_at files path) (lines_at others path)
 
 -- the files of both branches, a file of both with the lines of both
 abbrev pub merged_branch : Files → Files → Files

@@ -53,7 +53,7 @@ impl Branch {
         ensures ok { OnOk result (self.new ≡ merged_file self.old path.now lines.now) }
         ensures err { OnErr result (self.new ≡ self.old) }
     {
-        // Its lines are in order, which the branch keeps.
+        // For the proof: the lines are in order, which the branch keeps.
         let _ = lines.lines();
         if merge_into(&mut self.files, path, lines)? {
             return Ok(());
@@ -69,7 +69,7 @@ impl Branch {
         ensures ok { OnOk result (self.new ≡ with_file self.old path.now lines) }
         ensures err { OnErr result (self.new ≡ self.old) }
     {
-        // Its lines are in order, which the branch keeps.
+        // For the proof: the lines are in order, which the branch keeps.
         let _ = lines.lines();
         let copy = Vec::from_slice(self.alloc, path)?;
         put(&mut self.files, copy, lines)?;

@@ -4,7 +4,7 @@ ghost use Rattle.std.specs.Prelude.{◌≡◌, ◌≢◌, ◌⊎◌, ◌↔◌, 
 ghost use Rattle.std.specs.Map.{keys_of};
 ghost use Rattle.annex_base.specs.Lists.{Member, Each};
 ghost use Rattle.union_merge.specs.LineSet.{IsLineSet, union, difference, set_of, text_of};
-ghost use Rattle.union_merge.specs.Branch.{Files, IsBranch, lines_at, file_at, merged_branch, merge_by_path, merged_branches};
+ghost use Rattle.union_merge.specs.Branch.{Files, IsBranch, lines_at, file_at, merged_branch, merge_by_path, merged_branches, HasLinesOfBoth};
 
 /// The union of two sets of lines has exactly the lines of both, whichever comes first, in whatever groups, and however
 /// often (git-annex internals: branch files).
@@ -33,7 +33,7 @@ pub fn differences_make_the_union()
 /// each path the lines of both. Where no file of the other branch is empty, it is the merge of the two branches.
 pub fn merges_by_path_have_the_lines_of_both()
     ensures branch { (xs ys : Files) → IsBranch xs → IsBranch ys → IsBranch (merge_by_path xs ys) }
-    ensures lines { (xs ys : Files) (path : List ℕ) → IsBranch xs → IsBranch ys → lines_at (merge_by_path xs ys) path ≡ union (lines_at xs path) (lines_at ys path) }
+    ensures lines { (xs ys : Files) → IsBranch xs → IsBranch ys → HasLinesOfBoth xs ys (merge_by_path xs ys) }
     ensures whole { (xs ys : Files) → IsBranch xs → IsBranch ys → Each (λ f. f.1 ≢ []) ys → merge_by_path xs ys ≡ merged_branch xs ys }
 {}
 

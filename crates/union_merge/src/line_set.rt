@@ -106,6 +106,7 @@ impl LineSet {
         ensures value { IfOk result (λ s. s ≡ self.now) }
         ensures set { IsLineSet self.now }
     {
+        // For the proof: its lines are in order.
         let _ = &self.lines;
         Ok(self.clone()?)
     }
