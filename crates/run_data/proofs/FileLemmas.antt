@@ -1,5 +1,5 @@
 -- A file is read off its path, and stands there.
-use Rattle.std.proofs.Common.{◌≡◌, ◌≢◌, ◌↔◌, ℕ, Bool, true, false, cond, List, [], ◌∷◌, Option, Some, None, Result, Ok, Err, IfOk, refl, sym, ap, subst, ◌∙◌}
+use Rattle.std.proofs.Common.{◌≡◌, ◌≢◌, ◌↔◌, ℕ, Bool, true, false, cond, List, [], ◌∷◌, Option, Some, None, IfSome, Result, Ok, Err, IfOk, refl, sym, ap, subst, ◌∙◌}
 use Rattle.std.specs.Prelude.{if◌then◌else◌, bytes_eq, find}
 use Rattle.std.specs.List.{list_all}
 use Rattle.std.proofs.lemmas.Slice.Eq.{bytes_eq-Decides}
@@ -132,7 +132,7 @@ file_of-location names key is =
     let same : bytes_eq (location_path key) (location_path key) ≡ true = (bytes_eq-Decides (location_path key) (location_path key)).1 refl in
     ap (file_by (location_path key)) kind ∙ ap (location_of (location_path key)) found ∙ ap (λ (b : Bool). if b then Location key else Other (location_path key)) same
 
-named_kind : (kind : LogKind) → kind ≢ kinds.Location → kind_named (file_name kind) ≡ Some kind
+pub named_kind : (kind : LogKind) → kind ≢ kinds.Location → kind_named (file_name kind) ≡ Some kind
 named_kind kinds.Location other = absurd (other refl)
 named_kind kinds.Trust other = refl
 named_kind kinds.Uuid other = refl
@@ -142,6 +142,17 @@ named_kind kinds.Required other = refl
 named_kind kinds.GroupPreferred other = refl
 named_kind kinds.Numcopies other = refl
 named_kind kinds.Mincopies other = refl
+
+-- .. and is another than that of a location log
+pub named_kind_other : (name : List ℕ) (kind : LogKind) → kind_named name ≡ Some kind → kind ≢ kinds.Location
+named_kind_other name kind found is = none_isnt kind (sym (ap kind_named (sym (named_path name kind found) ∙ ap file_name is)) ∙ found)
+  where
+    none_isnt : (kind : LogKind) → None ≡ Some kind → ⊥
+    none_isnt kind h = cc
+
+pub named_found : (name : List ℕ) (o : Option LogKind) → o ≡ kind_named name → IfSome o (λ kind. (kind ≢ kinds.Location) × (file_name kind ≡ name))
+named_found name None is = tt
+named_found name (Some kind) is = (named_kind_other name kind (sym is), named_path name kind (sym is))
 
 -- no two kinds have one name
 pub one_kind : (j k : LogKind) → k ≢ kinds.Location → file_name j ≡ file_name k → j ≡ k

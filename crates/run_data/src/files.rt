@@ -1,7 +1,10 @@
 //! The log files of a branch: their paths and their kinds, and the file of a path.
-ghost use Rattle.std.specs.Prelude.{◌≡◌, ◌≤◌, length, IfOk};
+ghost use Rattle.std.specs.Prelude.{◌≡◌, ◌≢◌, ◌≤◌, length, Some, IfOk, IfSome};
 ghost use Rattle.std.specs.List.{after_first, position_or_len};
+ghost use Rattle.log_lines.specs.declared.entry.LogKind.{LogKind};
+ghost use Rattle.log_lines.specs.declared.entry.LogKind.TheVariants as kinds;
 ghost use Rattle.union_merge.specs.LineSet.{IsLine};
+ghost use Rattle.trust_groups.specs.Settings.{file_name};
 ghost use Rattle.run_data.specs.Files.{HasPath, file_of, file_path, is_slash, kind_named, kind_of, location_at, log_name};
 
 use crate::entry::LogFile;
@@ -59,13 +62,22 @@ impl LogFile {
     }
 }
 
-fn kind_named(path: &[u8]) -> Option<LogKind>
-    ensures { result ≡ kind_named path.now }
+/// The kind of log whose file has this name; a location log's has none (git-annex internals: branch files).
+pub fn kind_named(name: &[u8]) -> Option<LogKind>
+    ensures value { result ≡ kind_named name.now }
+    ensures found { IfSome result (λ kind. (kind ≢ kinds.Location) × (file_name kind ≡ name.now)) }
+    ensures only { (kind : LogKind) → kind ≢ kinds.Location → file_name kind ≡ name.now → result ≡ Some kind }
+{
+    find_named(name)
+}
+
+fn find_named(name: &[u8]) -> Option<LogKind>
+    ensures { result ≡ kind_named name.now }
 {
     NAMED_KINDS
         .iter()
         .copied()
-        .find(|kind| file_name(*kind) == path)
+        .find(|kind| file_name(*kind) == name)
 }
 
 /// The location log of the key whose file has this name, where the path is its; else the file of another name.

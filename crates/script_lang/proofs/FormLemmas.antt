@@ -2,7 +2,7 @@
 use Rattle.std.proofs.Common.{◌≡◌, ℕ, zero, suc, ◌+◌, ◌*◌, ◌≤◌, ◌^◌, Bool, false, cond, eqb, List, [], ◌∷◌, length, codes, refl, sym, ap, ◌∙◌, arith}
 use Rattle.std.proofs.lemmas.Bool.{eqb-false}
 use Rattle.std.proofs.lemmas.List.{length-append}
-use Rattle.run_data.specs.declared.entry.LogFile.TheVariants.{Location, Named}
+use Rattle.run_data.specs.declared.entry.LogFile.TheVariants.{Location, Of, Other}
 use Rattle.script_lang.specs.declared.command.Command.{Command}
 use Rattle.script_lang.specs.declared.command.Command.TheVariants.{Repo, Have, Numcopies, Mincopies, Trust, Describe, Group, Log, Run, Merge, Compact, Wait, ShowPresence, ShowClaims, ShowLocation, ShowLog, ShowLogs, ShowNumbers, ShowLevel}
 use Rattle.script_lang.specs.declared.verb.PairVerb.{PairVerb}
@@ -82,7 +82,8 @@ few_words repos closed words (Describe r t text) m = absurd m.0
 few_words repos closed words (Group r t groups) m = absurd m.0
 few_words repos closed words (Log r file line) m = absurd m.0
 few_words repos closed words (ShowLog r (Location key)) m = absurd m.1.1
-few_words repos closed words (ShowLog r (Named name)) m = few_same words _ m.0 (omega arith) (omega arith)
+few_words repos closed words (ShowLog r (Of kind)) m = few_same words _ m.0 (omega arith) (omega arith)
+few_words repos closed words (ShowLog r (Other name)) m = absurd m.1.1
 few_words repos closed words c m = few_same words _ m.0 (omega arith) (omega arith)
 
 -- ---- words that begin no form
@@ -111,7 +112,8 @@ module _ (repos : List Declared) (closed : Bool) where
   triple_none verb a b none (ShowLogs r) m = none triples.Show (ap (λ ws. word ws 0) m.0)
   triple_none verb a b none (ShowNumbers r) m = none triples.Show (ap (λ ws. word ws 0) m.0)
   triple_none verb a b none (ShowLog r (Location key)) m = m.1.1
-  triple_none verb a b none (ShowLog r (Named name)) m = let all = ap length m.0 in omega (arith, all)
+  triple_none verb a b none (ShowLog r (Of kind)) m = let all = ap length m.0 in omega (arith, all)
+  triple_none verb a b none (ShowLog r (Other name)) m = m.1.1
   triple_none verb a b none c m = let all = ap length m.0 in omega (arith, all)
 
   pub quadruple_none : (verb a b d : List ℕ) → ((v : QuadrupleVerb) → verb ≡ quadruple_word v → ⊥) → (c : Command) → Means repos closed (verb ∷ a ∷ b ∷ d ∷ []) c → ⊥
@@ -134,7 +136,8 @@ module _ (repos : List Declared) (closed : Bool) where
   triple_show_none what a none (ShowClaims r key) m = let all = ap length m.0 in omega (arith, all)
   triple_show_none what a none (ShowLocation r key) m = let all = ap length m.0 in omega (arith, all)
   triple_show_none what a none (ShowLog r (Location key)) m = m.1.1
-  triple_show_none what a none (ShowLog r (Named name)) m = let all = ap length m.0 in omega (arith, all)
+  triple_show_none what a none (ShowLog r (Of kind)) m = let all = ap length m.0 in omega (arith, all)
+  triple_show_none what a none (ShowLog r (Other name)) m = m.1.1
   triple_show_none what a none (ShowLevel r t) m = let all = ap length m.0 in omega (arith, all)
   triple_show_none what a none c m = apart_first repos (codes "show" ∷ what ∷ a ∷ []) c m.0 refl
 

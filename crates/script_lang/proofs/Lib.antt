@@ -1,5 +1,6 @@
 pub mod WordLemmas
 pub mod FrontLemmas
+mod KindLemmas
 pub mod FormLemmas
 pub mod RestLemmas
 pub mod CutLemmas

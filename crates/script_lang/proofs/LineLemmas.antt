@@ -4,7 +4,7 @@ use Rattle.std.proofs.lemmas.Bool.{eqb-false}
 use Rattle.std.proofs.lemmas.List.{append-nil, length-append}
 use Rattle.annex_base.specs.RepoText.{repo_text}
 use Rattle.annex_base.specs.declared.memory.NoMemory.{NoMemory}
-use Rattle.run_data.specs.declared.entry.LogFile.TheVariants.{Location, Named}
+use Rattle.run_data.specs.declared.entry.LogFile.TheVariants.{Location, Of, Other}
 use Rattle.script_lang.specs.declared.command.Command.{Command}
 use Rattle.script_lang.specs.declared.command.Command.TheVariants.{Repo, Describe, Group, Log, Compact, Wait}
 use Rattle.script_lang.specs.declared.verb.RestVerb.{RestVerb}
@@ -87,7 +87,8 @@ three_words : (repos : List Declared) (v : RestVerb) (words : List (List ℕ)) (
 three_words repos v words after (Compact r) g = absurd (compact_rest v (ap first_mark g.words_are))
 three_words repos v words after (Wait n) g = absurd (wait_rest v (ap first_mark g.words_are))
 three_words repos v words after (Log r (Location key) line) g = omega arith
-three_words repos v words after (Log r (Named file) line) g = omega arith
+three_words repos v words after (Log r (Of kind) line) g = omega arith
+three_words repos v words after (Log r (Other file) line) g = omega arith
 three_words repos v words after c g = omega arith
 
 module _ (repos : List Declared) (closed : Bool) (v : RestVerb) (words : List (List ℕ)) (line : List ℕ) where

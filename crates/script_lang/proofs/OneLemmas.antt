@@ -1,5 +1,5 @@
 -- A line says at most one command, and lines at most one list of commands.
-use Rattle.std.proofs.Common.{◌≡◌, inl, inr, ℕ, ◌+◌, ◌<◌, ◌≤◌, ◌^◌, Bool, true, false, eqb, List, [], ◌∷◌, ◌++◌, length, codes, Option, Some, None, refl, sym, ap, subst, ◌∙◌, append_assoc, arith}
+use Rattle.std.proofs.Common.{◌≡◌, ◌≢◌, inl, inr, ℕ, ◌+◌, ◌<◌, ◌≤◌, ◌^◌, Bool, true, false, eqb, List, [], ◌∷◌, ◌++◌, length, codes, Option, Some, None, refl, sym, ap, subst, ◌∙◌, append_assoc, arith}
 use Rattle.std.specs.Fmt.{decimal}
 use Rattle.std.specs.Str.{bytes_eq}
 use Rattle.std.specs.List.{list_any}
@@ -11,20 +11,24 @@ use Rattle.annex_base.specs.declared.kinds.Level.TheVariants as levels
 use Rattle.annex_base.proofs.RepoLemmas.{one_id, parsed-repo_text}
 use Rattle.annex_base.proofs.DecimalLemmas.{number_is}
 use Rattle.annex_base.specs.Decimal.{number_of}
+use Rattle.log_lines.specs.declared.entry.LogKind.{LogKind}
+use Rattle.log_lines.specs.declared.entry.LogKind.TheVariants as kinds
+use Rattle.trust_groups.specs.Settings.{file_name}
 use Rattle.run_data.specs.declared.entry.LogFile.{LogFile}
-use Rattle.run_data.specs.declared.entry.LogFile.TheVariants.{Location, Named}
+use Rattle.run_data.specs.declared.entry.LogFile.TheVariants.{Location, Of, Other}
 use Rattle.run_data.specs.declared.job.Job.{Job}
 use Rattle.run_data.specs.declared.job.JobKind.{JobKind}
 use Rattle.script_lang.specs.declared.command.Command.{Command}
 use Rattle.script_lang.specs.declared.command.Command.TheVariants.{Repo, Have, Numcopies, Mincopies, Trust, Describe, Group, Log, Run, Merge, Compact, Wait, ShowPresence, ShowClaims, ShowLocation, ShowLog, ShowLogs, ShowNumbers, ShowLevel}
 use Rattle.script_lang.specs.Words.{space, quote, IsPlain, Spells, Begins, SpellsFront}
 use Rattle.script_lang.specs.Words.Begins.{AfterSpace, WithPlain, WithQuoted}
-use Rattle.script_lang.specs.Lines.{Declared, declared_by, declared, name_of, level_word, words_of, is_log_name, IsOffset, SpellsLine, IsLocalDrop, MayStand}
+use Rattle.script_lang.specs.Lines.{Declared, declared_by, declared, name_of, level_word, words_of, is_written, IsOffset, SpellsLine, IsLocalDrop, MayStand}
 use Rattle.script_lang.specs.Script.{IsSkipped, is_closed, Says, Reads}
 use Rattle.script_lang.specs.Script.Reads.{End, Skip, Line}
 use Rattle.script_lang.specs.Reading.{first_at}
 use Rattle.script_lang.proofs.WordLemmas.{first_found, spells_one}
 use Rattle.script_lang.proofs.FrontLemmas.{front_one, front_two, SameFront}
+use Rattle.script_lang.proofs.KindLemmas.{not_location, one_kind}
 use Rattle.script_lang.proofs.FormLemmas.{word, number_of_word, mark}
 use Rattle.script_lang.proofs.FieldLemmas.{none_named, name_at}
 use Rattle.script_lang.proofs.ReadLemmas.{declared_one, First, first_of, none_of}
@@ -154,12 +158,15 @@ module _ (repos : List Declared) (line : List ℕ) (c d : Command) (s : SpellsLi
   same_front : length (words_of repos c) ≡ length (words_of repos d) → SameFront (words_of repos c) (words_of repos d) s.rest t.rest
   same_front e = front_one line (words_of repos c) (words_of repos d) s.rest t.rest s.words t.words e
 
-location_named : (repos : List Declared) (line key name text other : List ℕ) (r q : ℕ) → SpellsLine repos line (Log r (Location key) text) → SpellsLine repos line (Log q (Named name) other) → is_log_name name ≡ true → ⊥
-location_named repos line key name text other r q s t known =
+location_named : (repos : List Declared) (line key text other : List ℕ) (kind : LogKind) (r q : ℕ) → SpellsLine repos line (Log r (Location key) text) → SpellsLine repos line (Log q (Of kind) other) → ⊥
+location_named repos line key text other kind r q s t =
     let f = s.words in
     let front : SpellsFront line (codes "log" ∷ name_of repos r ∷ codes "location" ∷ []) f.2.2.0 = (f.0, f.1, (f.2.0, f.2.1, (f.2.2.0, f.2.2.1, refl))) in
-    let same = front_one line (codes "log" ∷ name_of repos r ∷ codes "location" ∷ []) (codes "log" ∷ name_of repos q ∷ name ∷ []) f.2.2.0 t.rest front t.words refl in
-    true≢false (sym known ∙ ap is_log_name (sym (ap (λ ws. word ws 2) same.same_words)))
+    let same = front_one line (codes "log" ∷ name_of repos r ∷ codes "location" ∷ []) (codes "log" ∷ name_of repos q ∷ file_name kind ∷ []) f.2.2.0 t.rest front t.words refl in
+    not_location kind (sym (ap (λ ws. word ws 2) same.same_words))
+
+written_other : (kind : LogKind) → is_written kind ≡ true → kind ≢ kinds.Location
+written_other kind written is = true≢false (sym written ∙ ap is_written is)
 
 module _ (repos : List Declared) (closed : Bool) (distinct : AreDistinct repos) (line : List ℕ) where
   -- what else the line says is the same
@@ -229,13 +236,16 @@ module _ (repos : List Declared) (closed : Bool) (distinct : AreDistinct repos) 
       let number : r ≡ q = distinct.same r q m.0 k.0 (ap (λ ws. word ws 1) f.same_words) in
       let texts : text ≡ u = tail_is text u (sym s.follows ∙ f.same_rest ∙ t.follows) in
       ap (λ x. Log x (Location key) text) number ∙ ap (λ x. Log q (Location x) text) (ap (λ ws. word ws 3) f.same_words) ∙ ap (λ x. Log q (Location other) x) texts
-  same_log r (Named name) text (Log q (Named other) u) s t m k =
-      let f = same_front repos line (Log r (Named name) text) (Log q (Named other) u) s t refl in
+  same_log r (Of kind) text (Log q (Of other) u) s t m k =
+      let f = same_front repos line (Log r (Of kind) text) (Log q (Of other) u) s t refl in
+      let one : kind ≡ other = one_kind kind other (written_other kind m.1) (written_other other k.1) (ap (λ ws. word ws 2) f.same_words) in
       let number : r ≡ q = distinct.same r q m.0 k.0 (ap (λ ws. word ws 1) f.same_words) in
       let texts : text ≡ u = tail_is text u (sym s.follows ∙ f.same_rest ∙ t.follows) in
-      ap (λ x. Log x (Named name) text) number ∙ ap (λ x. Log q (Named x) text) (ap (λ ws. word ws 2) f.same_words) ∙ ap (λ x. Log q (Named other) x) texts
-  same_log r (Location key) text (Log q (Named other) u) s t m k = absurd (location_named repos line key other text u r q s t k.1)
-  same_log r (Named name) text (Log q (Location other) u) s t m k = absurd (location_named repos line other name u text q r t s m.1)
+      ap (λ x. Log x (Of kind) text) number ∙ ap (λ x. Log q (Of x) text) one ∙ ap (λ x. Log q (Of other) x) texts
+  same_log r (Location key) text (Log q (Of kind) u) s t m k = absurd (location_named repos line key text u kind r q s t)
+  same_log r (Of kind) text (Log q (Location key) u) s t m k = absurd (location_named repos line key u text kind q r t s)
+  same_log r (Other name) text d s t m k = absurd m.1
+  same_log r file text (Log q (Other name) u) s t m k = absurd k.1
   same_log r file text d s t m k = absurd (apart_lines repos line (Log r file text) d s t refl)
 
   same_run : (r : ℕ) (job : Job) → IsOne (Run r job)
@@ -279,13 +289,15 @@ module _ (repos : List Declared) (closed : Bool) (distinct : AreDistinct repos) 
   same_location r key d s t m k = absurd (apart_lines repos line (ShowLocation r key) d s t refl)
 
   same_show_log : (r : ℕ) (file : LogFile) → IsOne (ShowLog r file)
-  same_show_log r (Named name) (ShowLog q (Named other)) s t m k =
-      let f = same_front repos line (ShowLog r (Named name)) (ShowLog q (Named other)) s t refl in
+  same_show_log r (Of kind) (ShowLog q (Of other)) s t m k =
+      let f = same_front repos line (ShowLog r (Of kind)) (ShowLog q (Of other)) s t refl in
       let number : r ≡ q = distinct.same r q m.0 k.0 (ap (λ ws. word ws 2) f.same_words) in
-      ap (λ x. ShowLog x (Named name)) number ∙ ap (λ x. ShowLog q (Named x)) (ap (λ ws. word ws 3) f.same_words)
+      ap (λ x. ShowLog x (Of kind)) number ∙ ap (λ x. ShowLog q (Of x)) (one_kind kind other m.1 k.1 (ap (λ ws. word ws 3) f.same_words))
   same_show_log r (Location key) d s t m k = absurd m.1
-  same_show_log r (Named name) (ShowLog q (Location other)) s t m k = absurd k.1
-  same_show_log r (Named name) d s t m k = absurd (apart_lines repos line (ShowLog r (Named name)) d s t refl)
+  same_show_log r (Other name) d s t m k = absurd m.1
+  same_show_log r (Of kind) (ShowLog q (Location other)) s t m k = absurd k.1
+  same_show_log r (Of kind) (ShowLog q (Other other)) s t m k = absurd k.1
+  same_show_log r (Of kind) d s t m k = absurd (apart_lines repos line (ShowLog r (Of kind)) d s t refl)
 
   same_logs : (r : ℕ) → IsOne (ShowLogs r)
   same_logs r (ShowLogs q) s t m k = ap (λ x. ShowLogs x) (distinct.same r q m k (ap (λ ws. word ws 2) (same_front repos line (ShowLogs r) (ShowLogs q) s t refl).same_words))

@@ -4,15 +4,17 @@ use Rattle.std.specs.List.{list_all}
 use Rattle.std.proofs.lemmas.Bool.{eqb-false, true≢false}
 use Rattle.std.proofs.lemmas.List.Folds.{list_all-map}
 use Rattle.log_lines.specs.LineText.{is_group}
-use Rattle.run_data.specs.declared.entry.LogFile.{LogFile}
-use Rattle.run_data.specs.declared.entry.LogFile.TheVariants.{Location, Named}
+use Rattle.log_lines.specs.declared.entry.LogKind.{LogKind}
+use Rattle.trust_groups.specs.Settings.{file_name}
+use Rattle.run_data.specs.declared.entry.LogFile.TheVariants.{Location, Of, Other}
 use Rattle.script_lang.specs.declared.command.Command.{Command}
 use Rattle.script_lang.specs.declared.command.Command.TheVariants.{Describe, Group, Log}
 use Rattle.script_lang.specs.Words.{space, Spells, SpellsFront}
-use Rattle.script_lang.specs.Lines.{Declared, words_of, IsPlainKey, IsNamedFile, is_log_name}
+use Rattle.script_lang.specs.Lines.{Declared, words_of, IsPlainKey, is_written}
 use Rattle.script_lang.specs.Reading.{first_at, IsNamed, AreNamed, GoesOn, Opens}
 use Rattle.script_lang.proofs.WordLemmas.{first_found, found_first, spells_one}
 use Rattle.script_lang.proofs.FormLemmas.{word, mark}
+use Rattle.script_lang.proofs.KindLemmas.{not_location}
 
 pair_is : (a c : List ℕ × List ℕ) → Some a ≡ Some c → a ≡ c
 pair_is a c e = cc
@@ -96,8 +98,8 @@ module _ (repos : List Declared) (closed : Bool) where
         raw = f.2 ∙ o.0.follows;
         some = o.1.2;
       }
-  location_is name after (Log r (Named file) line) o =
-      absurd (true≢false (sym o.1.1 ∙ ap is_log_name (let e : file ≡ codes "location" = ap (λ ws. word ws 2) o.0.words_are in e)))
+  location_is name after (Log r (Of kind) line) o = absurd (not_location kind (ap (λ ws. word ws 2) o.0.words_are))
+  location_is name after (Log r (Other file) line) o = absurd o.1.1
   location_is name after c o = absurd (on_mark repos (codes "log") name (codes "location" ∷ []) after c o.0 refl)
 
   pub location_on : (name after : List ℕ) (r : ℕ) (key line rest : List ℕ) → IsNamed repos name r → first_at after ≡ Some (key, rest) → IsPlainKey key → rest ≡ space ∷ line → line ≢ []
@@ -118,26 +120,31 @@ module _ (repos : List Declared) (closed : Bool) where
   pub record IsNamedLog (name file after : List ℕ) : Type 0 where
     pub r : ℕ
     pub line : List ℕ
+    pub kind : LogKind
     pub named : IsNamed repos name r
-    pub known : is_log_name file ≡ true
+    pub known : is_written kind ≡ true
+    pub file_is : file_name kind ≡ file
     pub raw : after ≡ space ∷ line
     pub some : line ≢ []
 
   pub named_log_is : (name file after : List ℕ) → file ≢ codes "location" → (c : Command) → Opens repos closed (codes "log" ∷ name ∷ file ∷ []) after c → IsNamedLog name file after
   named_log_is name file after other (Log r (Location key) line) o = absurd (other (sym (ap (λ ws. word ws 2) o.0.words_are)))
-  named_log_is name file after other (Log r (Named f) line) o = record {
+  named_log_is name file after other (Log r (Of kind) line) o = record {
     r = r;
     line = line;
+    kind = kind;
     named = (o.1.0, ap (λ ws. word ws 1) o.0.words_are);
-    known = ap is_log_name (sym (ap (λ ws. word ws 2) o.0.words_are)) ∙ o.1.1;
+    known = o.1.1;
+    file_is = ap (λ ws. word ws 2) o.0.words_are;
     raw = stays after o.0.more o.0.rest (sym (ap after_three o.0.words_are)) o.0.front ∙ o.0.follows;
     some = o.1.2;
   }
+  named_log_is name file after other (Log r (Other f) line) o = absurd o.1.1
   named_log_is name file after other c o = absurd (on_mark repos (codes "log") name (file ∷ []) after c o.0 refl)
 
-  pub log_unknown : (name file after : List ℕ) → file ≢ codes "location" → ((f : LogFile) → (f ≡ Named file) × IsNamedFile f → ⊥)
+  pub log_unknown : (name file after : List ℕ) → file ≢ codes "location" → ((k : LogKind) → (is_written k ≡ true) × (file_name k ≡ file) → ⊥)
       → (c : Command) → Opens repos closed (codes "log" ∷ name ∷ file ∷ []) after c → ⊥
-  log_unknown name file after other none c o = none (Named file) (refl, (named_log_is name file after other c o).known)
+  log_unknown name file after other none c o = let i = named_log_is name file after other c o in none i.kind (i.known, i.file_is)
 
   pub log_without_line : (name file after : List ℕ) → file ≢ codes "location" → ((t : List ℕ) → (after ≡ space ∷ t) × (t ≢ []) → ⊥)
       → (c : Command) → Opens repos closed (codes "log" ∷ name ∷ file ∷ []) after c → ⊥

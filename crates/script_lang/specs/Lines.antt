@@ -8,9 +8,12 @@ use Rattle.annex_base.specs.declared.kinds.Level.TheVariants as levels
 use Rattle.annex_key.specs.KeyText.{IsKeyText, is_digest_backend}
 use Rattle.annex_key.specs.View.{backend_part, size_part}
 use Rattle.log_lines.specs.LineText.{is_group}
+use Rattle.log_lines.specs.declared.entry.LogKind.{LogKind}
+use Rattle.log_lines.specs.declared.entry.LogKind.TheVariants as kinds
+use Rattle.trust_groups.specs.Settings.{file_name}
 use Rattle.run_data.specs.Repos.{fits_size}
 use Rattle.run_data.specs.declared.entry.LogFile.{LogFile}
-use Rattle.run_data.specs.declared.entry.LogFile.TheVariants.{Location, Named}
+use Rattle.run_data.specs.declared.entry.LogFile.TheVariants.{Location, Of, Other}
 use Rattle.run_data.specs.declared.job.Job.{Job}
 use Rattle.run_data.specs.declared.job.JobKind.TheVariants.{Drop}
 use Rattle.script_lang.specs.declared.command.Command.{Command}
@@ -53,7 +56,8 @@ level_word levels.Dead = codes "dead"
 -- how a line names a log file
 abbrev pub file_words : LogFile → List (List ℕ)
 file_words (Location key) = codes "location" ∷ key ∷ []
-file_words (Named name) = name ∷ []
+file_words (Of kind) = file_name kind ∷ []
+file_words (Other name) = name ∷ []
 
 -- the words with which a line says the command, up to options, groups or a raw text
 abbrev pub words_of : List Declared → Command → List (List ℕ)
@@ -143,22 +147,29 @@ pub record IsPlainKey (key : List ℕ) : Type 0 where
 abbrev pub is_content : List ℕ → List ℕ → Bool
 is_content key content = fits_size (size_part key) (length content)
 
--- the log files that are named, but for those of expressions (git-annex internals)
-abbrev pub log_names : List (List ℕ)
-log_names = codes "trust.log" ∷ codes "uuid.log" ∷ codes "group.log" ∷ codes "numcopies.log" ∷ codes "mincopies.log" ∷ []
-
-abbrev pub is_log_name : List ℕ → Bool
-is_log_name name = list_any (λ n. bytes_eq n name) log_names
+-- the kinds of log with a file of their own to which a line may add, all but those of expressions (git-annex internals)
+abbrev pub is_written : LogKind → Bool
+is_written kinds.Location = false
+is_written kinds.Trust = true
+is_written kinds.Uuid = true
+is_written kinds.Group = true
+is_written kinds.Preferred = false
+is_written kinds.Required = false
+is_written kinds.GroupPreferred = false
+is_written kinds.Numcopies = true
+is_written kinds.Mincopies = true
 
 -- the location log of a key, or a log file with a name
 abbrev pub IsLogFile : LogFile → Type 0
 IsLogFile (Location key) = IsPlainKey key
-IsLogFile (Named name) = is_log_name name ≡ true
+IsLogFile (Of kind) = is_written kind ≡ true
+IsLogFile (Other name) = ⊥
 
--- a log file with a name
+-- a log file with a name, also one of expressions
 abbrev pub IsNamedFile : LogFile → Type 0
 IsNamedFile (Location key) = ⊥
-IsNamedFile (Named name) = is_log_name name ≡ true
+IsNamedFile (Of kind) = kind ≢ kinds.Location
+IsNamedFile (Other name) = ⊥
 
 -- a repository of a new name and a new identifier
 pub record MayDeclare (repos : List Declared) (name id : List ℕ) : Type 0 where

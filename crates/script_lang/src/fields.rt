@@ -1,13 +1,16 @@
-ghost use Rattle.std.specs.Prelude.{◌≡◌, ◌<◌, ◌≤◌, ◌^◌, ◌++◌, ◌↔◌, IsTrue, codes};
+//! What single words of a line say.
+ghost use Rattle.std.specs.Prelude.{◌≡◌, ◌<◌, ◌≤◌, ◌^◌, ◌++◌, ◌↔◌, IsTrue, true, codes};
 ghost use Rattle.std.specs.Fmt.{decimal};
 ghost use Rattle.std.specs.Str.{bytes_eq};
 ghost use Rattle.std.specs.List.{list_all};
-ghost use Rattle.script_lang.specs.Lines.{IsPlainKey, IsNamedFile, is_content, is_name, is_name_byte, is_log_name, level_word};
+ghost use Rattle.trust_groups.specs.Settings.{file_name};
+ghost use Rattle.script_lang.specs.Lines.{IsPlainKey, is_content, is_name, is_name_byte, is_written, level_word};
 ghost use Rattle.script_lang.specs.Reading.{Found, Finds};
 
-use annex_base::{Level, NoMemory, Text, parse_decimal};
+use annex_base::{Level, NoMemory, parse_decimal};
 use annex_key::{Key, KeyFault};
-use run_data::LogFile;
+use log_lines::LogKind;
+use run_data::kind_named;
 use std::alloc::Global;
 
 const GREATEST_NUMBER: u64 = 999_999_999;
@@ -136,25 +139,29 @@ pub fn read_level(word: &[u8]) -> Option<Level>
     None
 }
 
-/// Whether the word is the name of a log file that a line may name.
-fn is_log_file_name(word: &[u8]) -> bool
-    ensures { result ≡ is_log_name word.now }
+/// Whether a line may add to the log file of this kind.
+fn is_written_kind(kind: LogKind) -> bool
+    ensures { result ≡ is_written kind }
 {
-    is_word(word, b"trust.log")
-        || is_word(word, b"uuid.log")
-        || is_word(word, b"group.log")
-        || is_word(word, b"numcopies.log")
-        || is_word(word, b"mincopies.log")
+    match kind {
+        LogKind::Trust | LogKind::Uuid | LogKind::Group | LogKind::Numcopies | LogKind::Mincopies =>
+            true,
+        LogKind::Location | LogKind::Preferred | LogKind::Required | LogKind::GroupPreferred =>
+            false,
+    }
 }
 
-/// The log file that the word names.
-pub fn read_log_file(alloc: Global, word: &[u8]) -> Result<Option<LogFile>, NoMemory>
-    ensures { Finds (λ f. f) (λ f. (f ≡ LogFile.Named word.now) × IsNamedFile f) result }
+/// The kind of log that the word names, if a line may add to its file.
+pub fn read_written_kind(word: &[u8]) -> Option<LogKind>
+    ensures { Found (λ k. k) (λ k. (is_written k ≡ true) × (file_name k ≡ word.now)) result }
 {
-    if is_log_file_name(word) {
-        Ok(Some(LogFile::Named(Text::new(alloc, word)?)))
+    let Some(kind) = kind_named(word) else {
+        return None;
+    };
+    if is_written_kind(kind) {
+        Some(kind)
     } else {
-        Ok(None)
+        None
     }
 }
 

@@ -5,7 +5,7 @@ ghost use Rattle.script_lang.specs.Words.{space};
 ghost use Rattle.script_lang.specs.Reading.{Found, Finds, Opens};
 
 use crate::command::Command;
-use crate::fields::{is_word, read_key, read_log_file};
+use crate::fields::{is_word, read_key, read_written_kind};
 use crate::repository::{Repository, find_repository};
 use crate::words::{first_word, raw_text};
 use annex_base::{Line, NoMemory};
@@ -69,13 +69,17 @@ fn read_named_log(
     let Some(repo) = find_repository(repos, name) else {
         return Ok(None);
     };
-    let Some(file) = read_log_file(alloc, file)? else {
+    let Some(kind) = read_written_kind(file) else {
         return Ok(None);
     };
     let Some(line) = read_line_text(alloc, after)? else {
         return Ok(None);
     };
-    Ok(Some(Command::Log { repo, file, line }))
+    Ok(Some(Command::Log {
+        repo,
+        file: LogFile::Of(kind),
+        line,
+    }))
 }
 
 /// `log REPO location KEY REST` or `log REPO FILE REST`, up to the third word and after it.

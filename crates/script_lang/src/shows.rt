@@ -5,10 +5,11 @@ ghost use Rattle.script_lang.specs.Lines.{Declared};
 ghost use Rattle.script_lang.specs.Reading.{Found, Finds, Means};
 
 use crate::command::Command;
-use crate::fields::{read_key, read_log_file};
+use crate::fields::read_key;
 use crate::repository::{Repository, find_repository, find_two};
 use crate::verb::{QuadrupleShow, TripleShow, quadruple_show_of, triple_show_of};
 use annex_base::NoMemory;
+use run_data::{LogFile, kind_named};
 use std::alloc::Global;
 
 /// `show presence KEY`
@@ -81,23 +82,19 @@ fn read_show_location(
     Ok(Some(Command::ShowLocation { repo, key }))
 }
 
-/// `show log REPO FILE`
-fn read_show_log(
-    alloc: Global,
-    repos: &[Repository],
-    name: &[u8],
-    file: &[u8],
-) -> Result<Option<Command>, NoMemory>
+/// `show log REPO FILE`, FILE the name of any log file
+fn read_show_log(repos: &[Repository], name: &[u8], file: &[u8]) -> Option<Command>
     requires { length repos.now ≤ 8 }
-    ensures { (closed : Bool) → Finds (λ c. c) (Means repos.now closed (codes "show" ∷ codes "log" ∷ name.now ∷ file.now ∷ [])) result }
+    ensures { (closed : Bool) → Found (λ c. c) (Means repos.now closed (codes "show" ∷ codes "log" ∷ name.now ∷ file.now ∷ [])) result }
 {
     let Some(repo) = find_repository(repos, name) else {
-        return Ok(None);
+        return None;
     };
-    let Some(file) = read_log_file(alloc, file)? else {
-        return Ok(None);
+    let Some(kind) = kind_named(file) else {
+        return None;
     };
-    Ok(Some(Command::ShowLog { repo, file }))
+    let file = LogFile::Of(kind);
+    Some(Command::ShowLog { repo, file })
 }
 
 /// `show level REPO TARGET`
@@ -148,7 +145,7 @@ pub fn read_quadruple_show(
     match what {
         QuadrupleShow::Claims => read_show_claims(alloc, repos, name, word),
         QuadrupleShow::Location => read_show_location(alloc, repos, name, word),
-        QuadrupleShow::Log => read_show_log(alloc, repos, name, word),
+        QuadrupleShow::Log => Ok(read_show_log(repos, name, word)),
         QuadrupleShow::Level => Ok(read_show_level(repos, name, word)),
     }
 }

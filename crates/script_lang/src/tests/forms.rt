@@ -5,6 +5,7 @@ use crate::{Command, Script};
 use annex_base::{Level, put_number};
 use run_data::LogFile;
 use std::test::Fail;
+use trust_groups::file_name;
 
 fn put_word(out: &mut Vec<u8>, word: &[u8]) -> Result<(), Fail> {
     out.push(b'|')?;
@@ -31,7 +32,8 @@ fn put_file(out: &mut Vec<u8>, file: &LogFile) -> Result<(), Fail> {
             put_word(out, b"location")?;
             put_word(out, key.text())
         }
-        LogFile::Named(name) => put_word(out, name.bytes()),
+        LogFile::Of(kind) => put_word(out, file_name(*kind)),
+        LogFile::Other(name) => put_word(out, name.bytes()),
     }
 }
 
@@ -210,7 +212,7 @@ fn each_form_is_its_command(rt: HostRuntime) -> Result<(), Fail> {
         let script = Script::parse(rt.alloc(), &text)?;
         let mut shown = Vec::new(rt.alloc());
         if let Some(last) = script.lines().last() {
-            put_command(&mut shown, &last.copy()?)?;
+            put_command(&mut shown, &last.clone()?)?;
         }
         assert_eq!(rt; shown.as_slice(), want);
     }
