@@ -29,7 +29,7 @@ use Rattle.run_model.specs.Frames.{Way, down_of, way_of}
 use Rattle.node_model.specs.Look.{Look, Made, entry_of}
 use Rattle.node_model.specs.Step.{step}
 use Rattle.node_model.specs.Found.{BySession, GivesAt, InTime, TakesAt, agrees}
-use Rattle.run_model.specs.Answers.{MayBar, MayRemove, MayObey, MayShare, OwnFree, SaysYes}
+use Rattle.race_core.proofs.ServerAnswers.{MayBar, MayRemove, MayObey, MayShare, OwnFree, SaysYes}
 use Rattle.race_core.proofs.Plain.{and_true, eqb_true}
 use Rattle.race_core.proofs.Cases.{find_was}
 use Rattle.race_core.proofs.StepFacts.{bar_found, removes_found, check_found, obeyed_found, own_share_found, share_found}

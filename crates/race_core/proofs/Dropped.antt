@@ -17,7 +17,7 @@ use Rattle.run_model.specs.Drops.{Vouch, done, evidence, key_of, reply, vouches}
 use Rattle.run_model.specs.Safety.{Removal, local_removal, past_at, removal, remote_removal}
 use Rattle.run_model.specs.Run.{IsRun}
 use Rattle.race_core.specs.Lawful.{Lawful, LawfulPast}
-use Rattle.race_core.specs.Own.{Meets, MessagePast, OneClock}
+use Rattle.race_core.proofs.Own.{Meets, MessagePast, OneClock}
 use Rattle.race_core.specs.Places.{removal_at}
 use Rattle.race_core.specs.Readings.{Judge, judge_at, judge_by}
 use Rattle.race_core.proofs.Changes.{Obeys, Removes, order_is, removal_was, repo_of}

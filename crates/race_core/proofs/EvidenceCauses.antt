@@ -40,9 +40,9 @@ use Rattle.race_core.proofs.Refusals.{side_in, side_is, target_in, target_is}
 use Rattle.race_core.proofs.Standing.{stands}
 use Rattle.race_core.proofs.StillKnown.{KnewAt, knew}
 use Rattle.race_core.proofs.RefusalCauses.{DropSettled, Ending, drop_settled, ending, ending_words, job_of}
-use Rattle.race_core.specs.Own.{MessagePast}
-use Rattle.race_core.specs.Heard as heards
-use Rattle.race_core.specs.Heard.{known_evidence, still_waits}
+use Rattle.race_core.proofs.Own.{MessagePast}
+use Rattle.race_core.proofs.Heard as heards
+use Rattle.race_core.proofs.Heard.{known_evidence, still_waits}
 use Rattle.race_core.proofs.Known.{asked_known, evidence_known, gather_same}
 use Rattle.race_core.proofs.KnownAgrees.{known_agrees, knows_same}
 use Rattle.race_core.proofs.DropOwn.{list_agrees}

@@ -20,8 +20,8 @@ use Rattle.node_model.specs.Rows.{is_lost_ordered}
 use Rattle.run_model.specs.Drops.{Vouch, Lock, Look, asked, done, done_kind, evidence, key_of, reply, standing}
 use Rattle.node_model.specs.Evidence.{Gives, candidates}
 use Rattle.race_core.specs.Lawful.{IsFresh}
-use Rattle.race_core.specs.Heard.{heard_key}
-use Rattle.race_core.specs.Own.{HeardOf, MessagePast}
+use Rattle.race_core.proofs.Heard.{heard_key}
+use Rattle.race_core.proofs.Own.{HeardOf, MessagePast}
 use Rattle.race_core.proofs.Lists.{and_true, eqb_refl, eqb_true, neither, Each-any, Each-both, Each-weaker}
 use Rattle.race_core.proofs.Changes.{BarOf, PutsBar, bar_was, decided_keeps, decided_new}
 use Rattle.race_core.proofs.Gather.{evidence_each, offer_end}

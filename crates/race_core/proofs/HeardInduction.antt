@@ -18,7 +18,7 @@ use Rattle.node_model.specs.Slots.{Running}
 use Rattle.run_model.specs.Past.{begun, is_of}
 use Rattle.run_model.specs.Logs.{is_step}
 use Rattle.node_model.specs.Evidence.{Standing, Claimed, Ignored, Asked}
-use Rattle.race_core.specs.Heard.{Heard, Locked_at, Seen_there, heard, heard_kind, hears, newer_heard}
+use Rattle.race_core.proofs.Heard.{Heard, Locked_at, Seen_there, heard, heard_kind, hears, newer_heard}
 use Rattle.race_core.proofs.KnownAgrees.{heard_as}
 use Rattle.race_core.proofs.HeardAgrees.{by_phase}
 use Rattle.race_core.proofs.HeardTells.{Listens, NoCopy, lock_listens, look_listens, stepped_own, stepped_silent, stepped_tells, still_tells, told_or, taken_peer, tells_else}

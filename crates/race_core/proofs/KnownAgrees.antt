@@ -12,8 +12,8 @@ use Rattle.run_data.specs.Repos.{id_of}
 use Rattle.run_model.specs.Logs.{read_at, settings_of}
 use Rattle.node_model.specs.Evidence.{Standing, Claimed, Ignored, Asked, Offer, Gives, Fails, gather, pick, reached, standing_by}
 use Rattle.run_model.specs.Drops.{key_in, standing}
-use Rattle.race_core.specs.Heard
-use Rattle.race_core.specs.Heard.{Heard, Locked_at, Seen_there, heard, known_evidence, known_offer, still_waits}
+use Rattle.race_core.proofs.Heard
+use Rattle.race_core.proofs.Heard.{Heard, Locked_at, Seen_there, heard, known_evidence, known_offer, still_waits}
 use Rattle.node_model.specs.SetUp.{SetUp}
 use Rattle.run_model.specs.States.{state_of}
 use Rattle.node_model.specs.Jobs

@@ -1,3 +1,6 @@
+pub mod Heard
+pub mod Own
+pub mod ServerAnswers
 pub mod LogLemmas
 pub mod OwnPasts
 pub mod Reading

@@ -27,7 +27,7 @@ use Rattle.run_model.specs.Drops.{Lock, Vouch, asked, reply, standing, vouch}
 use Rattle.run_model.specs.Safety.{Removal, past_at}
 use Rattle.run_model.specs.Run.{IsRun}
 use Rattle.race_core.specs.Locks.{AsksLock, IsFor, IsHeld, SendsLock}
-use Rattle.race_core.specs.Own.{Meets, MessagePast, OneClock, seeks}
+use Rattle.race_core.proofs.Own.{Meets, MessagePast, OneClock, seeks}
 use Rattle.race_core.specs.Places.{removal_at}
 use Rattle.race_core.specs.Readings.{Judge, judge_at}
 use Rattle.race_core.proofs.Lists.{Each-at, and_true, eqb_true, or_true}

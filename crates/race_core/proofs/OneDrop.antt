@@ -15,7 +15,7 @@ use Rattle.run_model.specs.Frames.{Flying, MayTake, Way, flying, is_on, on_way, 
 use Rattle.run_model.specs.Safety.{past_at}
 use Rattle.run_model.specs.Run.{IsRun}
 use Rattle.race_core.proofs.Plain.{get_left}
-use Rattle.race_core.specs.Own.{Meets, MessagePast}
+use Rattle.race_core.proofs.Own.{Meets, MessagePast}
 use Rattle.race_core.specs.Readings.{Judge}
 use Rattle.race_core.specs.Removals.{HasOrder, IsAt, Sends, Takes}
 use Rattle.race_core.proofs.Changes.{bar_was, bytes_refl, decided_keeps, repo_of, same_repo}

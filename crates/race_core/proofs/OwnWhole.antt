@@ -23,8 +23,8 @@ use Rattle.node_model.specs.Look.{first_of}
 use Rattle.node_model.specs.Evidence.{candidates, gather, reached}
 use Rattle.run_model.specs.Drops.{cause_closed, cause_own, cause_said, cause_taken, cause_with, is_first_step, is_waiting, key_in, newer_cause, option_is_none, or_closed, shuts, standing}
 use Rattle.race_core.specs.Lawful.{Free}
-use Rattle.race_core.specs.Heard.{Heard, heard, heard_answer, heard_cause, heard_frame, heard_kind, heard_request, hears, known_evidence, known_offer, knows, newer_heard, still_waits}
-use Rattle.race_core.specs.Own.{Awaits, HasDeadline, HeardOf, InTimeBy, InTurn, MayEnd, MayBar, MayObey, MayOrder, MayRelease, MayRemove, MaySend, OneClock, Own, SaidByClock, asks_copy, has_asked, is_share}
+use Rattle.race_core.proofs.Heard.{Heard, heard, heard_answer, heard_cause, heard_frame, heard_kind, heard_request, hears, known_evidence, known_offer, knows, newer_heard, still_waits}
+use Rattle.race_core.proofs.Own.{Awaits, HasDeadline, HeardOf, InTimeBy, InTurn, MayEnd, MayBar, MayObey, MayOrder, MayRelease, MayRemove, MaySend, OneClock, Own, SaidByClock, asks_copy, has_asked, is_share}
 use Rattle.race_core.proofs.Lists.{and_true}
 use Rattle.race_core.proofs.Known.{gather_same, reached_same}
 use Rattle.race_core.proofs.Told.{taker_way}

@@ -25,7 +25,7 @@ use Rattle.race_core.proofs.Lists.{Each-any, Each-at}
 use Rattle.race_core.proofs.Pasts.{past_before}
 use Rattle.race_core.proofs.AtPlaces.{past_next}
 use Rattle.run_model.specs.Run.{IsRun}
-use Rattle.race_core.specs.Own.{Meets, MessagePast}
+use Rattle.race_core.proofs.Own.{Meets, MessagePast}
 use Rattle.race_core.proofs.FromStep.{runs_are_messages}
 use Rattle.race_core.proofs.Changes.{Obeys, Removes, removal_is, removal_was, repo_of}
 use Rattle.race_core.proofs.Flights.{some_inj}

@@ -24,7 +24,7 @@ use Rattle.race_core.proofs.JobLines.{Few, JobSaid, farewells_fail, job_few, job
 use Rattle.race_core.proofs.OrdersRead.{order_read}
 use Rattle.race_core.proofs.SaidDown.{said_closing}
 use Rattle.race_core.proofs.SessionSays.{read_of}
-use Rattle.race_core.specs.Own.{AtMostOne, MaySend}
+use Rattle.race_core.proofs.Own.{AtMostOne, MaySend}
 use Rattle.race_core.proofs.SessionOwn.{SessionSpeaks, any_closes, close_sends, closes_one, session_one_answer, session_one_request, session_sends_step, speaks}
 
 -- ---- who made an own entry

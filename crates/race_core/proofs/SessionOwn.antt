@@ -42,7 +42,7 @@ use Rattle.race_core.proofs.SaidDown.{odd_answer, said_closing, said_is}
 use Rattle.race_core.proofs.InTurn.{AllRead, in_turn}
 use Rattle.race_core.proofs.TurnFits.{busy}
 use Rattle.race_core.proofs.SessionSays.{Agrees, FromServer, down_only, frame_agrees, frame_say, is_down, line_locks, line_looks, Short, frame_short, odd_message, odd_request, pieces_no, pieces_say, pieces_short, read_of}
-use Rattle.race_core.specs.Own.{AtMostOne, InTurn, MayRelease, MaySend}
+use Rattle.race_core.proofs.Own.{AtMostOne, InTurn, MayRelease, MaySend}
 
 -- ---- ways of frames and of ends
 

@@ -21,8 +21,8 @@ use Rattle.run_model.specs.Frames.{Way, Flying, MayTake, Sent, is_on, is_job, on
 use Rattle.node_model.specs.Slots.{job_of}
 use Rattle.node_model.specs.Ends.{same_bool}
 use Rattle.run_model.specs.Drops.{Asker, Vouch, Lock, Look, asked_at, asker, asker_by, asker_of, is_asker, newer, reply, tells, told_by, vouch, vouch_kind}
-use Rattle.race_core.specs.Heard.{Heard, Locked_at, Seen_there, heard, heard_answer, heard_frame, heard_kind, heard_request, hears, newer_heard}
-use Rattle.race_core.specs.Own.{Meets, MessagePast, Own, SaysYes, asks_copy, uses}
+use Rattle.race_core.proofs.Heard.{Heard, Locked_at, Seen_there, heard, heard_answer, heard_frame, heard_kind, heard_request, hears, newer_heard}
+use Rattle.race_core.proofs.Own.{Meets, MessagePast, Own, SaysYes, asks_copy, uses}
 use Rattle.std.specs.List.{list_any}
 use Rattle.race_core.proofs.Lists.{and_true, any-Member, both, eqb_refl, eqb_true, or_left, or_right, Member-filter}
 use Rattle.race_core.proofs.Flights.{Sending, occurs_always, occurs_earlier, sending, sent_from, some_inj}

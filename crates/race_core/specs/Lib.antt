@@ -1,6 +1,4 @@
 pub mod Lawful
-pub mod Heard
-pub mod Own
 pub mod Places
 pub mod Readings
 pub mod Removals

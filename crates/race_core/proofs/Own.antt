@@ -34,7 +34,7 @@ use Rattle.node_model.specs.Slots.{job_of}
 use Rattle.run_model.specs.Logs.{in_drop, need_read}
 use Rattle.run_model.specs.Drops.{done, key_in}
 use Rattle.race_core.specs.Lawful.{Free}
-use Rattle.race_core.specs.Heard.{Heard, heard, heard_key, known_evidence}
+use Rattle.race_core.proofs.Heard.{Heard, heard, heard_key, known_evidence}
 
 abbrev pub AtMostOne : {X : Type 0} → List X → Type 0
 AtMostOne [] = Unit {0}
