@@ -528,7 +528,7 @@ tells_vouches past e r a j v m = go (r == a) (is_job a j e) m
     go false true k = Member-right v (vouch past e r a j) (vouches past r a j) (sender_vouched past a e.taken r a j v (sender past a e.taken) refl k)
     go false false k = absurd k
 
-newer-was : (vs : List Vouch) (old : Option Vouch) (v : Vouch) → newer vs old ≡ Some v → Member v vs ⊎ (old ≡ Some v)
+pub newer-was : (vs : List Vouch) (old : Option Vouch) (v : Vouch) → newer vs old ≡ Some v → Member v vs ⊎ (old ≡ Some v)
 newer-was [] old v h = inr h
 newer-was (w ∷ ws) old v h = inl (inl (some_inj v w (sym h)))
 

@@ -11,7 +11,8 @@ use Rattle.run_data.specs.declared.entry.FrameText.TheVariants.{Closing, Bytes, 
 use Rattle.p2p_wire.specs.declared.message.Message.{Message}
 use Rattle.p2p_wire.specs.declared.message.Message.TheVariants.{Version, CheckPresent, LockContent, UnlockContent, Remove, RemoveBefore, GetTimestamp, Timestamp, Get, Put, PutFrom, AlreadyHave, Data, Valid, Invalid, Success, Failure, Error}
 use Rattle.p2p_wire.specs.Messages.{text_of}
-use Rattle.run_model.specs.Said.{completes, wants_answer}
+use Rattle.race_core.proofs.Ways.{completes}
+use Rattle.run_model.specs.Said.{wants_answer}
 use Rattle.node_model.specs.Sessions.{Doing, Waits, Guards, Gives, Gave, Wants, Takes, Took, reaches}
 use Rattle.node_model.specs.Calls.{to_commit, to_lock, to_offer, to_remove}
 use Rattle.node_model.specs.Look.{failing}

@@ -248,7 +248,7 @@ module _ (t : Turn) (f : FrameView) (peer : ℕ) (x : Taking t f peer) (walks : 
       (λ z up down y. subst (λ (at : Stance). Converses at z up down) (sym (rests_at t.w.what.peer Next (kept (took (talker t (Some f)) f.body) peer) peer refl))
       (subst (λ (k : Bool). Converses (rests k) z up down) (sym (subst (λ (v : Work). kept v peer ≡ true) (sym took_is)
       (subst (λ q. kept (listens (talker t (Some f)) (AsksLock q since) Success) peer ≡ true) (sym (some_peer p peer (same_peer (AsksLock p since) is))) (kept_now (talker t (Some f)) peer (Jobs.Held since) refl))))
-      (lock_locked z up down f.body y)))
+      (lock_locked z up down f.body told y)))
 
   drop_good : t.w.part ≡ Drops → (phase : Phase) (m : Message) → t.w.phase ≡ phase → line_in f.body ≡ Some m → DropSuits phase m → GoodMade t (takes_drop t f peer phase m)
   drop_good part (AsksLock p since) Success is told suits = lock_heard p since is told

@@ -18,7 +18,8 @@ use Rattle.run_data.specs.declared.job.Cause.{Cause}
 use Rattle.run_model.specs.Past.{Decision, clock, decided}
 use Rattle.p2p_wire.specs.declared.message.Message.TheVariants.{Timestamp}
 use Rattle.p2p_wire.specs.Messages.{order_of, text_of}
-use Rattle.run_model.specs.Frames.{Way, up_of, way_from, way_of}
+use Rattle.run_model.specs.Frames.{Way, up_of, way_of}
+use Rattle.race_core.proofs.Ways.{way_from}
 use Rattle.node_model.specs.Evidence.{Standing, Claimed, Ignored, Asked}
 use Rattle.run_model.specs.Drops.{is_waiting, option_is_none, standing}
 use Rattle.race_core.proofs.Heard.{Heard, Locked_at, Seen_there, heard, heard_cause, heard_key, known_evidence, still_waits}
@@ -41,7 +42,8 @@ use Rattle.node_model.specs.AnyTime.{MayCome}
 use Rattle.race_core.proofs.ServerAnswers
 use Rattle.node_model.specs.Jobs
 use Rattle.node_model.specs.Jobs.{Held, Lacks, Seen, Unseen, Work, heard_of, running, side_of, target_of, job_end}
-use Rattle.node_model.specs.Knows.{is_unasked, known, knows_enough, need_of, standing_of}
+use Rattle.node_model.specs.Knows.{is_unasked, need_of, standing_of}
+use Rattle.race_core.proofs.Knowing.{known, knows_enough}
 use Rattle.node_model.specs.Found
 use Rattle.node_model.specs.JobStep.{clock_of}
 use Rattle.node_model.specs.DropStep.{first_end}

@@ -35,7 +35,8 @@ use Rattle.node_model.specs.Ends.{end_after}
 use Rattle.node_model.specs.Jobs
 use Rattle.node_model.specs.Jobs.{AsksLock, AsksLook, Drops, Fresh, GetsBytes, GetsData, GetsWord, Gets, Greets, Heard, Held, Next, Orders, Part, Phase, Puts, PutsAnswer, PutsBytes, PutsOffer, PutsWord, Rows, Work, claims, closed_part, fault_of, fault_phase, first_look, gained, gets_bytes, gets_more, heard_of, hears, hears_frame, job_end, learns, listens, put_from, puts_answer, puts_bytes, puts_more, quiet, says, says_some, sends, talks, talks_on, target_of, to_phase, took, took_line, transferred, unreleased, word_taken, work_after, work_kind, works_after}
 use Rattle.run_model.specs.States.{rows_at, works, state_of}
-use Rattle.node_model.specs.Knows.{candidates_of, heard_offer, is_to_ask, known, knows, need_of, offer_by, standing_of}
+use Rattle.race_core.proofs.Knowing.{candidates_of, is_to_ask, known, knows}
+use Rattle.node_model.specs.Knows.{heard_offer, need_of, offer_by, standing_of}
 use Rattle.run_model.specs.Run.{IsBounded, OwnPast}
 use Rattle.race_core.proofs.Plain.{each_member}
 use Rattle.race_core.proofs.Cases.{if_found}

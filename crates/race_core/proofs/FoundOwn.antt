@@ -14,7 +14,8 @@ use Rattle.p2p_wire.specs.declared.message.Message.{Message}
 use Rattle.p2p_wire.specs.declared.message.Message.TheVariants.{CheckPresent, LockContent}
 use Rattle.p2p_wire.specs.Messages.{order_of}
 use Rattle.run_model.specs.Said.{Says}
-use Rattle.run_model.specs.Frames.{Way, down_of, way_from, way_of}
+use Rattle.run_model.specs.Frames.{Way, way_of}
+use Rattle.race_core.proofs.Ways.{down_of, way_from}
 use Rattle.node_model.specs.SetUp.{SetUp}
 use Rattle.node_model.specs.Ends.{is_opening, server_end}
 use Rattle.node_model.specs.Sessions.{line_in}

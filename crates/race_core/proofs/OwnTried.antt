@@ -36,7 +36,8 @@ use Rattle.node_model.specs.Jobs
 use Rattle.node_model.specs.Jobs.{Drops, Fresh, Gets, Heard, Part, Phase, Puts, Rows, Work, claims, fault_of, first_look, first_part, learns, partner, side_of, talks, target_of, unreleased, work_kind}
 use Rattle.node_model.specs.Calls.{to_hold, to_release}
 use Rattle.node_model.specs.Look.{Made, failing}
-use Rattle.node_model.specs.Knows.{is_to_ask, is_unasked, standing_of}
+use Rattle.race_core.proofs.Knowing.{is_to_ask}
+use Rattle.node_model.specs.Knows.{is_unasked, standing_of}
 use Rattle.node_model.specs.JobStep.{Turn, attempts, bar_there, by_me, clock_of, farewells, is_there, key_of, me, owns_share, quietly, talk, others_of}
 use Rattle.node_model.specs.DropStep.{first_drop, first_remote, own_share, required_there, shares, tries_own}
 use Rattle.node_model.specs.TransferStep.{sources}

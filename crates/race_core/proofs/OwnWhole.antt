@@ -15,8 +15,9 @@ use Rattle.run_model.specs.Past.{Decision, Occurs, begun_job, clock, decided, ho
 use Rattle.node_model.specs.Rows.{is_blocked, option_is}
 use Rattle.node_model.specs.Clocks.{ClockSet, runs_on}
 use Rattle.p2p_wire.specs.declared.message.Message.TheVariants.{Success}
-use Rattle.run_model.specs.Said.{Said, Says, message_in, is_answer, is_request}
-use Rattle.run_model.specs.Frames.{Flying, Way, answers, down_of, is_job, last_request, says, sender_of, taken_if, taker_of, up_of, way_from, way_of}
+use Rattle.run_model.specs.Said.{Said, Says, message_in, is_request}
+use Rattle.race_core.proofs.Ways.{is_answer, answers, down_of, way_from}
+use Rattle.run_model.specs.Frames.{Flying, Way, is_job, last_request, says, sender_of, taken_if, taker_of, up_of, way_of}
 use Rattle.node_model.specs.Slots.{job_of}
 use Rattle.run_model.specs.Logs.{before_step, in_drop, is_step}
 use Rattle.node_model.specs.Look.{first_of}

@@ -9,8 +9,9 @@ use Rattle.run_data.specs.declared.entry.FrameView.{FrameView}
 use Rattle.run_data.specs.declared.job.Outcome.{Outcome}
 use Rattle.node_model.specs.Rows.{is_lost_ordered}
 use Rattle.p2p_wire.specs.Messages.{order_of}
-use Rattle.run_model.specs.Said.{is_answer, message_in}
-use Rattle.run_model.specs.Frames.{Way, down_of, requests, taken_if, way_from}
+use Rattle.race_core.proofs.Ways.{is_answer, down_of, way_from}
+use Rattle.run_model.specs.Said.{message_in}
+use Rattle.run_model.specs.Frames.{Way, requests, taken_if}
 use Rattle.node_model.specs.SetUp.{SetUp}
 use Rattle.run_model.specs.Run.{ByStep, IsStep, OwnPart}
 use Rattle.annex_base.specs.declared.kinds.Word.{Word}

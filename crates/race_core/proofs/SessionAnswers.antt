@@ -18,7 +18,8 @@ use Rattle.run_model.specs.Causes.{denied_by, rejects}
 use Rattle.p2p_wire.specs.declared.message.Message.{Message}
 use Rattle.p2p_wire.specs.declared.message.Message.TheVariants.{Version, CheckPresent, LockContent, UnlockContent, Remove, RemoveBefore, GetTimestamp, Timestamp, Get, Put, PutFrom, AlreadyHave, Data, Valid, Invalid, Success, Failure, Error}
 use Rattle.p2p_wire.specs.Messages.{message_of, text_of}
-use Rattle.run_model.specs.Said.{Says, completes, is_answer, is_request, message_in, wants_answer}
+use Rattle.run_model.specs.Said.{Says, is_request, message_in, wants_answer}
+use Rattle.race_core.proofs.Ways.{completes, is_answer}
 use Rattle.node_model.specs.Sessions.{Doing, Waits, Guards, Gave, Wants, Took, Session}
 use Rattle.node_model.specs.Calls.{to_commit, to_lock, to_offer, to_remove}
 use Rattle.node_model.specs.Look.{failing}

@@ -16,8 +16,9 @@ use Rattle.run_data.specs.declared.run.RepoView.{RepoView}
 use Rattle.run_model.specs.Past.{Always, Occurs, is_of}
 use Rattle.node_model.specs.Rows.{option_is}
 use Rattle.p2p_wire.specs.declared.message.Message.TheVariants.{CheckPresent, LockContent, Success}
-use Rattle.run_model.specs.Said.{Said, Says, message_in, is_request, is_answer}
-use Rattle.run_model.specs.Frames.{Way, Flying, MayTake, Sent, is_on, is_job, on_way, sender, sender_of, sent, sent_of, taker_of, taken, taken_if, takes, way_of, way_from, up_of, down_of, answers, last_request}
+use Rattle.run_model.specs.Said.{Said, Says, message_in, is_request}
+use Rattle.race_core.proofs.Ways.{is_answer, way_from, down_of, answers}
+use Rattle.run_model.specs.Frames.{Way, Flying, MayTake, Sent, is_on, is_job, on_way, sender, sender_of, sent, sent_of, taker_of, taken, taken_if, takes, way_of, up_of, last_request}
 use Rattle.node_model.specs.Slots.{job_of}
 use Rattle.node_model.specs.Ends.{same_bool}
 use Rattle.run_model.specs.Drops.{Asker, Vouch, Lock, Look, asked_at, asker, asker_by, asker_of, is_asker, newer, reply, tells, told_by, vouch, vouch_kind}

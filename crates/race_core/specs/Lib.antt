@@ -2,5 +2,5 @@ pub mod Lawful
 pub mod Places
 pub mod Readings
 pub mod Removals
-pub mod Locks
+pub mod Items
 pub mod Merged
