@@ -1,4 +1,5 @@
 -- What a session answers and gives keeps the dialogue on its connection, or closes it with nothing said: it finds nothing unexpected.
+use Rattle.node_model.specs.Clocks.{hold_time}
 use Rattle.std.proofs.Common.{◌≡◌, ℕ, ◌+◌, ◌*◌, ◌/◌, ◌^◌, ◌≤◌, Bool, true, false, List, [], ◌∷◌, ◌++◌, Option, Some, None, ◌⊎◌, inl, inr, refl, sym, ◌∙◌, subst, arith}
 use Rattle.std.specs.Prelude.{codes, min, nat_le, nat_lt}
 use Rattle.std.proofs.lemmas.Bool.Decides.{nat_tests}
@@ -108,14 +109,14 @@ module _ (size : List ℕ → Option ℕ) (h : Here) (spot : Spot h) (z : Sessio
     lock_no key kind none speaks = answers Dialogue.AtLock (λ z up down x. x) (LockContent key) kind Failure refl (idle (LockContent key) kind Failure none speaks)
 
     pub lock_served : (key : List ℕ) → 1 ≤ z.version → Served Dialogue.AtLock (LockContent key) (on_request h z.version (LockContent key))
-    lock_served key speaks = try Dialogue.AtLock (LockContent key) (to_lock h.locks (is_here h key) (bar_on h key)) refuses (lock_answer h.number (now_of h + 600000) (by_of h) key h.locks (is_here h key) (bar_on h key))
+    lock_served key speaks = try Dialogue.AtLock (LockContent key) (to_lock h.locks (is_here h key) (bar_on h key)) refuses (lock_answer h.number (now_of h + hold_time) (by_of h) key h.locks (is_here h key) (bar_on h key))
         (λ call. lock_no key (Fault call (by_of h)) refl speaks) (go h.locks (is_here h key) (bar_on h key))
       where
-        go : (locks here : Bool) (bar : Option ℕ) → Served Dialogue.AtLock (LockContent key) (lock_answer h.number (now_of h + 600000) (by_of h) key locks here bar)
+        go : (locks here : Bool) (bar : Option ℕ) → Served Dialogue.AtLock (LockContent key) (lock_answer h.number (now_of h + hold_time) (by_of h) key locks here bar)
         go false here bar = lock_no key (Check found.Nolock key) refl speaks
         go true false bar = lock_no key (Check found.Absent key) refl speaks
         go true true (Some j) = lock_no key (Check found.Barred key) refl speaks
-        go true true None = answers Dialogue.AtLock (λ z up down x. x) (LockContent key) (Share h.number (now_of h + 600000) (by_of h) key) Success refl (h.number, key, refl)
+        go true true None = answers Dialogue.AtLock (λ z up down x. x) (LockContent key) (Share h.number (now_of h + hold_time) (by_of h) key) Success refl (h.number, key, refl)
 
     -- an order, of either form
     abbrev IsOrder : Message → Type 0

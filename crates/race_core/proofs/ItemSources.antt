@@ -1,4 +1,5 @@
 -- What the locked and recent items of a run's removals stand on: who asked and who answered, and the hold, which is still there.
+use Rattle.node_model.specs.Clocks.{hold_time}
 use Rattle.std.proofs.Common.{◌≡◌, ℕ, ◌+◌, ◌≤◌, Bool, true, false, List, [], ◌∷◌, Option, Some, None, ◌⊎◌, inl, inr, refl, sym, ap, ◌∙◌, subst, arith}
 use Rattle.std.specs.Prelude.{if◌then◌else◌, ◌==◌, bytes_eq, nat_le, slice_get}
 use Rattle.std.specs.List.{list_any}
@@ -193,17 +194,17 @@ lasting hs number until owner key h =
 -- ---- locked items
 
 held_by : (run : Run) (key : List ℕ) (place : ℕ) (judge : Judge) (c end hold since : ℕ) (owner : By) → MessagePast run.repos judge.past → OneClock run.repos judge.repo judge.past judge.job
-    → reply judge.past judge.repo judge.job c ≡ Some (Lock hold since owner key) → end ≡ clock run.repos judge.past judge.repo since + 600000
-    → lasts (holds (past_at run place) c) hold (clock run.repos (past_at run place) c (since + 600000)) owner key ≡ true → IsHeld run key place judge c end
+    → reply judge.past judge.repo judge.job c ≡ Some (Lock hold since owner key) → end ≡ clock run.repos judge.past judge.repo since + hold_time
+    → lasts (holds (past_at run place) c) hold (clock run.repos (past_at run place) c (since + hold_time)) owner key ≡ true → IsHeld run key place judge c end
 held_by run key place judge c end hold since owner messages one told end_is last =
     let ask = asked_lock run.repos judge.past judge.repo judge.job c hold since owner key messages told in
-    let t = lasting (holds (past_at run place) c) hold (clock run.repos (past_at run place) c (since + 600000)) owner key last in
+    let t = lasting (holds (past_at run place) c) hold (clock run.repos (past_at run place) c (since + hold_time)) owner key last in
     record {
       asking = ask.asked_it.entry;
       before = ask.asked_it.before;
       asked = ask.asked_it.occurs;
       asks = ask.asks;
-      end_is = end_is ∙ ap (λ n. n + 600000) (end_then run.repos judge.past judge.repo judge.job since one ask.asked_it);
+      end_is = end_is ∙ ap (λ n. n + hold_time) (end_then run.repos judge.past judge.repo judge.job since one ask.asked_it);
       hold = t.hold;
       key_is = t.key_is;
       owner_is = subst (IsFor judge.repo judge.job c) (sym t.owner_is) ask.owner_is;
@@ -213,7 +214,7 @@ held_by run key place judge c end hold since owner messages one told end_is last
       gives = record { repo_is = ask.share_repo; end = ask.share_end; kind_is = ask.share_is ∙ sym (λ i. Share (t.number_is i) ask.share_end (t.owner_is i) (t.key_is i)) };
       told = ask.given.told;
       recorded = t.recorded;
-      lasts = subst (λ s. clock run.repos (past_at run place) c (s + 600000) ≤ t.hold.end) ask.asked_it.time_is t.lasts_it;
+      lasts = subst (λ s. clock run.repos (past_at run place) c (s + hold_time) ≤ t.hold.end) ask.asked_it.time_is t.lasts_it;
     }
 
 -- what the item's repository offered

@@ -1,4 +1,5 @@
 -- A remote drop has tried its own repository before it asks any other; so a job opens connections with other repositories alone.
+use Rattle.node_model.specs.Clocks.{hold_time}
 use Rattle.std.proofs.Common.{◌≡◌, ◌≢◌, ℕ, zero, suc, ◌+◌, ◌<◌, ◌≤◌, Bool, true, false, List, [], ◌∷◌, length, Option, Some, None, ◌⊎◌, inl, inr, refl, sym, ap, ◌∙◌, subst, arith}
 use Rattle.std.specs.Prelude.{if◌then◌else◌, ◌==◌, ◌&&◌, ◌||◌, find, not, slice_get}
 use Rattle.std.specs.List.{range_with_len, list_all}
@@ -164,10 +165,10 @@ attempts_first t cs taken m g = unless_found (λ (x : Made). FirstSays t x.kind)
 
 shares_first : (t : Turn) → FirstSays t (shares t).kind
 shares_first t =
-    attempts_first t (to_hold (is_there t) (bar_there t)) None (quietly (own_share (t.number) (clock_of t + 600000) t.w.number (key_of t) (talk t) (by_me t) (is_there t) (bar_there t)) None)
+    attempts_first t (to_hold (is_there t) (bar_there t)) None (quietly (own_share (t.number) (clock_of t + hold_time) t.w.number (key_of t) (talk t) (by_me t) (is_there t) (bar_there t)) None)
     (go (is_there t) (bar_there t) refl refl)
   where
-    go : (here : Bool) (bar : Option ℕ) → is_there t ≡ here → bar_there t ≡ bar → FirstSays t (own_share (t.number) (clock_of t + 600000) t.w.number (key_of t) (talk t) (by_me t) here bar)
+    go : (here : Bool) (bar : Option ℕ) → is_there t ≡ here → bar_there t ≡ bar → FirstSays t (own_share (t.number) (clock_of t + hold_time) t.w.number (key_of t) (talk t) (by_me t) here bar)
     go false bar there free = inr (inl there)
     go true (Some j) there free = inr (inr (j, free))
     go true None there free = tt
