@@ -1,7 +1,7 @@
 -- What a session answers and gives keeps the dialogue on its connection, or closes it with nothing said: it finds nothing unexpected.
 use Rattle.node_model.specs.Clocks.{hold_time}
-use Rattle.std.proofs.Common.{◌≡◌, ℕ, ◌+◌, ◌*◌, ◌/◌, ◌^◌, ◌≤◌, Bool, true, false, List, [], ◌∷◌, ◌++◌, Option, Some, None, ◌⊎◌, inl, inr, refl, sym, ◌∙◌, subst, arith}
-use Rattle.std.specs.Prelude.{codes, min, nat_le, nat_lt}
+use Rattle.std.proofs.Common.{◌≡◌, ℕ, ◌+◌, ◌-◌, ◌*◌, ◌/◌, ◌^◌, ◌≤◌, Bool, true, false, List, [], ◌∷◌, ◌++◌, Option, Some, None, ◌⊎◌, inl, inr, refl, sym, ◌∙◌, subst, arith}
+use Rattle.std.specs.Prelude.{if◌then◌else◌, codes, min, nat_le, nat_lt}
 use Rattle.std.proofs.lemmas.Bool.Decides.{nat_tests}
 use Rattle.annex_base.specs.declared.kinds.Call.{Call}
 use Rattle.annex_base.specs.declared.kinds.Call.TheVariants as calls
@@ -71,15 +71,12 @@ module _ (size : List ℕ → Option ℕ) (h : Here) (spot : Spot h) (z : Sessio
 
   -- it answers in one line
   answers : (at : Stance) → AskedOf at → (m : Message) (kind : EntryKind) (k : Message) → message_of (text_of k) ≡ Some k → Dialogue.Answered at (after_message size z m kind (Some k)) (Some k) → Served at m (reply kind k)
-  answers at asked m kind k back a = inr (
-    (refl, tt),
-    asked (after_message size z m kind (message_of (text_of k))) [] (Line (text_of k) ∷ []) (inr (record {
-      none_up = refl;
-      body = Line (text_of k);
-      alone = refl;
-      fits = subst (λ (o : Option Message). Dialogue.Answered at (after_message size z m kind o) o) (sym back) a;
-    })),
-  )
+  answers at asked m kind k back a = inr ((refl, tt), asked (after_message size z m kind (message_of (text_of k))) [] (Line (text_of k) ∷ []) (inr (record {
+    none_up = refl;
+    body = Line (text_of k);
+    alone = refl;
+    fits = subst (λ (o : Option Message). Dialogue.Answered at (after_message size z m kind o) o) (sym back) a;
+  })))
 
   try : (at : Stance) (m : Message) (cs : List Call) (says : List FrameText) (good : Reply) → ((call : Call) → Served at m (record { kind = Fault call (by_of h); says = says })) → Served at m good → Served at m (tries h cs says good)
   try at m cs says good f g = unless_found (Served at m) (failing h.fails cs) (λ call. record { kind = Fault call (by_of h); says = says }) good f g
@@ -188,18 +185,15 @@ module _ (size : List ℕ → Option ℕ) (h : Here) (spot : Spot h) (z : Sessio
     -- GET
     pub get_served : (n : ℕ) (file key : List ℕ) → 1 ≤ z.version → Served Dialogue.AtGet (Get n file key) (on_request h z.version (Get n file key))
     get_served n file key speaks = if_found (Served Dialogue.AtGet (Get n file key)) (nat_le 1 z.version) (tries h (calls.Size ∷ []) (Closing ∷ []) good) (unexpected h)
-        (λ e. try Dialogue.AtGet (Get n file key) (calls.Size ∷ []) (Closing ∷ []) good (λ call. inl refl) (inr (
-          (refl, tt),
-          inr (record {
-            none_up = refl;
-            body = Line (text_of (Data left));
-            rest = [];
-            starts_so = refl;
-            left = left;
-            told = spot.data' key n;
-            giving = subst (λ (o : Option Message). Dialogue.Giving left (after_message size z (Get n file key) (Talk None) o) []) (sym (spot.data' key n)) (speaks, key, n, reaches (size key) n, refl);
-          }),
-        )))
+        (λ e. try Dialogue.AtGet (Get n file key) (calls.Size ∷ []) (Closing ∷ []) good (λ call. inl refl) (inr ((refl, tt), inr (record {
+          none_up = refl;
+          body = Line (text_of (Data left));
+          rest = [];
+          starts_so = refl;
+          left = left;
+          told = spot.data' key n;
+          giving = subst (λ (o : Option Message). Dialogue.Giving left (after_message size z (Get n file key) (Talk None) o) []) (sym (spot.data' key n)) (speaks, key, n, reaches (size key) n, refl);
+        }))))
         (λ e. absurd (too_old speaks e))
       where
         left : ℕ

@@ -1,5 +1,5 @@
 -- Each step of a job keeps the dialogue on its connections, where what it takes suits its phase: the steps that take a frame, and all.
-use Rattle.std.proofs.Common.{◌≡◌, ℕ, ◌+◌, ◌-◌, ◌/◌, ◌^◌, ◌≤◌, Bool, true, false, List, [], ◌∷◌, ◌++◌, Option, Some, None, inl, inr, ◌⊎◌, refl, sym, ap, ◌∙◌, subst, arith}
+use Rattle.std.proofs.Common.{◌≡◌, ◌≢◌, ℕ, ◌+◌, ◌-◌, ◌/◌, ◌^◌, ◌≤◌, Bool, true, false, List, [], ◌∷◌, ◌++◌, Option, Some, None, inl, inr, ◌⊎◌, refl, sym, ap, ◌∙◌, subst, arith}
 use Rattle.std.specs.Prelude.{if◌then◌else◌, ◌==◌, ◌&&◌, not, min, nat_lt, nat_le, bytes_eq, codes}
 use Rattle.std.specs.List.{list_all, list_any}
 use Rattle.std.proofs.lemmas.Bool.{true≢false}
@@ -17,6 +17,7 @@ use Rattle.run_data.specs.declared.job.Outcome.TheVariants.{Got, Copied, Refused
 use Rattle.run_data.specs.declared.job.DropRefusal.TheVariants as refusals
 use Rattle.run_data.specs.declared.job.TransferRefusal.TheVariants as failures
 use Rattle.node_model.specs.Rows.{is_lost_ordered}
+use Rattle.node_model.specs.Evidence.{Asked}
 use Rattle.p2p_wire.specs.declared.message.Message.{Message}
 use Rattle.p2p_wire.specs.declared.message.Message.TheVariants.{AuthSuccess, Version, CheckPresent, RemoveBefore, Timestamp, PutFrom, AlreadyHave, Data, Valid, Invalid, Success, Failure, Error}
 use Rattle.p2p_wire.specs.Messages.{message_of, text_of}
@@ -45,7 +46,6 @@ use Rattle.race_core.proofs.DialogueSteps.{asked_reply, away_asks, bytes_gives, 
 use Rattle.race_core.proofs.DialogueTurns.{KeepsTo, rests_at, stands_on}
 use Rattle.race_core.proofs.DialogueLeaves.{closes_keeps, hears_keeps, hears_to_keeps, lost_keeps, says_keeps, says_to_keeps, sends_keeps, short_keeps, shut_keeps}
 use Rattle.race_core.proofs.DialogueWalk.{Asks, GoodMade, IsVersion, Walks, failure_reads, fault_on, first_asks, first_step_good, dead_good, ends_good, is_plain, next_step_good, order_good, plain_in, took_listens, valid_reads}
-
 abbrev Converses : Stance → Session → List FrameText → List FrameText → Type 0
 Converses at z up down = Dialogue.Dialogue at z up down
 
@@ -204,12 +204,10 @@ module _ (t : Turn) (f : FrameView) (peer : ℕ) (x : Taking t f peer) (walks : 
   late_good n outcome is told =
       let rest : Made = record { kind = ends_job t.w.number outcome; taken = Some f; sent = farewells t (is_lost_ordered outcome); lines = [] } in
       attempts_even (GoodMade t) t (to_release (owns_share t && not (is_lost_ordered outcome))) (Some f) rest
-      (λ call e. subst (λ (c : Call). GoodMade t (quietly (Fault c (by_me t)) (Some f))) (sym (release_is (owns_share t && not (is_lost_ordered outcome)) call e)) (
-        subst (λ (p : Phase). KeepsTo t (quietly (Fault calls.Unhold (by_me t)) (Some f)) (unreleased t.w t.look.time p)) (sym is)
-            (hears_to_keeps t (Fault calls.Unhold (by_me t)) f peer x AsksTime is (Jobs.to_phase t.w (Late t.look.time)) (inl refl)
-            (λ z up down y. to_rest t.w.what.peer (Late t.look.time) (kept t.w peer) peer z up down refl (asked_away Dialogue.AtTime (Timestamp n) told (λ z a. a.0) z up down y))),
-        inl tt,
-      )) tt
+      (λ call e. subst (λ (c : Call). GoodMade t (quietly (Fault c (by_me t)) (Some f))) (sym (release_is (owns_share t && not (is_lost_ordered outcome)) call e))
+      (subst (λ (p : Phase). KeepsTo t (quietly (Fault calls.Unhold (by_me t)) (Some f)) (unreleased t.w t.look.time p)) (sym is)
+      (hears_to_keeps t (Fault calls.Unhold (by_me t)) f peer x AsksTime is (Jobs.to_phase t.w (Late t.look.time)) (inl refl)
+      (λ z up down y. to_rest t.w.what.peer (Late t.look.time) (kept t.w peer) peer z up down refl (asked_away Dialogue.AtTime (Timestamp n) told (λ z a. a.0) z up down y))), inl tt)) tt
 
   times_good : (n : ℕ) → nat_lt n (2 ^ 61) ≡ true → t.w.part ≡ Drops → side_of t.w ≡ Remote → t.w.phase ≡ AsksTime → line_in f.body ≡ Some (Timestamp n)
       → (end : Option ℕ) → first_end t ≡ end → GoodMade t (times t f n end)
@@ -270,14 +268,11 @@ module _ (t : Turn) (f : FrameView) (peer : ℕ) (x : Taking t f peer) (walks : 
       (λ k z up down v y. to_rest t.w.what.peer Next k peer z (up ++ Line (text_of Failure) ∷ []) down refl (word_acks z up down f.body Failure told refl y))
 
   gains_good : (p start size : ℕ) → t.w.phase ≡ GetsWord p start size → line_in f.body ≡ Some Valid → (right : Bool) → GoodMade t (gains t f peer size right)
-  gains_good p start size is told true = (
-    subst (λ (q : Phase). KeepsTo t (says_to t (Gain (by_me t) size (key_of t)) (Some f) peer Success) (Jobs.gained t.w q)) (sym is)
-        (let done = transferred t.w (Got (Some p) (Some start)) in
-        says_to_keeps t (Gain (by_me t) size (key_of t)) f peer x (GetsWord p start size) is Success done (inl (transferred_alone t.w.what.peer t.w (Got (Some p) (Some start))))
-        (λ z up down v y. to_rest t.w.what.peer done.phase (kept done peer) peer z (up ++ Line (text_of Success) ∷ []) down (transferred_alone t.w.what.peer t.w (Got (Some p) (Some start)))
-        (word_acks z up down f.body Success (inl told) refl y))),
-    inl (refl, tt),
-  )
+  gains_good p start size is told true = (subst (λ (q : Phase). KeepsTo t (says_to t (Gain (by_me t) size (key_of t)) (Some f) peer Success) (Jobs.gained t.w q)) (sym is)
+      (let done = transferred t.w (Got (Some p) (Some start)) in
+      says_to_keeps t (Gain (by_me t) size (key_of t)) f peer x (GetsWord p start size) is Success done (inl (transferred_alone t.w.what.peer t.w (Got (Some p) (Some start))))
+      (λ z up down v y. to_rest t.w.what.peer done.phase (kept done peer) peer z (up ++ Line (text_of Success) ∷ []) down (transferred_alone t.w.what.peer t.w (Got (Some p) (Some start)))
+      (word_acks z up down f.body Success (inl told) refl y))), inl (refl, tt))
   gains_good p start size is told false = refused_good p start size is (inl told)
 
   commit_plain : (right : Bool) (call : Call) → list_any (same_call call) (to_commit right) ≡ true → is_plain call ≡ true
