@@ -1,5 +1,5 @@
 -- What a job carries from entry to entry: the version that its peer answered, that it fills a key, and the causes of a get.
-use Rattle.std.proofs.Common.{◌≡◌, ℕ, ◌+◌, ◌-◌, Bool, true, false, List, [], ◌∷◌, ◌++◌, Option, Some, None, ◌⊎◌, inl, inr, refl, sym, ap, ◌∙◌, subst}
+use Rattle.std.proofs.Common.{◌≡◌, ℕ, Bool, true, false, List, [], ◌∷◌, ◌++◌, Option, Some, None, ◌⊎◌, inl, inr, refl, sym, ap, ◌∙◌, subst}
 use Rattle.std.specs.Prelude.{if◌then◌else◌, ◌==◌}
 use Rattle.annex_base.specs.declared.kinds.Call.{Call}
 use Rattle.annex_base.specs.declared.kinds.Call.TheVariants.{Unhold, PutFile}
@@ -148,7 +148,7 @@ module _ (rows : Rows) (r : ℕ) (e : Entry) where
       heard None = quiet_keeps w w.phase
       heard (Some f) = took_keeps w f.body
 
-  on_keeps : (w : Work) (p : Option ℕ) → partner w.what.peer w.phase ≡ p → Keeps w (talks_on rows r w e p)
+  pub on_keeps : (w : Work) (p : Option ℕ) → partner w.what.peer w.phase ≡ p → Keeps w (talks_on rows r w e p)
   on_keeps w None on = talks_keeps w e.sent refl
   on_keeps w (Some peer) on = if_found (Keeps w) (end_after (job_end w peer) (rows.ends (job_end w peer)) e).opened (talks rows r w e e.sent) (closed_part r w peer w.part)
       (λ h. talks_keeps w e.sent refl) (λ h. closed_keeps w (record { peer = peer; on = on; closed = h }) w.part refl)

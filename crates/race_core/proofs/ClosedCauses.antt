@@ -1,5 +1,5 @@
 -- The causes of refusals that rest on a closed connection: a drop lost its target, a copy's connection was closed, a get's sources gave nothing.
-use Rattle.std.proofs.Common.{◌≡◌, ◌≢◌, ℕ, ◌+◌, Bool, true, false, List, [], ◌∷◌, ◌++◌, Option, Some, None, ◌⊎◌, inl, inr, refl, sym, ap, ◌∙◌, subst, arith}
+use Rattle.std.proofs.Common.{◌≡◌, ◌≢◌, ℕ, Bool, true, false, List, [], ◌∷◌, ◌++◌, Option, Some, None, ◌⊎◌, inl, inr, refl, sym, ap, ◌∙◌, subst, arith}
 use Rattle.std.proofs.lemmas.Bool.Decides.{nat_tests}
 use Rattle.std.specs.Prelude.{if◌then◌else◌, ◌==◌, ◌||◌}
 use Rattle.std.specs.List.{list_any}
@@ -228,7 +228,7 @@ module _ (s : SetUp) (p : List Entry) (e : Entry) (h : OwnPast s (e ∷ p)) (is 
       asked_now : (f : FrameView) → e.taken ≡ Some f → line_in f.body ≡ Some Invalid → partner v.what.peer v.phase ≡ Some z.peer → Answers (e ∷ p) s.number v.number z.peer (Says (Get z.start [] v.what.key)) (Says Invalid)
       asked_now f took invalid on =
           let a = answers_now s p e b.by is before f took Invalid (λ m. m ≡ Get z.start [] v.what.key) invalid refl z.peer on
-              (λ last l. let y = subst (λ (q : Phase). LastIs v.what.key v.what.peer q z.peer last) z.phase_is l refl in (y.0, Get z.start [] v.what.key, refl, y.1)) in
+          (λ last l. let y = subst (λ (q : Phase). LastIs v.what.key v.what.peer q z.peer last) z.phase_is l refl in (y.0, Get z.start [] v.what.key, refl, y.1)) in
           subst (λ m. Answers (e ∷ p) s.number v.number z.peer (Says m) (Says Invalid)) a.1 a.2
 
   causes_now : ShutTold s p e → SourcesTold s.number p (running v) v.causes → Causes (rows_at p s.number) v e x → SourcesTold s.number (e ∷ p) (running v) x.causes

@@ -1,5 +1,5 @@
 -- The dialogue on one connection: what a job and the session that serves it may say next, by where both stand and what is on the way.
-use Rattle.std.proofs.Common.{◌≡◌, ℕ, ◌+◌, ◌-◌, ◌≤◌, ◌^◌, Bool, true, List, [], ◌∷◌, Option, Some, None, ◌⊎◌}
+use Rattle.std.proofs.Common.{◌≡◌, ℕ, ◌+◌, ◌-◌, ◌≤◌, ◌^◌, Bool, true, false, List, [], ◌∷◌, Option, Some, None, ◌⊎◌}
 use Rattle.std.specs.Prelude.{if◌then◌else◌, ◌&&◌, bytes_eq, codes, nat_le, nat_lt}
 use Rattle.run_data.specs.declared.entry.FrameText.{FrameText}
 use Rattle.run_data.specs.declared.entry.FrameText.TheVariants.{Opening, Closing, Bytes, Line}
@@ -49,6 +49,12 @@ kept w p = is_held (heard_of w p)
 
 abbrev pub stands_at : Work → ℕ → Stance
 stands_at w p = stance w.what.peer w.phase (kept w p) p
+
+-- the version is known
+abbrev pub is_greeted : Stance → Bool
+is_greeted AtOpen = false
+is_greeted AtGreet = false
+is_greeted at = true
 
 -- ---- what a session takes without a word
 

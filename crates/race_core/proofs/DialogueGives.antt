@@ -142,17 +142,17 @@ module _ (key : List ℕ) (at left : ℕ) (good : Bool) (v : ℕ) where
 
   module _ (h : Here) (on : Stance) (up down : List FrameText) (x : Dialogue.Dialogue on (made v giving) up down) where
     abbrev Gone : Reply → Type 0
-    Gone y = Says on (gave_first (made v giving) y.says) up down y.says
+    Gone y = Says on (made v giving) (gave_first (made v giving) y.says) up down y.says
 
     word_says : left ≡ 0 → (b : Bool) → Gone (reply (Talk None) (if b then Valid else Invalid))
-    word_says none true = inr ((refl, tt), gives_on (made v Gave) (Line (text_of Valid)) (word_longer Valid none (inl refl)) on up down x)
-    word_says none false = inr ((refl, tt), gives_on (made v Gave) (Line (text_of Invalid)) (word_longer Invalid none (inr refl)) on up down x)
+    word_says none true = inr ((refl, tt), (λ g. refl), gives_on (made v Gave) (Line (text_of Valid)) (word_longer Valid none (inl refl)) on up down x)
+    word_says none false = inr ((refl, tt), (λ g. refl), gives_on (made v Gave) (Line (text_of Invalid)) (word_longer Invalid none (inr refl)) on up down x)
 
     piece_says : (n : ℕ) → (nat_lt 0 n && nat_le n left) ≡ true → Gone (on_piece h key at n)
     piece_says n fits = unless_found Gone (failing h.fails (calls.Read ∷ [])) (λ call. record { kind = Fault call (by_of h); says = Closing ∷ [] })
         (if reaches (content_of h key) (at + n) then record { kind = Talk None; says = Bytes n ∷ [] } else shuts (close_kind h)) (λ call. inl refl)
         (if_found Gone (reaches (content_of h key) (at + n)) (record { kind = Talk None; says = Bytes n ∷ [] }) (shuts (close_kind h))
-        (λ e. inr ((refl, tt), gives_on (made v (Gives key (at + n) (left - n) good)) (Bytes n) (piece_longer n fits) on up down x)) (λ e. inl refl))
+        (λ e. inr ((refl, tt), (λ g. refl), gives_on (made v (Gives key (at + n) (left - n) good)) (Bytes n) (piece_longer n fits) on up down x)) (λ e. inl refl))
 
     min_fits : (left == 0) ≡ false → (nat_lt 0 (min 32768 left) && nat_le (min 32768 left) left) ≡ true
     min_fits e = let first : nat_lt 0 (min 32768 left) ≡ true = grind (arith, nat_tests) in let second : nat_le (min 32768 left) left ≡ true = grind (arith, nat_tests) in rw first second
@@ -162,16 +162,16 @@ module _ (key : List ℕ) (at left : ℕ) (good : Bool) (v : ℕ) where
         (λ e. word_says (grind (arith, nat_tests)) good) (λ e. piece_says (min 32768 left) (min_fits e))
 
 -- **what a session gives keeps the dialogue**
-pub gives_serves : (h : Here) (on : Stance) (z : Session) (up down : List FrameText) (x : Reply) → Dialogue.Dialogue on z up down → gives_next h z.doing ≡ Some x → Says on (gave_first z x.says) up down x.says
+pub gives_serves : (h : Here) (on : Stance) (z : Session) (up down : List FrameText) (x : Reply) → Dialogue.Dialogue on z up down → gives_next h z.doing ≡ Some x → Says on z (gave_first z x.says) up down x.says
 gives_serves h on z up down x d next = go z.doing refl next
   where
     at_doing : (e : Doing) → z.doing ≡ e → z ≡ made z.version e
     at_doing e is = ap (made z.version) is
 
-    go : (e : Doing) → z.doing ≡ e → gives_next h e ≡ Some x → Says on (gave_first z x.says) up down x.says
+    go : (e : Doing) → z.doing ≡ e → gives_next h e ≡ Some x → Says on z (gave_first z x.says) up down x.says
     go (Gives key at left good) is e =
         let same : (if left == 0 then reply (Talk None) (if good then Valid else Invalid) else on_piece h key at (min 32768 left)) ≡ x = cc in
-        subst (λ (w : Session). Says on (gave_first w x.says) up down x.says) (sym (at_doing (Gives key at left good) is))
-        (subst (λ (y : Reply). Says on (gave_first (made z.version (Gives key at left good)) y.says) up down y.says) same
+        subst (λ (w : Session). Says on w (gave_first w x.says) up down x.says) (sym (at_doing (Gives key at left good) is))
+        (subst (λ (y : Reply). Says on (made z.version (Gives key at left good)) (gave_first (made z.version (Gives key at left good)) y.says) up down y.says) same
         (next_says key at left good z.version h on up down (subst (λ (w : Session). Dialogue.Dialogue on w up down) (at_doing (Gives key at left good) is) d)))
     go e is none = absurd (cc)

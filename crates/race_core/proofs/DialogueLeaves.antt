@@ -10,8 +10,8 @@ use Rattle.run_data.specs.declared.entry.FrameText.TheVariants.{Opening, Closing
 use Rattle.node_model.specs.Rows.{option_is}
 use Rattle.p2p_wire.specs.declared.message.Message.{Message}
 use Rattle.p2p_wire.specs.Messages.{message_of, text_of}
-use Rattle.node_model.specs.Ends.{EndName, end_after, end_sends, end_takes, end_took, sent_at}
-use Rattle.node_model.specs.Sessions.{Session}
+use Rattle.node_model.specs.Ends.{EndName, end_after, end_sends, end_takes, end_took, is_opening, sent_at}
+use Rattle.node_model.specs.Sessions.{Session, is_closing}
 use Rattle.node_model.specs.Jobs
 use Rattle.node_model.specs.Jobs.{Phase, Work, closed_part, job_end, partner, says, taken_message, talks, talks_on, took}
 use Rattle.node_model.specs.Look.{Made}
@@ -43,7 +43,7 @@ talked_here t m = talks (rows_of t) (me t) (talker t m.taken) (made_entry t m) m
 pub talk_keeps : (t : Turn) (m : Made) (peer : ℕ) (next : Phase) → partner t.w.what.peer t.w.phase ≡ Some peer → Local t.w peer m.taken m.sent → (talked_here t m).phase ≡ next → Stays t.w.what.peer next peer
     → (IsLive next → (end_then (end_with t peer) m).opened ≡ true → Keeps t peer m.taken m.sent (stance t.w.what.peer next (kept (talked_here t m) peer) peer))
     → KeepsTo t m (talked t m)
-talk_keeps t m peer next on local goes stays here = subst (λ (p : Option ℕ). KeepsTo t m (talks_on (rows_of t) (me t) x e p)) (sym on)
+talk_keeps t m peer to on local goes stays here = subst (λ (p : Option ℕ). KeepsTo t m (talks_on (rows_of t) (me t) x e p)) (sym on)
     (if_found (λ (y : Work). KeepsTo t m y) (end_after (job_end x peer) (t.ends (job_end x peer)) e).opened (talks (rows_of t) (me t) x e m.sent) (closed_part (me t) x peer x.part) opened closed)
   where
     x : Work
@@ -83,13 +83,16 @@ module _ (t : Turn) (kind : EntryKind) (f : FrameView) (peer : ℕ) (x : Taking 
   live = live_on t.w.what.peer t.w.phase peer x.on
 
   hears_here : (next : Stance) → ((z : Session) (up down : List FrameText) → On phase f z up down → Talk next z up down) → Keeps t peer (Some f) [] next
-  hears_here next keeps = inr (record { live = live; opened = x.opened; keeps = λ z up down v y. subst (λ (us : List FrameText). Talk next z us down) (sym (append-nil up)) (keeps z up down (there z up down y)) })
+  hears_here next keeps = inr (record { live = live; opened = x.opened; none_opens = tt; keeps = λ z up down v y. subst (λ (us : List FrameText). Talk next z us down) (sym (append-nil up)) (keeps z up down (there z up down y)) })
 
   -- something is heard
   pub hears_keeps : (next : Phase) → (took (talker t (Some f)) f.body).phase ≡ next → Stays t.w.what.peer next peer
       → ((z : Session) (up down : List FrameText) → On phase f z up down → Talk (stance t.w.what.peer next (kept (took (talker t (Some f)) f.body) peer) peer) z up down) → Goes t (quietly kind (Some f))
-  hears_keeps next goes stays keeps = (talk_keeps t (quietly kind (Some f)) peer next x.on (takes_here t.w peer f x.of_end) goes stays
-      (λ l o. hears_here (stance t.w.what.peer next (kept (took (talker t (Some f)) f.body) peer) peer) keeps), inl tt)
+  hears_keeps next goes stays keeps = (
+    talk_keeps t (quietly kind (Some f)) peer next x.on (takes_here t.w peer f x.of_end) goes stays
+        (λ l o. hears_here (stance t.w.what.peer next (kept (took (talker t (Some f)) f.body) peer) peer) keeps),
+    inl tt,
+  )
 
   pub hears_to_keeps : (next : Work) → Stays t.w.what.peer next.phase peer
       → ((z : Session) (up down : List FrameText) → On phase f z up down → Talk (stance t.w.what.peer next.phase (kept next peer) peer) z up down) → KeepsTo t (quietly kind (Some f)) next
@@ -98,14 +101,17 @@ module _ (t : Turn) (kind : EntryKind) (f : FrameView) (peer : ℕ) (x : Taking 
 
   says_here : (m : Message) (next : Stance) → ((z : Session) (up down : List FrameText) → KnowsVersion t.w peer z → On phase f z up down → Talk next z (up ++ Line (text_of m) ∷ []) down)
       → Keeps t peer (Some f) (says_to t kind (Some f) peer m).sent next
-  says_here m next keeps = inr (record { live = live; opened = x.opened; keeps = λ z up down v y. keeps z up down v (there z up down y) })
+  says_here m next keeps = inr (record { live = live; opened = x.opened; none_opens = (refl, tt); keeps = λ z up down v y. keeps z up down v (there z up down y) })
 
   -- and something is said
   pub says_keeps : (m : Message) (next : Phase) → message_of (text_of m) ≡ Some m → (says (talker t (Some f)) t.look.time peer (taken_message (Some f)) m).phase ≡ next → Stays t.w.what.peer next peer
       → ((k : Bool) (z : Session) (up down : List FrameText) → KnowsVersion t.w peer z → On phase f z up down → Talk (stance t.w.what.peer next k peer) z (up ++ Line (text_of m) ∷ []) down) → Goes t (says_to t kind (Some f) peer m)
-  says_keeps m next back goes stays keeps = (talk_keeps t (says_to t kind (Some f) peer m) peer next x.on (answers_here t.w peer f (end_with t peer) (Line (text_of m)) x.of_end)
-      (ap (λ (o : Option Message). (Jobs.says_some (talker t (Some f)) t.look.time peer (taken_message (Some f)) o).phase) back ∙ goes) stays
-      (λ l o. says_here m (stance t.w.what.peer next (kept (talked_here t (says_to t kind (Some f) peer m)) peer) peer) (keeps (kept (talked_here t (says_to t kind (Some f) peer m)) peer))), inl (refl, tt))
+  says_keeps m next back goes stays keeps = (
+    talk_keeps t (says_to t kind (Some f) peer m) peer next x.on (answers_here t.w peer f (end_with t peer) (Line (text_of m)) x.of_end)
+        (ap (λ (o : Option Message). (Jobs.says_some (talker t (Some f)) t.look.time peer (taken_message (Some f)) o).phase) back ∙ goes) stays
+        (λ l o. says_here m (stance t.w.what.peer next (kept (talked_here t (says_to t kind (Some f) peer m)) peer) peer) (keeps (kept (talked_here t (says_to t kind (Some f) peer m)) peer))),
+    inl (refl, tt),
+  )
 
   pub says_to_keeps : (m : Message) (next : Work) → Stays t.w.what.peer next.phase peer
       → ((z : Session) (up down : List FrameText) → KnowsVersion t.w peer z → On phase f z up down → Talk (stance t.w.what.peer next.phase (kept next peer) peer) z (up ++ Line (text_of m) ∷ []) down)
@@ -125,32 +131,45 @@ module _ (t : Turn) (kind : EntryKind) (f : FrameView) (peer : ℕ) (x : Taking 
 
   -- it closes the connection itself
   pub short_keeps : FallsShort t (sends_to t kind (Some f) peer (Closing ∷ [])) → Goes t (sends_to t kind (Some f) peer (Closing ∷ []))
-  short_keeps short = (talk_keeps t (sends_to t kind (Some f) peer (Closing ∷ [])) peer t.w.phase x.on (answers_here t.w peer f (end_with t peer) Closing x.of_end)
-      (talker_phase t (Some f)) (inr x.on) (λ l o. absurd (true≢false (sym o))), inr short)
+  short_keeps short = (
+    talk_keeps t (sends_to t kind (Some f) peer (Closing ∷ [])) peer t.w.phase x.on (answers_here t.w peer f (end_with t peer) Closing x.of_end)
+        (talker_phase t (Some f)) (inr x.on) (λ l o. absurd (true≢false (sym o))),
+    inr short,
+  )
 
 -- ---- steps that take none, on the partner's open connection
 
 module _ (t : Turn) (kind : EntryKind) (peer : ℕ) (phase : Phase) (is : t.w.phase ≡ phase) (on : partner t.w.what.peer t.w.phase ≡ Some peer) where
   pub closes_keeps : FallsShort t (sends_to t kind None peer (Closing ∷ [])) → Goes t (sends_to t kind None peer (Closing ∷ []))
-  closes_keeps short = (talk_keeps t (sends_to t kind None peer (Closing ∷ [])) peer t.w.phase on (sends_here t.w peer (end_with t peer) Closing)
-      (talker_phase t None) (inr on) (λ l o. absurd (true≢false (sym o))), inr short)
+  closes_keeps short = (
+    talk_keeps t (sends_to t kind None peer (Closing ∷ [])) peer t.w.phase on (sends_here t.w peer (end_with t peer) Closing)
+        (talker_phase t None) (inr on) (λ l o. absurd (true≢false (sym o))),
+    inr short,
+  )
 
-  pub sends_keeps : (body : FrameText) (next : Phase) → Rattle.node_model.specs.Sessions.is_closing body ≡ false → (end_with t peer).opened ≡ true → (Jobs.sends (talker t None) t.look.time peer None body).phase ≡ next → Stays t.w.what.peer next peer
+  pub sends_keeps : (body : FrameText) (next : Phase) → is_closing body ≡ false → is_opening body ≡ false → (end_with t peer).opened ≡ true → (Jobs.sends (talker t None) t.look.time peer None body).phase ≡ next → Stays t.w.what.peer next peer
       → ((k : Bool) (z : Session) (up down : List FrameText) → Talk (phase_stance phase) z up down → Talk (stance t.w.what.peer next k peer) z (up ++ body ∷ []) down) → Goes t (sends_to t kind None peer (body ∷ []))
-  sends_keeps body next closing opened goes stays keeps = (talk_keeps t (sends_to t kind None peer (body ∷ [])) peer next on (sends_here t.w peer (end_with t peer) body) goes stays
-      (λ l o. inr (record {
-        live = live_on t.w.what.peer t.w.phase peer on;
-        opened = opened;
-        keeps = λ z up down v y. keeps (kept (talked_here t (sends_to t kind None peer (body ∷ []))) peer) z up down
-            (subst (λ (q : Phase). Talk (phase_stance q) z up down) is (subst (λ (at : Stance). Talk at z up down) (stands_on t.w.what.peer t.w.phase (kept t.w peer) peer on) y));
-      })), inl (closing, tt))
+  sends_keeps body next closing opening opened goes stays keeps = (
+    talk_keeps t (sends_to t kind None peer (body ∷ [])) peer next on (sends_here t.w peer (end_with t peer) body) goes stays
+        (λ l o. inr (record {
+          live = live_on t.w.what.peer t.w.phase peer on;
+          opened = opened;
+          none_opens = (opening, tt);
+          keeps = λ z up down v y. keeps (kept (talked_here t (sends_to t kind None peer (body ∷ []))) peer) z up down
+              (subst (λ (q : Phase). Talk (phase_stance q) z up down) is (subst (λ (at : Stance). Talk at z up down) (stands_on t.w.what.peer t.w.phase (kept t.w peer) peer on) y));
+        })),
+    inl (closing, tt),
+  )
 
   -- the connection was closed: that is handled as Close
   pub lost_keeps : (end_with t peer).opened ≡ false → Goes t (quietly kind None)
-  lost_keeps shut = (subst (λ (p : Option ℕ). KeepsTo t m (talks_on (rows_of t) (me t) x (made_entry t m) p)) (sym on)
-      (subst (λ (b : Bool). KeepsTo t m (if b then talks (rows_of t) (me t) x (made_entry t m) [] else closed_part (me t) x peer x.part)) (sym closed)
-      (local_keeps t m (closed_part (me t) x peer x.part) peer (quiet_here t.w peer) (live_on t.w.what.peer t.w.phase peer on) (inr on) (inl (closed_alone t.w.what.peer (me t) x peer x.part))
-      (λ l o. absurd (true≢false (sym o ∙ shut))))), inl tt)
+  lost_keeps shut = (
+    subst (λ (p : Option ℕ). KeepsTo t m (talks_on (rows_of t) (me t) x (made_entry t m) p)) (sym on)
+        (subst (λ (b : Bool). KeepsTo t m (if b then talks (rows_of t) (me t) x (made_entry t m) [] else closed_part (me t) x peer x.part)) (sym closed)
+        (local_keeps t m (closed_part (me t) x peer x.part) peer (quiet_here t.w peer) (live_on t.w.what.peer t.w.phase peer on) (inr on) (inl (closed_alone t.w.what.peer (me t) x peer x.part))
+        (λ l o. absurd (true≢false (sym o ∙ shut))))),
+    inl tt,
+  )
     where
       m : Made
       m = quietly kind None
@@ -171,22 +190,29 @@ module _ (t : Turn) (alone : partner t.w.what.peer t.w.phase ≡ None) (live : I
 
   -- the connection is opened
   pub opens_keeps : (kind : EntryKind) (peer : ℕ) → Goes t (sends_to t kind None peer (Opening ∷ []))
-  opens_keeps kind peer = (alone_keeps (sends_to t kind None peer (Opening ∷ [])) (talked_here t (sends_to t kind None peer (Opening ∷ []))) peer refl (sends_here t.w peer (end_with t peer) Opening) (inr refl)
-      (λ o. inl (record { opens = refl; takes_none = refl; stands = stands_on t.w.what.peer (Jobs.Opens peer) (kept (talked_here t (sends_to t kind None peer (Opening ∷ []))) peer) peer refl })), inl (refl, tt))
+  opens_keeps kind peer = (
+    alone_keeps (sends_to t kind None peer (Opening ∷ [])) (talked_here t (sends_to t kind None peer (Opening ∷ []))) peer refl (sends_here t.w peer (end_with t peer) Opening) (inr refl)
+        (λ o. inl (record { opens = refl; takes_none = refl; stands = stands_on t.w.what.peer (Jobs.Opens peer) (kept (talked_here t (sends_to t kind None peer (Opening ∷ []))) peer) peer refl })),
+    inl (refl, tt),
+  )
 
   -- a request on one that is open
   pub first_keeps : (kind : EntryKind) (peer : ℕ) (m : Message) (next : Phase) → kept t.w peer ≡ false → (end_with t peer).opened ≡ true → message_of (text_of m) ≡ Some m
       → ((says (talker t None) t.look.time peer None m).phase ≡ next) → Stays t.w.what.peer next peer
       → ((k : Bool) (z : Session) (up down : List FrameText) → KnowsVersion t.w peer z → Talk Dialogue.Away z up down → Talk (stance t.w.what.peer next k peer) z (up ++ Line (text_of m) ∷ []) down)
       → Goes t (says_to t kind None peer m)
-  first_keeps kind peer m next free opened back goes stays keeps = (alone_keeps (says_to t kind None peer m) y peer refl (sends_here t.w peer (end_with t peer) (Line (text_of m)))
-      (subst (λ (q : Phase). Stays t.w.what.peer q peer) (sym at) stays)
-      (λ o. inr (record {
-        live = live;
-        opened = opened;
-        keeps = λ z up down v x. subst (λ (q : Phase). Talk (stance t.w.what.peer q (kept y peer) peer) z (up ++ Line (text_of m) ∷ []) down) (sym at)
-            (keeps (kept y peer) z up down v (subst (λ (k : Bool). Talk (rests k) z up down) free (subst (λ (s : Stance). Talk s z up down) (rests_at t.w.what.peer t.w.phase (kept t.w peer) peer (none_is (partner t.w.what.peer t.w.phase) peer alone)) x)));
-      })), inl (refl, tt))
+  first_keeps kind peer m next free opened back goes stays keeps = (
+    alone_keeps (says_to t kind None peer m) y peer refl (sends_here t.w peer (end_with t peer) (Line (text_of m)))
+        (subst (λ (q : Phase). Stays t.w.what.peer q peer) (sym at) stays)
+        (λ o. inr (record {
+          live = live;
+          opened = opened;
+          none_opens = (refl, tt);
+          keeps = λ z up down v x. subst (λ (q : Phase). Talk (stance t.w.what.peer q (kept y peer) peer) z (up ++ Line (text_of m) ∷ []) down) (sym at)
+              (keeps (kept y peer) z up down v (subst (λ (k : Bool). Talk (rests k) z up down) free (subst (λ (s : Stance). Talk s z up down) (rests_at t.w.what.peer t.w.phase (kept t.w peer) peer (none_is (partner t.w.what.peer t.w.phase) peer alone)) x)));
+        })),
+    inl (refl, tt),
+  )
     where
       y : Work
       y = talked_here t (says_to t kind None peer m)
@@ -199,6 +225,7 @@ module _ (t : Turn) (alone : partner t.w.what.peer t.w.phase ≡ None) (live : I
   still_keeps kind next none p locks l o = inr (record {
     live = live;
     opened = o;
+    none_opens = tt;
     keeps = λ z up down v x. subst (λ (us : List FrameText). Talk (stance t.w.what.peer next.phase (kept next p) p) z us down) (sym (append-nil up))
         (subst (λ (at : Stance). Talk at z up down) (sym (rests_at t.w.what.peer next.phase (kept next p) p (none_is (partner t.w.what.peer next.phase) p none)))
         (rests_more z up down (kept t.w p) (kept next p) (locks was) (subst (λ (at : Stance). Talk at z up down) (rests_at t.w.what.peer t.w.phase (kept t.w p) p was) x)));

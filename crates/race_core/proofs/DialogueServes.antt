@@ -78,8 +78,8 @@ module _ (size : List ℕ → Option ℕ) (h : Here) (spot : Spot h) where
   -- ---- requests
 
   request_says : (at : Stance) (v : ℕ) (m : Message) → Dialogue.Asking at v m
-      → Says at (after_message size (made v Waits) m (on_message h v Waits m).kind (told_first (on_message h v Waits m).says)) [] [] (on_message h v Waits m).says
-  request_says Dialogue.AtGreet v (Version n) a = subst (λ n. Says Dialogue.AtGreet (after_message size (made v Waits) (Version n) (on_message h v Waits (Version n)).kind (told_first (on_message h v Waits (Version n)).says)) [] [] (on_message h v Waits (Version n)).says)
+      → Says at (made v Waits) (after_message size (made v Waits) m (on_message h v Waits m).kind (told_first (on_message h v Waits m).says)) [] [] (on_message h v Waits m).says
+  request_says Dialogue.AtGreet v (Version n) a = subst (λ n. Says Dialogue.AtGreet (made v Waits) (after_message size (made v Waits) (Version n) (on_message h v Waits (Version n)).kind (told_first (on_message h v Waits (Version n)).says)) [] [] (on_message h v Waits (Version n)).says)
       (sym a.0) (DialogueReplies.version_served size h spot (made v Waits) refl)
   request_says Dialogue.AtGet v (Get n file key) a = DialogueReplies.get_served size h spot (made v Waits) refl n file key a
   request_says Dialogue.AtPut v (Put file key) a = DialogueReplies.put_served size h spot (made v Waits) refl file key a
@@ -92,14 +92,14 @@ module _ (size : List ℕ → Option ℕ) (h : Here) (spot : Spot h) where
 
   -- VALID, as the bytes are there
   valid_says : (v : ℕ) (key : List ℕ) (k : ℕ) → 1 ≤ v
-      → Says Dialogue.AtAnswer (after_message size (made v (Took key k)) Valid (on_message h v (Took key k) Valid).kind (told_first (on_message h v (Took key k) Valid).says)) [] [] (on_message h v (Took key k) Valid).says
+      → Says Dialogue.AtAnswer (made v (Took key k)) (after_message size (made v (Took key k)) Valid (on_message h v (Took key k) Valid).kind (told_first (on_message h v (Took key k) Valid).says)) [] [] (on_message h v (Took key k) Valid).says
   valid_says v key k speaks = unless_found Answers (failing h.fails (to_commit h.right)) (λ call. record { kind = Fault call (by_of h); says = refuses }) (valid_answer (by_of h) k key h.right) (λ call. refused (Fault call (by_of h))) (go h.right)
     where
       Answers : Reply → Type 0
-      Answers x = Says Dialogue.AtAnswer (after_message size (made v (Took key k)) Valid x.kind (told_first x.says)) [] [] x.says
+      Answers x = Says Dialogue.AtAnswer (made v (Took key k)) (after_message size (made v (Took key k)) Valid x.kind (told_first x.says)) [] [] x.says
 
-      word : (kind : EntryKind) (m : Message) → message_of (text_of m) ≡ Some m → (m ≡ Success) ⊎ (m ≡ Failure) → Says Dialogue.AtAnswer (made v Waits) [] [] (Line (text_of m) ∷ [])
-      word kind m back is = inr ((refl, tt), inr (record { none_up = refl; body = Line (text_of m); alone = refl; fits = subst (Dialogue.Answered Dialogue.AtAnswer (made v Waits)) (sym back) (fit m is) }))
+      word : (kind : EntryKind) (m : Message) → message_of (text_of m) ≡ Some m → (m ≡ Success) ⊎ (m ≡ Failure) → Says Dialogue.AtAnswer (made v (Took key k)) (made v Waits) [] [] (Line (text_of m) ∷ [])
+      word kind m back is = inr ((refl, tt), (λ g. refl), inr (record { none_up = refl; body = Line (text_of m); alone = refl; fits = subst (Dialogue.Answered Dialogue.AtAnswer (made v Waits)) (sym back) (fit m is) }))
         where
           fit : (m : Message) → (m ≡ Success) ⊎ (m ≡ Failure) → Dialogue.Answered Dialogue.AtAnswer (made v Waits) (Some m)
           fit Success is = record { waits = refl; speaks = speaks }
@@ -107,22 +107,22 @@ module _ (size : List ℕ → Option ℕ) (h : Here) (spot : Spot h) where
           fit m (inl e) = absurd (cc)
           fit m (inr e) = absurd (cc)
 
-      refused : (kind : EntryKind) → Says Dialogue.AtAnswer (made v Waits) [] [] (Line (text_of Failure) ∷ [])
+      refused : (kind : EntryKind) → Says Dialogue.AtAnswer (made v (Took key k)) (made v Waits) [] [] (Line (text_of Failure) ∷ [])
       refused kind = word kind Failure refl (inr refl)
 
-      go : (right : Bool) → Says Dialogue.AtAnswer (after_message size (made v (Took key k)) Valid (valid_answer (by_of h) k key right).kind (told_first (valid_answer (by_of h) k key right).says)) [] [] (valid_answer (by_of h) k key right).says
+      go : (right : Bool) → Says Dialogue.AtAnswer (made v (Took key k)) (after_message size (made v (Took key k)) Valid (valid_answer (by_of h) k key right).kind (told_first (valid_answer (by_of h) k key right).says)) [] [] (valid_answer (by_of h) k key right).says
       go true = word (Gain (by_of h) k key) Success refl (inl refl)
       go false = refused (Talk None)
 
   -- ---- any frame
 
   abbrev Serves : Stance → Session → FrameText → List FrameText → List FrameText → Type 0
-  Serves at z b up down = Says at (after_frame size z b (on_frame h z b)) up down (on_frame h z b).says
+  Serves at z b up down = Says at z (after_frame size z b (on_frame h z b)) up down (on_frame h z b).says
 
   -- a line, as it is read
   line_says : (at : Stance) (v : ℕ) (d : Doing) (b : FrameText) (m : Message) → line_in b ≡ Some m
-      → Says at (after_message size (made v d) m (on_message h v d m).kind (told_first (on_message h v d m).says)) [] [] (on_message h v d m).says → Serves at (made v d) b [] []
-  line_says at v d (Line text) m told x = subst (λ (o : Option Message). Says at (took_message size (on_text h (made v d) o).kind (made v d) (told_first (on_text h (made v d) o).says) o) [] [] (on_text h (made v d) o).says) (sym told) x
+      → Says at (made v d) (after_message size (made v d) m (on_message h v d m).kind (told_first (on_message h v d m).says)) [] [] (on_message h v d m).says → Serves at (made v d) b [] []
+  line_says at v d (Line text) m told x = subst (λ (o : Option Message). Says at (made v d) (took_message size (on_text h (made v d) o).kind (made v d) (told_first (on_text h (made v d) o).says) o) [] [] (on_text h (made v d) o).says) (sym told) x
   line_says at v d Opening m told x = absurd (cc)
   line_says at v d Closing m told x = absurd (cc)
   line_says at v d (Bytes n) m told x = absurd (cc)
@@ -131,7 +131,7 @@ module _ (size : List ℕ → Option ℕ) (h : Here) (spot : Spot h) where
   silent_serves : (at : Stance) (z : Session) (b : FrameText) (next : Doing) (up : List FrameText) → Dialogue.silently z.doing b ≡ Some next → Dialogue.Dialogue at (made z.version next) up [] → Serves at z b up []
   silent_serves at z b next up e x = elim (silent_frame z.version z.doing b next e) [
     | inl shut ↦ inl shut
-    | inr y ↦ inr (subst Opens (sym y.0) tt, subst (λ (says : List FrameText). Dialogue.Dialogue at (after_frame size z b (on_frame h z b)) up says) (sym y.0) (subst (λ (w : Session). Dialogue.Dialogue at w up []) (sym y.1) x))
+    | inr y ↦ inr (subst Opens (sym y.0) tt, (λ g. ap (λ (w : Session). w.version) y.1), subst (λ (says : List FrameText). Dialogue.Dialogue at (after_frame size z b (on_frame h z b)) up says) (sym y.0) (subst (λ (w : Session). Dialogue.Dialogue at w up []) (sym y.1) x))
   ]
 
   no_down : (at : Stance) (z : Session) (b : FrameText) (up down : List FrameText) → down ≡ [] → Serves at z b up [] → Serves at z b up down

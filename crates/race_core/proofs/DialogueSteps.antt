@@ -200,8 +200,12 @@ pub word_acks : (z : Session) (up down : List FrameText) (b : FrameText) (m : Me
 word_acks z up down b m told ack x = go b told x.1
   where
     go : (b : FrameText) → (line_in b ≡ Some Valid) ⊎ (line_in b ≡ Some Invalid) → Dialogue.Giving 0 z (b ∷ down) → Talk Dialogue.Away z (up ++ Line (text_of m) ∷ []) down
-    go (Line text) told y = (y.1, y.2, subst (λ (us : List FrameText). Dialogue.Settled (λ d. d ≡ Waits) z.doing (us ++ Line (text_of m) ∷ [])) (sym x.0)
-        (subst (λ (d : Doing). Dialogue.Settled (λ d. d ≡ Waits) d (Line (text_of m) ∷ [])) (sym y.3) (Waits, ack, refl)))
+    go (Line text) told y = (
+      y.1,
+      y.2,
+      subst (λ (us : List FrameText). Dialogue.Settled (λ d. d ≡ Waits) z.doing (us ++ Line (text_of m) ∷ [])) (sym x.0)
+          (subst (λ (d : Doing). Dialogue.Settled (λ d. d ≡ Waits) d (Line (text_of m) ∷ [])) (sym y.3) (Waits, ack, refl)),
+    )
     go Opening told y = absurd (elim told [ inl e ↦ (let no' : None ≡ Some Valid = e in cc) | inr e ↦ (let no' : None ≡ Some Invalid = e in cc) ])
     go Closing told y = absurd (elim told [ inl e ↦ (let no' : None ≡ Some Valid = e in cc) | inr e ↦ (let no' : None ≡ Some Invalid = e in cc) ])
     go (Bytes n) told y = absurd (elim told [ inl e ↦ (let no' : None ≡ Some Valid = e in cc) | inr e ↦ (let no' : None ≡ Some Invalid = e in cc) ])

@@ -1,5 +1,5 @@
 -- Each step of a job keeps the dialogue on its connections, where what it takes suits its phase: the steps that take a frame, and all.
-use Rattle.std.proofs.Common.{◌≡◌, ◌≢◌, ℕ, ◌+◌, ◌-◌, ◌/◌, ◌^◌, ◌≤◌, Bool, true, false, List, [], ◌∷◌, ◌++◌, Option, Some, None, inl, inr, ◌⊎◌, refl, sym, ap, ◌∙◌, subst, arith}
+use Rattle.std.proofs.Common.{◌≡◌, ℕ, ◌+◌, ◌-◌, ◌/◌, ◌^◌, ◌≤◌, Bool, true, false, List, [], ◌∷◌, ◌++◌, Option, Some, None, inl, inr, ◌⊎◌, refl, sym, ap, ◌∙◌, subst, arith}
 use Rattle.std.specs.Prelude.{if◌then◌else◌, ◌==◌, ◌&&◌, not, min, nat_lt, nat_le, bytes_eq, codes}
 use Rattle.std.specs.List.{list_all, list_any}
 use Rattle.std.proofs.lemmas.Bool.{true≢false}
@@ -17,7 +17,6 @@ use Rattle.run_data.specs.declared.job.Outcome.TheVariants.{Got, Copied, Refused
 use Rattle.run_data.specs.declared.job.DropRefusal.TheVariants as refusals
 use Rattle.run_data.specs.declared.job.TransferRefusal.TheVariants as failures
 use Rattle.node_model.specs.Rows.{is_lost_ordered}
-use Rattle.node_model.specs.Evidence.{Asked}
 use Rattle.p2p_wire.specs.declared.message.Message.{Message}
 use Rattle.p2p_wire.specs.declared.message.Message.TheVariants.{AuthSuccess, Version, CheckPresent, RemoveBefore, Timestamp, PutFrom, AlreadyHave, Data, Valid, Invalid, Success, Failure, Error}
 use Rattle.p2p_wire.specs.Messages.{message_of, text_of}
@@ -35,6 +34,7 @@ use Rattle.node_model.specs.TransferStep.{takes_get, takes_put, content_of, gain
 use Rattle.node_model.specs.Turns.{takes_answer, awaits, by_partner, goes_on, has_room, needs, with_partner, is_awaiting, goes, outcome_of, takes, takes_frame, takes_text}
 use Rattle.race_core.proofs.Plain.{and_true, eqb_refl}
 use Rattle.race_core.proofs.Cases.{find_was, if_found}
+use Rattle.race_core.proofs.JobFacts.{frame_found}
 use Rattle.race_core.proofs.TalkFacts.{Fits}
 use Rattle.race_core.proofs.ClientCounts.{IsLive, none_is}
 use Rattle.race_core.proofs.ClientTurns.{talker, talker_phase}
@@ -46,6 +46,7 @@ use Rattle.race_core.proofs.DialogueSteps.{asked_reply, away_asks, bytes_gives, 
 use Rattle.race_core.proofs.DialogueTurns.{KeepsTo, rests_at, stands_on}
 use Rattle.race_core.proofs.DialogueLeaves.{closes_keeps, hears_keeps, hears_to_keeps, lost_keeps, says_keeps, says_to_keeps, sends_keeps, short_keeps, shut_keeps}
 use Rattle.race_core.proofs.DialogueWalk.{Asks, GoodMade, IsVersion, Walks, failure_reads, fault_on, first_asks, first_step_good, dead_good, ends_good, is_plain, next_step_good, order_good, plain_in, took_listens, valid_reads}
+
 abbrev Converses : Stance → Session → List FrameText → List FrameText → Type 0
 Converses at z up down = Dialogue.Dialogue at z up down
 
@@ -204,10 +205,12 @@ module _ (t : Turn) (f : FrameView) (peer : ℕ) (x : Taking t f peer) (walks : 
   late_good n outcome is told =
       let rest : Made = record { kind = ends_job t.w.number outcome; taken = Some f; sent = farewells t (is_lost_ordered outcome); lines = [] } in
       attempts_even (GoodMade t) t (to_release (owns_share t && not (is_lost_ordered outcome))) (Some f) rest
-      (λ call e. subst (λ (c : Call). GoodMade t (quietly (Fault c (by_me t)) (Some f))) (sym (release_is (owns_share t && not (is_lost_ordered outcome)) call e))
-      (subst (λ (p : Phase). KeepsTo t (quietly (Fault calls.Unhold (by_me t)) (Some f)) (unreleased t.w t.look.time p)) (sym is)
-      (hears_to_keeps t (Fault calls.Unhold (by_me t)) f peer x AsksTime is (Jobs.to_phase t.w (Late t.look.time)) (inl refl)
-      (λ z up down y. to_rest t.w.what.peer (Late t.look.time) (kept t.w peer) peer z up down refl (asked_away Dialogue.AtTime (Timestamp n) told (λ z a. a.0) z up down y))), inl tt)) tt
+      (λ call e. subst (λ (c : Call). GoodMade t (quietly (Fault c (by_me t)) (Some f))) (sym (release_is (owns_share t && not (is_lost_ordered outcome)) call e)) (
+        subst (λ (p : Phase). KeepsTo t (quietly (Fault calls.Unhold (by_me t)) (Some f)) (unreleased t.w t.look.time p)) (sym is)
+            (hears_to_keeps t (Fault calls.Unhold (by_me t)) f peer x AsksTime is (Jobs.to_phase t.w (Late t.look.time)) (inl refl)
+            (λ z up down y. to_rest t.w.what.peer (Late t.look.time) (kept t.w peer) peer z up down refl (asked_away Dialogue.AtTime (Timestamp n) told (λ z a. a.0) z up down y))),
+        inl tt,
+      )) tt
 
   times_good : (n : ℕ) → nat_lt n (2 ^ 61) ≡ true → t.w.part ≡ Drops → side_of t.w ≡ Remote → t.w.phase ≡ AsksTime → line_in f.body ≡ Some (Timestamp n)
       → (end : Option ℕ) → first_end t ≡ end → GoodMade t (times t f n end)
@@ -268,11 +271,14 @@ module _ (t : Turn) (f : FrameView) (peer : ℕ) (x : Taking t f peer) (walks : 
       (λ k z up down v y. to_rest t.w.what.peer Next k peer z (up ++ Line (text_of Failure) ∷ []) down refl (word_acks z up down f.body Failure told refl y))
 
   gains_good : (p start size : ℕ) → t.w.phase ≡ GetsWord p start size → line_in f.body ≡ Some Valid → (right : Bool) → GoodMade t (gains t f peer size right)
-  gains_good p start size is told true = (subst (λ (q : Phase). KeepsTo t (says_to t (Gain (by_me t) size (key_of t)) (Some f) peer Success) (Jobs.gained t.w q)) (sym is)
-      (let done = transferred t.w (Got (Some p) (Some start)) in
-      says_to_keeps t (Gain (by_me t) size (key_of t)) f peer x (GetsWord p start size) is Success done (inl (transferred_alone t.w.what.peer t.w (Got (Some p) (Some start))))
-      (λ z up down v y. to_rest t.w.what.peer done.phase (kept done peer) peer z (up ++ Line (text_of Success) ∷ []) down (transferred_alone t.w.what.peer t.w (Got (Some p) (Some start)))
-      (word_acks z up down f.body Success (inl told) refl y))), inl (refl, tt))
+  gains_good p start size is told true = (
+    subst (λ (q : Phase). KeepsTo t (says_to t (Gain (by_me t) size (key_of t)) (Some f) peer Success) (Jobs.gained t.w q)) (sym is)
+        (let done = transferred t.w (Got (Some p) (Some start)) in
+        says_to_keeps t (Gain (by_me t) size (key_of t)) f peer x (GetsWord p start size) is Success done (inl (transferred_alone t.w.what.peer t.w (Got (Some p) (Some start))))
+        (λ z up down v y. to_rest t.w.what.peer done.phase (kept done peer) peer z (up ++ Line (text_of Success) ∷ []) down (transferred_alone t.w.what.peer t.w (Got (Some p) (Some start)))
+        (word_acks z up down f.body Success (inl told) refl y))),
+    inl (refl, tt),
+  )
   gains_good p start size is told false = refused_good p start size is (inl told)
 
   commit_plain : (right : Bool) (call : Call) → list_any (same_call call) (to_commit right) ≡ true → is_plain call ≡ true
@@ -387,14 +393,14 @@ piece_good t peer start at left is opened =
 
     go : (b : Bool) → reaches (content_of t) (at + n) ≡ b → GoodMade t (sends_to t (talk t) None peer ((if b then Bytes n else Closing) ∷ []))
     go false e = closes_keeps t (talk t) peer (PutsBytes peer start at left) is on (record { place = at + n; short = e; why = inr (peer, start, at, left, n, is, min_below left, refl, refl) })
-    go true e = sends_keeps t (talk t) peer (PutsBytes peer start at left) is on (Bytes n) (puts_more peer start (at + n) (left - n)) refl opened (ap (λ (q : Phase). Jobs.puts_bytes n q) (talker_phase t None ∙ is))
+    go true e = sends_keeps t (talk t) peer (PutsBytes peer start at left) is on (Bytes n) (puts_more peer start (at + n) (left - n)) refl refl opened (ap (λ (q : Phase). Jobs.puts_bytes n q) (talker_phase t None ∙ is))
         (inr (puts_on t.w.what.peer peer start (at + n) (left - n)))
         (λ k z up down y. to_on t.w.what.peer (puts_more peer start (at + n) (left - n)) k peer z (up ++ Bytes n ∷ []) down (puts_on t.w.what.peer peer start (at + n) (left - n))
         (piece_sends peer start at left n z up down (more z up down y) y))
 
 word_good : (t : Turn) (peer start : ℕ) → t.w.phase ≡ PutsWord peer start → (end_with t peer).opened ≡ true → GoodMade t (says_to t (talk t) None peer Valid)
 word_good t peer start is opened =
-    sends_keeps t (talk t) peer (PutsWord peer start) is (ap (λ (p : Phase). partner t.w.what.peer p) is) (Line (text_of Valid)) (PutsAnswer peer start) refl opened
+    sends_keeps t (talk t) peer (PutsWord peer start) is (ap (λ (p : Phase). partner t.w.what.peer p) is) (Line (text_of Valid)) (PutsAnswer peer start) refl refl opened
     (ap (λ (q : Phase). Jobs.puts_answer q) (talker_phase t None ∙ is)) (inr refl)
     (λ k z up down y. to_on t.w.what.peer (PutsAnswer peer start) k peer z (up ++ Line (text_of Valid) ∷ []) down refl (valid_sends z up down valid_reads y))
 
@@ -418,11 +424,11 @@ on_good t m good e = go (list_all (has_room t) (needs t t.w.phase)) e
     go true g = let same : goes t t.w.phase ≡ m = cc in subst (GoodMade t) same good
     go false g = absurd (cc)
 
--- what waits for the job suits its phase
-abbrev pub WaitsSuit : Turn → Type 0
-WaitsSuit t = (peer : ℕ) → partner t.w.what.peer t.w.phase ≡ Some peer → (end_with t peer).opened ≡ true → is_awaiting t.w.phase ≡ true → (f : FrameView) → waiting (end_with t peer) t.look (job_end t.w peer) ≡ Some f → Suits t.w.phase f.body
+-- what waits for the job suits its phase, where that is taken
+abbrev pub WaitsSuit : Turn → Made → Type 0
+WaitsSuit t m = (peer : ℕ) → partner t.w.what.peer t.w.phase ≡ Some peer → (end_with t peer).opened ≡ true → is_awaiting t.w.phase ≡ true → (f : FrameView) → waiting (end_with t peer) t.look (job_end t.w peer) ≡ Some f → m.taken ≡ Some f → Suits t.w.phase f.body
 
-wait_good : (t : Turn) (peer : ℕ) (m : Made) → Walks t → WaitsSuit t → partner t.w.what.peer t.w.phase ≡ Some peer → is_awaiting t.w.phase ≡ true → (end_with t peer).opened ≡ true
+wait_good : (t : Turn) (peer : ℕ) (m : Made) → Walks t → WaitsSuit t m → partner t.w.what.peer t.w.phase ≡ Some peer → is_awaiting t.w.phase ≡ true → (end_with t peer).opened ≡ true
     → (f : Option FrameView) → waiting (end_with t peer) t.look (job_end t.w peer) ≡ f → awaits t peer f ≡ Some m → GoodMade t m
 wait_good t peer m walks suit on awaiting opened None is e = absurd (cc)
 wait_good t peer m walks suit on awaiting opened (Some f) is e = go (has_room t peer) e
@@ -433,9 +439,9 @@ wait_good t peer m walks suit on awaiting opened (Some f) is e = go (has_room t 
         let same : takes_frame t peer f f.body ≡ m = cc in
         let was = find_was (λ g. takes_at (job_end t.w peer) g && may_take (end_with t peer) g) t.look.at_hand f is in
         let both = and_true (takes_at (job_end t.w peer) f) (may_take (end_with t peer) f) was.1 in
-        subst (GoodMade t) same (frame_good t f peer (record { on = on; awaiting = awaiting; opened = opened; of_end = both.0 }) walks f.body refl (suit peer on opened awaiting f is))
+        subst (GoodMade t) same (frame_good t f peer (record { on = on; awaiting = awaiting; opened = opened; of_end = both.0 }) walks f.body refl (suit peer on opened awaiting f is (subst (λ (x : Made). x.taken ≡ Some f) same (frame_found t peer f on f.body refl).0)))
 
-with_good : (t : Turn) (peer : ℕ) (m : Made) → Walks t → WaitsSuit t → partner t.w.what.peer t.w.phase ≡ Some peer → (b : Bool) → (end_with t peer).opened ≡ b → with_partner t peer b ≡ Some m → GoodMade t m
+with_good : (t : Turn) (peer : ℕ) (m : Made) → Walks t → WaitsSuit t m → partner t.w.what.peer t.w.phase ≡ Some peer → (b : Bool) → (end_with t peer).opened ≡ b → with_partner t peer b ≡ Some m → GoodMade t m
 with_good t peer m walks suit on false opened e = let same : quietly (talk t) None ≡ m = cc in subst (GoodMade t) same (lost_keeps t (talk t) peer t.w.phase refl on opened)
 with_good t peer m walks suit on true opened e = go (is_awaiting t.w.phase) refl e
   where
@@ -444,6 +450,6 @@ with_good t peer m walks suit on true opened e = go (is_awaiting t.w.phase) refl
     go false idle g = on_good t m (goes_on_good t peer on opened idle t.w.phase refl) g
 
 -- **each step of a job keeps the dialogue**, where what waits for it suits its phase
-pub partner_good : (t : Turn) (m : Made) → Walks t → WaitsSuit t → (p : Option ℕ) → partner t.w.what.peer t.w.phase ≡ p → by_partner t p ≡ Some m → GoodMade t m
+pub partner_good : (t : Turn) (m : Made) → Walks t → WaitsSuit t m → (p : Option ℕ) → partner t.w.what.peer t.w.phase ≡ p → by_partner t p ≡ Some m → GoodMade t m
 partner_good t m walks suit None on e = on_good t m (goes_alone t walks on t.w.phase refl) e
 partner_good t m walks suit (Some peer) on e = with_good t peer m walks suit on (end_with t peer).opened refl e

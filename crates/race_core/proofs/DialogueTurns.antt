@@ -9,17 +9,17 @@ use Rattle.run_data.specs.declared.entry.FrameText.{FrameText}
 use Rattle.run_data.specs.declared.entry.FrameText.TheVariants.{Opening}
 use Rattle.node_model.specs.Rows.{option_is}
 use Rattle.p2p_wire.specs.declared.message.Message.TheVariants.{PutFrom}
-use Rattle.node_model.specs.Ends.{end_after, sent_at, taken_at}
+use Rattle.node_model.specs.Ends.{end_after, is_opening, sent_at, taken_at}
 use Rattle.node_model.specs.Sessions.{Session, is_closing, line_in, reaches}
 use Rattle.node_model.specs.Jobs.{Phase, PutsBytes, Work, job_end, partner}
 use Rattle.node_model.specs.Look.{Made}
 use Rattle.node_model.specs.JobStep.{Turn, end_with}
 use Rattle.node_model.specs.TransferStep.{content_of}
 use Rattle.race_core.proofs.Plain.{eqb_true}
-use Rattle.race_core.proofs.ClientCounts.{IsLive, Local, Stays, is_of_some, none_is, sends_here, takes_here}
+use Rattle.race_core.proofs.ClientCounts.{IsLive, Local, Stays, is_of_some, none_is}
 use Rattle.race_core.proofs.ClientTurns.{end_then, made_entry, moved}
 use Rattle.race_core.proofs.Dialogue
-use Rattle.race_core.proofs.Dialogue.{Stance, kept, phase_stance, rests, stance, stands_at}
+use Rattle.race_core.proofs.Dialogue.{Stance, is_greeted, kept, phase_stance, rests, stance, stands_at}
 use Rattle.race_core.proofs.DialogueSteps.{rests_more}
 
 -- ---- frames
@@ -33,12 +33,6 @@ body_of None = []
 body_of (Some f) = f.body ∷ []
 
 -- ---- what a step keeps
-
--- the version is known
-abbrev pub is_greeted : Stance → Bool
-is_greeted Dialogue.AtOpen = false
-is_greeted Dialogue.AtGreet = false
-is_greeted at = true
 
 -- the job knows the version of its peer
 abbrev pub KnowsVersion : Work → ℕ → Session → Type 0
@@ -54,6 +48,7 @@ pub record OpensIt (t : Turn) (taken : Option FrameView) (sent : List FrameView)
 pub record GoesOn (t : Turn) (p : ℕ) (taken : Option FrameView) (sent : List FrameView) (next : Stance) : Type 0 where
   pub live : IsLive t.w.phase
   pub opened : (end_with t p).opened ≡ true
+  pub none_opens : Each (λ g. is_opening g.body ≡ false) sent
   pub keeps : (z : Session) (up down : List FrameText) → KnowsVersion t.w p z → Dialogue.Dialogue (stands_at t.w p) z up (body_of taken ++ down) → Dialogue.Dialogue next z (up ++ bodies sent) down
 
 abbrev pub Keeps : Turn → ℕ → Option FrameView → List FrameView → Stance → Type 0
@@ -104,6 +99,7 @@ aside : (t : Turn) (next : Work) (p : ℕ) → IsLive t.w.phase → (end_with t 
 aside t next p live opened was now locks = inr (record {
   live = live;
   opened = opened;
+  none_opens = tt;
   keeps = λ z up down v x. subst (λ (us : List FrameText). Dialogue.Dialogue (stance t.w.what.peer next.phase (kept next p) p) z us down) (sym (append-nil up))
       (subst (λ (at : Stance). Dialogue.Dialogue at z up down) (sym (rests_at t.w.what.peer next.phase (kept next p) p now))
       (rests_more z up down (kept t.w p) (kept next p) (locks was) (subst (λ (at : Stance). Dialogue.Dialogue at z up down) (rests_at t.w.what.peer t.w.phase (kept t.w p) p was) x)));

@@ -1,6 +1,6 @@
 -- Each step of a job keeps the dialogue on its connections, where what it takes suits its phase: the walk over all steps.
 use Rattle.node_model.specs.Clocks.{hold_time}
-use Rattle.std.proofs.Common.{◌≡◌, ◌≢◌, ℕ, ◌+◌, ◌-◌, ◌≤◌, Bool, true, false, List, [], ◌∷◌, ◌++◌, Option, Some, None, inl, inr, refl, sym, ap, ◌∙◌, subst, arith}
+use Rattle.std.proofs.Common.{◌≡◌, ◌≢◌, ℕ, ◌+◌, ◌≤◌, Bool, true, false, List, [], ◌∷◌, ◌++◌, Option, Some, None, inl, inr, refl, sym, ap, ◌∙◌, subst, arith}
 use Rattle.std.specs.Prelude.{◌==◌, ◌&&◌, not, nat_lt}
 use Rattle.std.specs.List.{list_any}
 use Rattle.std.proofs.lemmas.Bool.{true≢false}
@@ -42,9 +42,9 @@ use Rattle.race_core.proofs.ClientCounts.{IsLive, none_is}
 use Rattle.race_core.proofs.ClientTurns.{made_entry, rows_of, talker, talker_phase}
 use Rattle.race_core.proofs.ClientSteps.{Speaks, attempts_even, release_is}
 use Rattle.race_core.proofs.Dialogue
-use Rattle.race_core.proofs.Dialogue.{Stance, kept, phase_stance, rests, stands_at}
+use Rattle.race_core.proofs.Dialogue.{Stance, is_greeted, kept, phase_stance, rests, stands_at}
 use Rattle.race_core.proofs.DialogueSteps.{away_asks}
-use Rattle.race_core.proofs.DialogueTurns.{Good, KeepsTo, KnowsVersion, is_greeted, rests_at, stands_on}
+use Rattle.race_core.proofs.DialogueTurns.{Good, KeepsTo, KnowsVersion, rests_at, stands_on}
 use Rattle.race_core.proofs.DialogueLeaves.{Goes, first_keeps, opens_keeps, over_keeps, still_keeps}
 
 -- ---- hypotheses on a job that steps
@@ -103,12 +103,18 @@ fault_dead target r w part side phase peer on live = live
 
 -- a call of a job that stands on no connection fails
 pub fault_good : (t : Turn) → partner t.w.what.peer t.w.phase ≡ None → IsLive t.w.phase → (call : Call) → is_plain call ≡ true → GoodMade t (quietly (Fault call (by_me t)) None)
-fault_good t alone live call plain = (still_keeps t alone live (Fault call (by_me t)) (fault_of (me t) t.w t.look.time call)
-    (ap (λ (y : Work). partner t.w.what.peer y.phase) (fault_is (me t) t.w t.look.time call plain) ∙ fault_alone t.w.what.peer (me t) t.w t.w.part (side_of t.w) t.w.phase), inl tt)
+fault_good t alone live call plain = (
+  still_keeps t alone live (Fault call (by_me t)) (fault_of (me t) t.w t.look.time call)
+      (ap (λ (y : Work). partner t.w.what.peer y.phase) (fault_is (me t) t.w t.look.time call plain) ∙ fault_alone t.w.what.peer (me t) t.w t.w.part (side_of t.w) t.w.phase),
+  inl tt,
+)
 
 pub fault_on : (t : Turn) (peer : ℕ) → partner t.w.what.peer t.w.phase ≡ Some peer → (taken : Option FrameView) (call : Call) → is_plain call ≡ true → GoodMade t (quietly (Fault call (by_me t)) taken)
-fault_on t peer on taken call plain = (over_keeps t (quietly (Fault call (by_me t)) taken) (fault_of (me t) t.w t.look.time call)
-    (λ l. fault_dead t.w.what.peer (me t) t.w t.w.part (side_of t.w) t.w.phase peer on (subst (λ (y : Work). IsLive y.phase) (fault_is (me t) t.w t.look.time call plain) l)), inl tt)
+fault_on t peer on taken call plain = (
+  over_keeps t (quietly (Fault call (by_me t)) taken) (fault_of (me t) t.w t.look.time call)
+      (λ l. fault_dead t.w.what.peer (me t) t.w t.w.part (side_of t.w) t.w.phase peer on (subst (λ (y : Work). IsLive y.phase) (fault_is (me t) t.w t.look.time call plain) l)),
+  inl tt,
+)
 
 -- ---- the end
 
@@ -223,9 +229,12 @@ find_unasked t peer e = go (t.read.standing peer) (heard_of t.w peer) (find_was 
 
 module _ (t : Turn) (alone : partner t.w.what.peer t.w.phase ≡ None) (live : IsLive t.w.phase) (walks : Walks t) where
   quiet_good : GoodMade t (quietly (talk t) None)
-  quiet_good = (subst (λ (p : Option ℕ). KeepsTo t (quietly (talk t) None) (Jobs.talks_on (rows_of t) (me t) (talker t None) (made_entry t (quietly (talk t) None)) p)) (sym alone)
-      (still_keeps t alone live (talk t) (quiet (rows_of t) (me t) (talker t None) (talker t None).phase)
-      (quiet_alone t.w.what.peer (rows_of t) (me t) (talker t None) (talker t None).phase (ap (λ (p : Phase). partner t.w.what.peer p) (talker_phase t None) ∙ alone))), inl tt)
+  quiet_good = (
+    subst (λ (p : Option ℕ). KeepsTo t (quietly (talk t) None) (Jobs.talks_on (rows_of t) (me t) (talker t None) (made_entry t (quietly (talk t) None)) p)) (sym alone)
+        (still_keeps t alone live (talk t) (quiet (rows_of t) (me t) (talker t None) (talker t None).phase)
+        (quiet_alone t.w.what.peer (rows_of t) (me t) (talker t None) (talker t None).phase (ap (λ (p : Phase). partner t.w.what.peer p) (talker_phase t None) ∙ alone))),
+    inl tt,
+  )
 
   asks_first : (peer : ℕ) → kept t.w peer ≡ false → (end_with t peer).opened ≡ true → Asks t (IsVersion t t.w.version peer) None peer
   asks_first peer free opened kind m next back goes on f = first_keeps t alone live kind peer m next free opened back goes (inr on)

@@ -280,8 +280,8 @@ module _ (s : SetUp) (past : List Entry) (words : ℕ → Option Word) (e : Entr
           let knows_none : (c : ℕ) → asked s.repos past s.number w.number c ≡ Fails → Knowing.knows s (state_of s past) w c ≡ Fails = (λ c a. sym (knows_same s past w (list_agrees s past h w m) c) ∙ sym (asked_known s.repos past s.number w.number c run) ∙ a) in
           let each = failures_each (IsCauseOf s.repos past s.number w.number cs) f g cs cs (λ c n. n) (λ c n fails. caused w m y.part_is y.last c n fails) in
           let all = each_of (λ c. asked s.repos past s.number w.number c ≡ Fails → Member (record { repo = c; cause = why s.repos past s.number w.number c }) reasons) cs
-              (λ c n a. subst (Member (record { repo = c; cause = why s.repos past s.number w.number c })) (sym reasons_are)
-              (subst (λ q. Member (record { repo = c; cause = q }) (failures f g cs)) (sym (why_is w m y.part_is y.last c n (knows_none c a))) (failures_have f g cs c n (knows_none c a)))) in
+          (λ c n a. subst (Member (record { repo = c; cause = why s.repos past s.number w.number c })) (sym reasons_are)
+          (subst (λ q. Member (record { repo = c; cause = q }) (failures f g cs)) (sym (why_is w m y.part_is y.last c n (knows_none c a))) (failures_have f g cs c n (knows_none c a)))) in
           record {
             d = job_of s past h w m;
             wants = (λ i. is_enough (side_is w i) (need_read past s.number w.number) (same i)) ∙ y.wants;

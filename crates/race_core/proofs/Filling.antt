@@ -145,10 +145,13 @@ frame_fills : (h : Here) (size : List ℕ → Option ℕ) (was : Session) (sent 
 frame_fills h size was sent Opening key new stays no' e = absurd (true≢false (sym e ∙ ap (λ (z : Session). is_filling key z.doing) (new refl)))
 frame_fills h size was sent Closing key new stays no' e = absurd (no' refl)
 frame_fills h size was sent (Bytes n) key new stays no' e = (refl, inl (sym (bytes_fills n was.doing key) ∙ e, ap is_request (said_bytes n)))
-frame_fills h size was sent (Line text) key new stays no' e = (refl, elim (text_fills h size was (said sent) (message_of text) key stays e) [
-  | inl x ↦ inl (x.0, ap is_request (said_line-is text) ∙ x.1)
-  | inr x ↦ inr (x.0, x.1, x.2)
-])
+frame_fills h size was sent (Line text) key new stays no' e = (
+  refl,
+  elim (text_fills h size was (said sent) (message_of text) key stays e) [
+    | inl x ↦ inl (x.0, ap is_request (said_line-is text) ∙ x.1)
+    | inr x ↦ inr (x.0, x.1, x.2)
+  ],
+)
 
 one_fills : (was : Session) (body : FrameText) (key : List ℕ) → is_filling key (sent_one was body).doing ≡ true → is_filling key was.doing ≡ true
 one_fills was Opening key e = e
@@ -186,8 +189,18 @@ Filled r a past = (key : List ℕ) → (end_at past r a).opened ≡ true → is_
 later : (r : ℕ) (past : List Entry) (e : Entry) (a : EndName) (key : List ℕ) → (end_at (e ∷ past) r a).epoch ≡ (end_at past r a).epoch
     → ((n : ℕ) → taken_if is_request (e ∷ past) (way_in r a n) ≡ taken_if is_request past (way_in r a n)) → Filling r past a key → Filling r (e ∷ past) a key
 later r past e a key same none g = record {
-  entry = g.entry; before = g.before; occurs = inr g.occurs; own = g.own; f = g.f; takes_it = g.takes_it; of_end = g.of_end; epoch_is = g.epoch_is ∙ sym same;
-  file = g.file; asked = g.asked; answered = g.answered; last = none g.f.epoch ∙ g.last;
+  entry = g.entry;
+  before = g.before;
+  occurs = inr g.occurs;
+  own = g.own;
+  f = g.f;
+  takes_it = g.takes_it;
+  of_end = g.of_end;
+  epoch_is = g.epoch_is ∙ sym same;
+  file = g.file;
+  asked = g.asked;
+  answered = g.answered;
+  last = none g.f.epoch ∙ g.last;
 }
 
 plus_none : (x y : ℕ) → y ≡ 0 → x + y ≡ x
@@ -287,8 +300,16 @@ module _ (s : SetUp) (past : List Entry) (e : Entry) (a : EndName) (is : is_of s
           let put = y.2 in
           let asked : message_in x.f.body ≡ Says (Put put.file key) = said_is x.f.body (Put put.file key) (y.1 ∙ ap Some put.asked) in
           record {
-            entry = e; before = past; occurs = inl (refl, refl); own = is; f = x.f; takes_it = x.taken_is; of_end = x.of_end; epoch_is = epochs.1 ∙ sym same;
-            file = put.file; asked = asked;
+            entry = e;
+            before = past;
+            occurs = inl (refl, refl);
+            own = is;
+            f = x.f;
+            takes_it = x.taken_is;
+            of_end = x.of_end;
+            epoch_is = epochs.1 ∙ sym same;
+            file = put.file;
+            asked = asked;
             answered = subst (λ fs. list_any (says is_put_from) fs ≡ true) (sent_took s past a e x ∙ sym x.sent_is) (first_put (sent_at a e.sent) put.n put.answered);
             last = counts x.f.epoch ∙ ap (λ k. taken_if is_request past (way_in r a x.f.epoch) + k) (on_hits x.f (ap is_request asked));
           }

@@ -315,9 +315,10 @@ of_kind s past run w m = invariant s (λ p x. OfKind x) (λ p e is x n was. was)
         let v = b.by.w in
         let good = steps_good s p e x b (works_fit s p r.1 v (step_runs s p e x b)) in
         let what : x.what ≡ v.what = ap (λ (j : Running). j.what) (ap running b.work_is ∙ kind_kept (rows_at p s.number) s.number v e e.kind) in
-        let old = was v (step_runs s p e x b) in
-        ((λ part. ap (λ (q : Job). gets q.kind) what ∙ old.0 (gets_was v.part v.phase x.phase (subst (λ q. GoodTo v.part v.phase q x.phase) part good))),
-         (λ part. ap (λ (q : Job). puts q.kind) what ∙ old.1 (puts_was v.part v.phase x.phase (subst (λ q. GoodTo v.part v.phase q x.phase) part good))))
+        let old = was v (step_runs s p e x b) in (
+          (λ part. ap (λ (q : Job). gets q.kind) what ∙ old.0 (gets_was v.part v.phase x.phase (subst (λ q. GoodTo v.part v.phase q x.phase) part good))),
+          (λ part. ap (λ (q : Job). puts q.kind) what ∙ old.1 (puts_was v.part v.phase x.phase (subst (λ q. GoodTo v.part v.phase q x.phase) part good))),
+        )
 
 gets_remote : (kind : KindOfJob) (peer : Option ℕ) → gets kind ≡ true → drop_side kind peer ≡ Remote
 gets_remote kinds.Get peer e = refl

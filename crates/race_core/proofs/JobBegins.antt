@@ -19,7 +19,7 @@ use Rattle.node_model.specs.Slots.{is_begin}
 use Rattle.run_model.specs.Logs.{is_drop, read_at}
 use Rattle.run_model.specs.Drops.{key_in}
 use Rattle.run_model.specs.Safety.{past_at}
-use Rattle.node_model.specs.Jobs.{Drops, Work, is_move, side_of}
+use Rattle.node_model.specs.Jobs.{Drops, Work, is_move, or_own, side_of}
 use Rattle.run_model.specs.States.{works}
 use Rattle.run_model.specs.Run.{IsRun, OwnPast, RunPast, RunStep, set_up}
 use Rattle.race_core.proofs.Aims.{aims, can_drop}
@@ -107,9 +107,9 @@ drop_or_move kinds.Get e = absurd (cc)
 drop_or_move kinds.Copy e = absurd (cc)
 
 -- the running job that removes or orders is a drop or a move of the key
-work_begun : (run : Run) (place r j : ℕ) (key : List ℕ) (side : Side) → IsRun run → (w : Work) → Member w (works (past_at run place) r) → w.number ≡ j → w.part ≡ Drops → side_of w ≡ side → w.what.key ≡ key
-    → HasJob run place r j key side
-work_begun run place r j key side h w m number part is_side is_key =
+work_begun : (run : Run) (place r j : ℕ) (key : List ℕ) (side : Side) (target : ℕ) → IsRun run → (w : Work) → Member w (works (past_at run place) r) → w.number ≡ j → w.part ≡ Drops → side_of w ≡ side → w.what.key ≡ key
+    → or_own r side w.what.peer ≡ target → HasJob run place r j key side target
+work_begun run place r j key side target h w m number part is_side is_key is_target =
     let own = own_at run place r h in
     let begun_is : begun_job (past_at run place) r j ≡ Some w.what = subst (λ n. begun_job (past_at run place) r n ≡ Some w.what) number (runs_begun (set_up run r) (past_at run place) own.run w m) in
     let t = begun_by (past_at run place) r j w.what begun_is in
@@ -122,6 +122,7 @@ work_begun run place r j key side h w m number part is_side is_key =
       begins = begins;
       drops = drop_or_move w.what.kind ((aims (set_up run r) (past_at run place) own.run w m).1 part);
       side_is = is_side;
+      target_is = is_target;
       key_is = is_key;
       only = λ other also x. same_place other at.at (λ lt. begins_once run other at.at r j also w.what h x begins lt) (λ lt. begins_once run at.at other r j w.what also h begins x lt);
     }
@@ -135,15 +136,16 @@ work_read run place r j key h w m number is_key =
 -- ---- who removes, and who orders
 
 -- the running job that made the entry, of this number and on this key
-record Works (run : Run) (place r j : ℕ) (key : List ℕ) (side : Side) : Type 0 where
+record Works (run : Run) (place r j : ℕ) (key : List ℕ) (side : Side) (target : ℕ) : Type 0 where
   w : Work
   runs : Member w (works (past_at run place) r)
   number_is : w.number ≡ j
   part_is : w.part ≡ Drops
   side_is : side_of w ≡ side
+  target_is : or_own r side w.what.peer ≡ target
   key_is : w.what.key ≡ key
 
-remover_works : (run : Run) (place r j : ℕ) (key : List ℕ) → IsRun run → IsAt run place r (Gone (by_job j) key) → Works run place r j key Local
+remover_works : (run : Run) (place r j : ℕ) (key : List ℕ) → IsRun run → IsAt run place r (Gone (by_job j) key) → Works run place r j key Local r
 remover_works run place r j key h x =
     let p = part_at run place r x.entry h x.entry_is x.repo_is in
     let s = set_up run r in
@@ -152,26 +154,26 @@ remover_works run place r j key h x =
     let f = kind_of s past x.entry by (Gone (by_job j) key) x.kind_is in
     let both : by_job j ≡ by_job by.w.number = f.by_is in
     let number : by.w.number ≡ j = cc in
-    record { w = by.w; runs = stepped_runs s past x.entry by; number_is = number; part_is = f.part_is; side_is = f.side; key_is = sym f.key_is }
+    record { w = by.w; runs = stepped_runs s past x.entry by; number_is = number; part_is = f.part_is; side_is = f.side; target_is = refl; key_is = sym f.key_is }
 
-orderer_works : (run : Run) (place a j target : ℕ) (deadline : Option ℕ) (need : Need) (key : List ℕ) → IsRun run → IsAt run place a (Order j target deadline need key) → Works run place a j key Remote
+orderer_works : (run : Run) (place a j target : ℕ) (deadline : Option ℕ) (need : Need) (key : List ℕ) → IsRun run → IsAt run place a (Order j target deadline need key) → Works run place a j key Remote target
 orderer_works run place a j target deadline need key h x =
     let p = part_at run place a x.entry h x.entry_is x.repo_is in
     let s = set_up run a in
     let past = past_at run place in
     let by = stepped_of s past p.words x.entry p.own j (Order j target deadline need key) x.kind_is (eqb_refl j) in
     let f = kind_of s past x.entry by (Order j target deadline need key) x.kind_is in
-    record { w = by.w; runs = stepped_runs s past x.entry by; number_is = sym f.number_is; part_is = f.part_is; side_is = f.side; key_is = sym f.key_is }
+    record { w = by.w; runs = stepped_runs s past x.entry by; number_is = sym f.number_is; part_is = f.part_is; side_is = f.side; target_is = subst (λ side. or_own a side by.w.what.peer ≡ target) f.side (sym f.target_is); key_is = sym f.key_is }
 
-pub remover : (run : Run) (place r j : ℕ) (key : List ℕ) → IsRun run → IsAt run place r (Gone (by_job j) key) → HasJob run place r j key Local
-remover run place r j key h x = let y = remover_works run place r j key h x in work_begun run place r j key Local h y.w y.runs y.number_is y.part_is y.side_is y.key_is
+pub remover : (run : Run) (place r j : ℕ) (key : List ℕ) → IsRun run → IsAt run place r (Gone (by_job j) key) → HasJob run place r j key Local r
+remover run place r j key h x = let y = remover_works run place r j key h x in work_begun run place r j key Local r h y.w y.runs y.number_is y.part_is y.side_is y.key_is y.target_is
 
 pub remover_read : (run : Run) (place r j : ℕ) (key : List ℕ) → IsRun run → IsAt run place r (Gone (by_job j) key) → key_in (begun_job (read_at (past_at run place) r j) r j) ≡ key
 remover_read run place r j key h x = let y = remover_works run place r j key h x in work_read run place r j key h y.w y.runs y.number_is y.key_is
 
-pub orderer : (run : Run) (place a j target : ℕ) (deadline : Option ℕ) (need : Need) (key : List ℕ) → IsRun run → IsAt run place a (Order j target deadline need key) → HasJob run place a j key Remote
+pub orderer : (run : Run) (place a j target : ℕ) (deadline : Option ℕ) (need : Need) (key : List ℕ) → IsRun run → IsAt run place a (Order j target deadline need key) → HasJob run place a j key Remote target
 orderer run place a j target deadline need key h x =
-    let y = orderer_works run place a j target deadline need key h x in work_begun run place a j key Remote h y.w y.runs y.number_is y.part_is y.side_is y.key_is
+    let y = orderer_works run place a j target deadline need key h x in work_begun run place a j key Remote target h y.w y.runs y.number_is y.part_is y.side_is y.key_is y.target_is
 
 pub orderer_read : (run : Run) (place a j target : ℕ) (deadline : Option ℕ) (need : Need) (key : List ℕ) → IsRun run → IsAt run place a (Order j target deadline need key)
     → key_in (begun_job (read_at (past_at run place) a j) a j) ≡ key

@@ -192,13 +192,13 @@ step_is_job j (Fault call by) e = fault call e
 step_is_job j kind e = e
 
 -- an entry that is no step of the job leaves it alone
-abbrev KindAfter : SetUp → List Entry → Work → Entry → EntryKind → Work
+abbrev pub KindAfter : SetUp → List Entry → Work → Entry → EntryKind → Work
 KindAfter s past w e kind = if option_is (job_of kind) w.number then work_kind (rows_at past s.number) s.number w e kind else w
 
 off_after : (s : SetUp) (past : List Entry) (w : Work) (e : Entry) (kind : EntryKind) → option_is (job_of kind) w.number ≡ false → KindAfter s past w e kind ≡ w
 off_after s past w e kind is = rw is refl
 
-still_after : (s : SetUp) (past : List Entry) (w : Work) (e : Entry) (kind : EntryKind) → ((job : ℕ) (what : Job) → kind ≢ Begin job what) → is_step w.number kind ≡ false → KindAfter s past w e kind ≡ w
+pub still_after : (s : SetUp) (past : List Entry) (w : Work) (e : Entry) (kind : EntryKind) → ((job : ℕ) (what : Job) → kind ≢ Begin job what) → is_step w.number kind ≡ false → KindAfter s past w e kind ≡ w
 still_after s past w e (Begin job what) apart is = absurd (apart job what refl)
 still_after s past w e (Fault PutFile by) apart is = go (option_is (job_of (Fault PutFile by)) w.number)
   where

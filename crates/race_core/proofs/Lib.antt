@@ -121,6 +121,10 @@ pub mod LocksHeard
 pub mod DialogueReplies
 pub mod DialogueServes
 pub mod DialogueGives
+pub mod ClientDoes
+pub mod Greeted
+pub mod DialogueServer
+pub mod DialogueCloses
 pub mod Lists
 pub mod Flights
 pub mod Changes
@@ -163,6 +167,9 @@ pub mod OrdersTold
 pub mod AnswersExpected
 pub mod SourcesInOrder
 pub mod Caused
+pub mod Queues
+pub mod Epochs
+pub mod ConversationServer
 pub mod MergedLists
 pub mod MergedOrder
 pub mod MergedRuns

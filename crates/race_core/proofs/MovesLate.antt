@@ -154,9 +154,9 @@ unbegun_in s (e ∷ p) run j later = go (unbegun_in s p run.1 j (begun_before p 
         let own = run.0 is in
         in_more p s.number j e was (still_starts p s.number j e e.kind (not_yet s p own.0 e run.1 own.1 j (begun_before p e s.number j later))
         (λ job what kind. let next : job ≡ begun p s.number + 1 = begins_next s p own.0 e own.1 job what kind in
-          let count : begun (e ∷ p) s.number ≡ begun p s.number + 1 = rw (is, kind) refl in
-          let now : begun p s.number + 1 < j = subst (λ n. n < j) count later in
-          less_off job j (omega arith)))
+        let count : begun (e ∷ p) s.number ≡ begun p s.number + 1 = rw (is, kind) refl in
+        let now : begun p s.number + 1 < j = subst (λ n. n < j) count later in
+        less_off job j (omega arith)))
 
 begins_none : (kind : KindOfJob) → first_part kind ≡ Puts → is_drop kind ≡ false
 begins_none kinds.Copy e = refl

@@ -48,7 +48,7 @@ other_sends c (Bytes k) n i = refl
 other_sends c (Line text) n i = refl
 
 -- without it the end stays as it was
-no_close : (c : End) (fs : List FrameView) → OpensNone fs → sends_close fs ≡ false → (sends_all c fs).opened ≡ c.opened
+pub no_close : (c : End) (fs : List FrameView) → OpensNone fs → sends_close fs ≡ false → (sends_all c fs).opened ≡ c.opened
 no_close c [] n s = refl
 no_close c (f ∷ fs) n s = go (no_close (end_sends c f.body) fs n.1) (is_closing f.body) refl
   where

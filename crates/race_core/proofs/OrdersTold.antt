@@ -1,5 +1,5 @@
 -- A drop that lost its target says that it ordered exactly where an order entry of it stands.
-use Rattle.std.proofs.Common.{◌≡◌, ◌≢◌, ℕ, ◌+◌, ◌-◌, ◌^◌, Bool, true, false, List, [], ◌∷◌, Option, Some, None, ◌⊎◌, inl, inr, refl, sym, ap, ◌∙◌, subst}
+use Rattle.std.proofs.Common.{◌≡◌, ℕ, ◌+◌, ◌-◌, ◌^◌, Bool, true, false, List, [], ◌∷◌, Option, Some, None, ◌⊎◌, inl, inr, refl, sym, ap, ◌∙◌, subst}
 use Rattle.std.specs.Prelude.{if◌then◌else◌, ◌==◌, ◌&&◌, ◌||◌, nat_lt}
 use Rattle.std.specs.List.{list_any}
 use Rattle.std.proofs.lemmas.Bool.{true≢false}
@@ -315,9 +315,14 @@ module _ (s : SetUp) (past : List Entry) (words : ℕ → Option Word) (e : Entr
 
   sent_now : SentOrder (e ∷ past) s.number by.w.number g
   sent_now = record {
-    x = e; before = past; stands = inl (refl, refl); mine = stepped_own s past e by;
+    x = e;
+    before = past;
+    stands = inl (refl, refl);
+    mine = stepped_own s past e by;
     sent = subst (Member g) (sym (ap (λ (y : Entry). y.sent) by.is ∙ found.sent_is)) (inl refl);
-    up = refl; deadline = deadline; key = key;
+    up = refl;
+    deadline = deadline;
+    key = key;
     line = subst (λ k. message_of (text_of (order_of deadline k)) ≡ Some (order_of deadline k)) (sym found.key_is) read;
   }
 

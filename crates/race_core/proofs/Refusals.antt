@@ -117,9 +117,9 @@ module _ (s : SetUp) (past : List Entry) (e : Entry) (x : Stepped s past e) (is 
       let all = option_map asked_by (last_request past (up_of (way_of s.number f))) in
       let down : f.up ≡ false = (hears s past e x f took).1 in
       let now : LastIs t.w.what.key t.w.what.peer t.w.phase t.peer all =
-          taken_last s past h e f down (ap is_answer (said_is f.body m told) ∙ answer) t all refl in
+      taken_last s past h e f down (ap is_answer (said_is f.body m told) ∙ answer) t all refl in
       let mine : LastIs x.w.what.key x.w.what.peer x.w.phase peer all =
-          subst (λ n. LastIs t.w.what.key t.w.what.peer t.w.phase n all) (sym at) now in
+      subst (λ n. LastIs t.w.what.key t.w.what.peer t.w.phase n all) (sym at) now in
       let was = last all mine in
       let r = request_is (last_request past (up_of (way_of s.number f))) was.0 was.1 was.3 in
       (was.1, was.2, record { hears = hears_now f took m told peer on; request = r.0; last = r.1; asked_is = r.2 }, refl, refl)

@@ -19,8 +19,15 @@ sessions_fill s past h key p q fills =
     let both = and_true (end_at past s.number (server_end p q)).opened (is_filling key (session past s.number (server_end p q)).doing) fills in
     let g = puts_stand s past p q h.run key both.0 both.1 in
     record {
-      entry = g.entry; before = g.before; occurs = g.occurs; own = g.own; f = g.f; takes_it = g.takes_it;
+      entry = g.entry;
+      before = g.before;
+      occurs = g.occurs;
+      own = g.own;
+      f = g.f;
+      takes_it = g.takes_it;
       from_client = (taken_up p q g.f g.of_end).2;
-      file = g.file; asked = g.asked; answered = g.answered;
+      file = g.file;
+      asked = g.asked;
+      answered = g.answered;
       last = subst (λ (w : Way). taken_if is_request past w ≡ taken_if is_request g.before w + 1) (sym (way_at s.number (server_end p q) g.f g.of_end)) g.last;
     }

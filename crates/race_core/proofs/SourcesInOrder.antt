@@ -42,7 +42,6 @@ use Rattle.node_model.specs.TransferStep.{sources}
 use Rattle.race_core.proofs.TalkFacts.{Fits}
 use Rattle.race_core.proofs.GetSpeaks.{Place, gets_tell}
 
-
 -- ---- how a job moves: whose connection it is on, and whose cause it has gained
 
 -- a get gained the cause of its partner

@@ -178,16 +178,20 @@ module _ (s : SetUp) (p : List Entry) (e : Entry) (h : OwnPast s (e ∷ p)) (is 
   old_next n at none same k =
       let z = old_on at none k in
       let told = versions_told s p before.run v runs z.1.old in
-      let target : target_in r (running v) ≡ told.0 = target_at told.0 (remote_target r v told.0 z.1.side told.1) in
-      (subst (λ m. Hears (e ∷ p) r v.number (target_in r (running v)) (Says (Version m))) (sym same)
-        (subst (λ q. Hears (e ∷ p) r v.number q (Says (Version v.version))) (sym target) (hears_grows r e p (running v) told.0 (Says (Version v.version)) told.2)),
-       ap (λ m. nat_lt m 3) same ∙ z.1.old)
+      let target : target_in r (running v) ≡ told.0 = target_at told.0 (remote_target r v told.0 z.1.side told.1) in (
+        subst (λ m. Hears (e ∷ p) r v.number (target_in r (running v)) (Says (Version m))) (sym same)
+            (subst (λ q. Hears (e ∷ p) r v.number q (Says (Version v.version))) (sym target) (hears_grows r e p (running v) told.0 (Says (Version v.version)) told.2)),
+        ap (λ m. nat_lt m 3) same ∙ z.1.old,
+      )
 
   fault_now : v.part ≡ Drops → CallFailed e.kind → (Jobs.side_of v ≡ Remote → is_fresh v.phase ≡ false) → DropStands r (e ∷ p) (running v) refusals.StoreFault
   unfolding failed
-  fault_now part k later = (failed k, λ remote.
-      let read = (at_targets s p before v runs).1 part (later (sym (side_is v) ∙ remote)) in
-      and_off (is_of r e) (is_step v.number e.kind) (in_drop p r v.number) (option_is_none (before_step p r v.number)) (ap option_is_none read.1))
+  fault_now part k later = (
+    failed k,
+    λ remote.
+        let read = (at_targets s p before v runs).1 part (later (sym (side_is v) ∙ remote)) in
+        and_off (is_of r e) (is_step v.number e.kind) (in_drop p r v.number) (option_is_none (before_step p r v.number)) (ap option_is_none read.1),
+  )
 
   drop_now : (refusal : DropRefusal) → DropReason (rows_at p r) r v e e.kind refusal → DropStands r (e ∷ p) (running v) refusal
   drop_now (refusals.Lost ordered) z = tt
@@ -203,7 +207,7 @@ module _ (s : SetUp) (p : List Entry) (e : Entry) (h : OwnPast s (e ∷ p)) (is 
       let busy = busy_text t hr.f peer peer text at part hr.told (subst (λ (m : Made). Silent m) (took hr.f hr.takes_it peer on) (silent hr.sends_none)) in
       let same : text ≡ codes "busy" = elim (bytes_eq_tells text (codes "busy")) [ inl y ↦ y.1 | inr y ↦ absurd (let both : true ≡ false = sym busy ∙ y.0 in cc) ] in
       let a = answers_now s p e b.by is before hr.f hr.takes_it (Error text) (λ m. m ≡ Put [] v.what.key) hr.told busy peer on
-          (λ last l. let y = subst (λ (q : Phase). LastIs v.what.key v.what.peer q peer last) at l refl in (y.0, Put [] v.what.key, refl, y.1)) in
+      (λ last l. let y = subst (λ (q : Phase). LastIs v.what.key v.what.peer q peer last) at l refl in (y.0, Put [] v.what.key, refl, y.1)) in
       (peer, subst (λ z. Answers (e ∷ p) r v.number peer (Says (Put [] v.what.key)) (Says (Error z))) same (subst (λ m. Answers (e ∷ p) r v.number peer (Says m) (Says (Error text))) a.1 a.2))
 
   rejected_now : (peer : ℕ) (P : Message → Type 0) → ((m : Message) → P m → (m ≡ Valid) ⊎ (m ≡ Put [] v.what.key)) → partner v.what.peer v.phase ≡ Some peer → HearsOnly e Failure
@@ -238,7 +242,7 @@ module _ (s : SetUp) (p : List Entry) (e : Entry) (h : OwnPast s (e ∷ p)) (is 
       let part = only_orders v.part (subst (Fits v.part) at fits) in
       let peer_is : v.what.peer ≡ Some (Jobs.target_of r v) = target_peer s v (aims s p before.run v runs) part (sym (side_is v) ∙ remote) in
       let a = answers_now s p e b.by is before hr.f hr.takes_it Failure (λ m. (d : Option ℕ) × (m ≡ order_of d v.what.key)) hr.told refl (Jobs.target_of r v) (ap (partner v.what.peer) at ∙ peer_is)
-          (λ last l. let y = subst (λ (q : Phase). LastIs v.what.key v.what.peer q (Jobs.target_of r v) last) at l peer_is in (y.0, order_of y.1 v.what.key, (y.1, refl), y.2)) in
+      (λ last l. let y = subst (λ (q : Phase). LastIs v.what.key v.what.peer q (Jobs.target_of r v) last) at l peer_is in (y.0, order_of y.1 v.what.key, (y.1, refl), y.2)) in
       let now : RefusedNow hr.f (Jobs.target_of r v) a.0 = (a.2, a.3, a.4) in
       (a.1.0, subst (λ q. RefusedNow hr.f q (order_of a.1.0 v.what.key)) (sym (target_is r v)) (subst (RefusedNow hr.f (Jobs.target_of r v)) a.1.1 now))
 
@@ -249,14 +253,17 @@ module _ (s : SetUp) (p : List Entry) (e : Entry) (h : OwnPast s (e ∷ p)) (is 
   denied_now at hr = let x = refused_order at hr in (orders_remote at, x.0, x.1.0)
 
   late_now : (time : ℕ) (owner : By) → v.phase ≡ AsksTime → e.kind ≡ Fault Unhold owner → time ≡ e.time → Stands r (e ∷ p) (running v) (Late time)
-  late_now time owner at k same = (subst (Stands r p (running v)) at was, record {
-    entry = e;
-    before = p;
-    occurs = inl (refl, refl);
-    own = is;
-    kind_is = k ∙ ap (Fault Unhold) (subst (JobKind t b.by.made) k kind).0;
-    time_is = same;
-  })
+  late_now time owner at k same = (
+    subst (Stands r p (running v)) at was,
+    record {
+      entry = e;
+      before = p;
+      occurs = inl (refl, refl);
+      own = is;
+      kind_is = k ∙ ap (Fault Unhold) (subst (JobKind t b.by.made) k kind).0;
+      time_is = same;
+    },
+  )
 
   pub stands_now : (phase : Phase) → Reason (rows_at p r) r v e e.kind phase → Stands r (e ∷ p) (running v) phase
   stands_now AsksTime z = side_is v ∙ time_remote s p (h.run.0 is).0 e before.run (h.run.0 is).1 x b fits z

@@ -189,16 +189,20 @@ module _ (s : SetUp) (p : List Entry) (e : Entry) (h : OwnPast s (e ∷ p)) wher
         let peer : v.what.peer ≡ Some (target_of s.number v) = target_peer s v (aims s p before.run v runs) part remote in
         let late : TooLate t = subst (LateBy t) (sym (ap (λ (y : Entry). y.kind) b.by.is) ∙ k) (time_late_by t b.by.made (target_of s.number v) at part peer b.by.does) in
         let knew : Knew s p v late.end = record { part_is = part; enough = enough_at part remote (subst (λ q. at_target (target_of s.number v) q ≡ true) (sym at) refl); first = late.first } in
-        let when : time ≡ b.by.look.time = same ∙ ap (λ (y : Entry). y.time) b.by.is in
-        (late.end, knew_same s p v (e ∷ p) x late.end (step_reads (heard_same (Late time) to (λ n. cc))) knew, ap (λ (c : ClockSet). nat_lt (runs_on c time) late.end) set_same ∙ (ap (λ q. nat_lt (clock s.repos p s.number q) late.end) when ∙ late.late), record {
-          entry = e;
-          before = p;
-          occurs = inl (refl, refl);
-          own = is;
-          kind_is = k ∙ ap (Fault Unhold) (subst (JobKind t b.by.made) k kind).0 ∙ ap (λ n. Fault Unhold (by_job n)) (sym (step_number s p e x b));
-          time_is = same;
-          set = sym set_same;
-        })
+        let when : time ≡ b.by.look.time = same ∙ ap (λ (y : Entry). y.time) b.by.is in (
+          late.end,
+          knew_same s p v (e ∷ p) x late.end (step_reads (heard_same (Late time) to (λ n. cc))) knew,
+          ap (λ (c : ClockSet). nat_lt (runs_on c time) late.end) set_same ∙ (ap (λ q. nat_lt (clock s.repos p s.number q) late.end) when ∙ late.late),
+          record {
+            entry = e;
+            before = p;
+            occurs = inl (refl, refl);
+            own = is;
+            kind_is = k ∙ ap (Fault Unhold) (subst (JobKind t b.by.made) k kind).0 ∙ ap (λ n. Fault Unhold (by_job n)) (sym (step_number s p e x b));
+            time_is = same;
+            set = sym set_same;
+          },
+        )
 
     old_knew : (n : ℕ) (version peer : ℕ) → x.phase ≡ Ends (Refused (refusals.OldProtocol n)) → Old t version peer → knows_enough s (state_of s p) v ≡ true → KnewAt s (e ∷ p) x (Ends (Refused (refusals.OldProtocol n)))
     old_knew n version peer to old enough =

@@ -235,7 +235,12 @@ module _ (s : SetUp) (past : List Entry) (words : ℕ → Option Word) (e : Entr
               | inl p ↦ inr (record {
                 by = x;
                 number = eqb_true x.w.number j (subst (λ o. option_is o j ≡ true) (stepped_job s past e x) (and_true (is_of r e) (option_is (job_of e.kind) j) its).1);
-                f = f; took = took; told = is_said f.body Failure failure; p = p.0; phase = p.1; peer = eqb_true f.peer c two.0;
+                f = f;
+                took = took;
+                told = is_said f.body Failure failure;
+                p = p.0;
+                phase = p.1;
+                peer = eqb_true f.peer c two.0;
               })
               | inr n ↦ of_whole None (whole ∙ takes_failure s past h e f down (taken_of s past e x f took) failure from ∙ ap (λ q. cause_if q from) n) tt
             ]

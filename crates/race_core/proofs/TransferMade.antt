@@ -242,9 +242,11 @@ module _ (t : Turn) where
         alone (Jobs.Ends outcome) h = refl
         alone phase h = absurd (cc)
     stuck_goes (inr x) =
-        let none : next_source t ≡ None = ap (λ o. slice_get (Rattle.node_model.specs.TransferStep.sources t o) (length t.w.causes)) x.2.1 ∙ x.2.2 in
-        (ap (partner t.w.what.peer) x.1, subst (λ p. Ending (goes t p)) (sym x.1) (subst (λ p. Ending (next_step t p)) (sym x.0)
-        (subst (λ o. Ending (next_get t o)) (sym none) (ends_ending (TransferRefused (failures.NoSource t.w.causes))))))
+        let none : next_source t ≡ None = ap (λ o. slice_get (Rattle.node_model.specs.TransferStep.sources t o) (length t.w.causes)) x.2.1 ∙ x.2.2 in (
+          ap (partner t.w.what.peer) x.1,
+          subst (λ p. Ending (goes t p)) (sym x.1) (subst (λ p. Ending (next_step t p)) (sym x.0)
+              (subst (λ o. Ending (next_get t o)) (sym none) (ends_ending (TransferRefused (failures.NoSource t.w.causes))))),
+        )
 
     -- **a get or a put that is to end, or has nobody left to ask, ends**
     pub stuck_ends : (m : Made) → Stuck t.w → by_partner t (partner t.w.what.peer t.w.phase) ≡ Some m → Ending m

@@ -19,7 +19,7 @@ use Rattle.run_model.specs.Frames.{Way, sender_of, sent, way_of}
 use Rattle.run_model.specs.Logs.{is_drop, need_read}
 use Rattle.node_model.specs.Evidence.{is_trusted}
 use Rattle.run_model.specs.Safety.{Removal, past_at}
-use Rattle.node_model.specs.Jobs.{drop_side, is_move}
+use Rattle.node_model.specs.Jobs.{drop_side, is_move, or_own}
 use Rattle.race_core.specs.Places.{removal_at}
 use Rattle.race_core.specs.Readings.{Judge, judge_at}
 
@@ -32,14 +32,16 @@ pub record IsAt (run : Run) (place r : ℕ) (kind : EntryKind) : Type 0 where
 
 -- ---- the job of a drop
 
--- job j of r begins at one place of the run, which is before this one: it is a drop or a move of the key, and removes on this side
-pub record HasJob (run : Run) (place r j : ℕ) (key : List ℕ) (side : Side) : Type 0 where
+-- job j of r begins at one place of the run, which is before this one: it is a drop or a move of the key, and removes on this side, at
+-- this target
+pub record HasJob (run : Run) (place r j : ℕ) (key : List ℕ) (side : Side) (target : ℕ) : Type 0 where
   pub at : ℕ
   pub earlier : at < place
   pub what : Job
   pub begins : IsAt run at r (Begin j what)
   pub drops : (is_drop what.kind || is_move what.kind) ≡ true
   pub side_is : drop_side what.kind what.peer ≡ side
+  pub target_is : or_own r side what.peer ≡ target
   pub key_is : what.key ≡ key
   pub only : (other : ℕ) (also : Job) → IsAt run other r (Begin j also) → other ≡ at
 
@@ -78,7 +80,7 @@ pub record HasOrder (run : Run) (place r a : ℕ) (key : List ℕ) : Type 0 wher
   pub earlier : at < place
   pub order : IsAt run at a (Order j r deadline need key)
   pub sends : Sends run at w n
-  pub job : HasJob run at a j key Remote
+  pub job : HasJob run at a j key Remote r
   pub judge_is : judge_at run place taken.entry ≡ Some (record { repo = a; job = j; past = past_at run at })
   pub one_order : (other : ℕ) → Sends run other w n → other ≡ at
   pub once : (other : ℕ) → Takes run other r w n → other ≡ place

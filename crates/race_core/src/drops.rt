@@ -30,16 +30,16 @@ pub fn each_removal_is_one_drops()
 {}
 
 /// A removal by a job is that of a local drop, or of the drop of a move, of this key, which began at one place before; and the
-/// job removes nothing else.
+/// job removes nothing else here.
 pub fn removals_by_jobs_are_one_drops()
     ensures job { (run : Run) (place r j : ℕ) (key : List ℕ)
-        → IsRun run → IsAt run place r (Gone (by_job j) key) → HasJob run place r j key Local }
+        → IsRun run → IsAt run place r (Gone (by_job j) key) → HasJob run place r j key Local r }
     ensures once { (run : Run) (place other r j : ℕ) (key also : List ℕ)
         → IsRun run → IsAt run place r (Gone (by_job j) key) → IsAt run other r (Gone (by_job j) also) → other ≡ place }
 {}
 
 /// A removal by a peer obeys one order: one entry sent the frame that it took, an order of this key to this repository, by
-/// one job of the peer, a drop or a move of this key that began at one place. No other entry took the frame, and no two
+/// one job of the peer, a drop or a move of this key from this repository that began at one place. No other entry took the frame, and no two
 /// removals obey one order.
 pub fn removals_by_orders_are_one_drops()
     ensures order { (run : Run) (place r a slot : ℕ) (key : List ℕ)

@@ -21,7 +21,7 @@ pub fn carried_states_agree()
         → Agrees (state_of (set_up run r) (reverse run.entries)) (states (set_up run r) (filter (is_of r) (reverse run.entries))) }
     ensures steps { (run : Run) (r : ℕ) (k : Look) → IsRun run
         → step (set_up run r) (state_of (set_up run r) (reverse run.entries)) k
-            ≡ step (set_up run r) (states (set_up run r) (filter (is_of r) (reverse run.entries))) k }
+        ≡ step (set_up run r) (states (set_up run r) (filter (is_of r) (reverse run.entries))) k }
     ensures own_states { (s : SetUp) (past : List Entry) → OwnPast s past
         → Agrees (state_of s past) (states s (filter (is_of s.number) past)) }
     ensures own_steps { (s : SetUp) (past : List Entry) (k : Look) → OwnPast s past
