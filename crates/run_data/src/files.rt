@@ -4,7 +4,7 @@ ghost use Rattle.std.specs.List.{after_first, position_or_len};
 ghost use Rattle.log_lines.specs.declared.entry.LogKind.{LogKind};
 ghost use Rattle.log_lines.specs.declared.entry.LogKind.TheVariants as kinds;
 ghost use Rattle.union_merge.specs.LineSet.{IsLine};
-ghost use Rattle.trust_groups.specs.Settings.{file_name};
+ghost use Rattle.log_lines.specs.Files.{file_name};
 ghost use Rattle.run_data.specs.Files.{HasPath, file_of, file_path, is_slash, kind_named, kind_of, location_at, log_name};
 
 use crate::entry::LogFile;
