@@ -6,7 +6,7 @@ use Rattle.annex_base.specs.Lists.{Each}
 use Rattle.log_lines.specs.declared.entry.LogKind.{LogKind}
 use Rattle.log_lines.specs.declared.entry.LogKind.TheVariants as kinds
 use Rattle.union_merge.specs.LineSet.{IsLine}
-use Rattle.trust_groups.specs.Settings.{file_name}
+use Rattle.log_lines.specs.Files.{file_name}
 use Rattle.run_data.specs.declared.entry.LogFile.{LogFile}
 use Rattle.run_data.specs.declared.entry.LogFile.TheVariants.{Location, Named}
 use Rattle.thin_model.specs.Branches.{HasPath}

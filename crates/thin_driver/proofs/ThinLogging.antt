@@ -12,7 +12,7 @@ use Rattle.log_lines.specs.declared.entry.Value.{Value}
 use Rattle.log_lines.specs.Newest.{newest_stamp, next_stamp}
 use Rattle.union_merge.specs.LineSet.{IsLineSet}
 use Rattle.union_merge.specs.Branch.{Files}
-use Rattle.trust_groups.specs.Settings.{file_name}
+use Rattle.log_lines.specs.Files.{file_name}
 use Rattle.run_data.specs.declared.run.RepoView.{RepoView}
 use Rattle.run_data.specs.declared.entry.Entry.{Entry}
 use Rattle.run_data.specs.declared.entry.EntryKind.TheVariants.{Log, Compact}

@@ -16,7 +16,7 @@ use Rattle.log_lines.specs.declared.entry.Value.TheVariants as values
 use Rattle.log_lines.specs.LineText.{line_text}
 use Rattle.log_lines.specs.Newest.{newest_stamp, next_stamp}
 use Rattle.union_merge.specs.Branch.{Files}
-use Rattle.trust_groups.specs.Settings.{file_name}
+use Rattle.log_lines.specs.Files.{file_name}
 use Rattle.run_data.specs.declared.run.Run.{Run}
 use Rattle.run_data.specs.declared.run.RepoView.{RepoView}
 use Rattle.run_data.specs.declared.entry.Entry.{Entry}

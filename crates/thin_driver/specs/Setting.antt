@@ -5,7 +5,7 @@ use Rattle.log_lines.specs.declared.entry.Topic.{Topic}
 use Rattle.log_lines.specs.declared.entry.Value.{Value}
 use Rattle.log_lines.specs.LineText.{line_text}
 use Rattle.union_merge.specs.LineSet.{IsLine}
-use Rattle.trust_groups.specs.Settings.{file_name}
+use Rattle.log_lines.specs.Files.{file_name}
 
 -- what is written of the value is one line, whatever its stamp
 abbrev pub WritesLine : LogKind → Topic → Value → Type 0

@@ -23,7 +23,8 @@ use Rattle.thin_model.specs.Logs.{ever, read_at}
 use Rattle.thin_model.specs.Drops.{Asked, Claimed, Ignored, Lock, Look, Offer, Standing, Vouch, asked, candidates, evidence, gather, is_trusted, is_waiting, key_in, offer, pick, reached, reply, standing, told_cause, waits}
 use Rattle.thin_model.specs.Safety.{Removal, add_removal, all_stand, backed, claim, count, is_gone, judged, least_need, local_removal, ordered, owned, removal, removals, smaller, stands, trusts, within}
 use Rattle.log_lines.specs.declared.entry.LogKind.TheVariants as kinds
-use Rattle.trust_groups.specs.Settings.{file_name, location_path}
+use Rattle.log_lines.specs.Files.{file_name}
+use Rattle.trust_groups.specs.Settings.{location_path}
 use Rattle.thin_laws.specs.declared.gathering.Candidate.{Candidate}
 use Rattle.thin_laws.specs.declared.gathering.Item.{Item}
 use Rattle.thin_laws.specs.declared.reading.Reading.{Reading}

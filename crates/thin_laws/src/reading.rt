@@ -10,7 +10,8 @@ ghost use Rattle.thin_model.specs.Past.{begun_job, is_of};
 ghost use Rattle.thin_model.specs.Frames.{job_by, job_of};
 ghost use Rattle.thin_model.specs.Logs.{ever, is_step, read_at};
 ghost use Rattle.thin_model.specs.Drops.{key_in};
-ghost use Rattle.trust_groups.specs.Settings.{file_name, is_present, level_in, location_path};
+ghost use Rattle.log_lines.specs.Files.{file_name};
+ghost use Rattle.trust_groups.specs.Settings.{is_present, level_in, location_path};
 ghost use Rattle.thin_laws.specs.Steps.{added, is_added, is_step_of, key_by};
 ghost use Rattle.thin_laws.specs.Checked.{level_said, present_said, seen_given, seen_in};
 

@@ -22,7 +22,8 @@ use Rattle.log_lines.specs.declared.entry.LogKind.TheVariants as kinds
 use Rattle.log_lines.proofs.WordLemmas.{all_append, append_all}
 use Rattle.union_merge.specs.LineSet.{newline, IsLine}
 use Rattle.union_merge.proofs.PlaceLemmas.{Member-contains}
-use Rattle.trust_groups.specs.Settings.{file_name, location_path}
+use Rattle.log_lines.specs.Files.{file_name}
+use Rattle.trust_groups.specs.Settings.{location_path}
 use Rattle.run_data.specs.declared.entry.LogFile.{LogFile}
 use Rattle.run_data.specs.declared.entry.LogFile.TheVariants.{Location, Named}
 use Rattle.thin_model.specs.Logs.{kind_of, kind_named, named_kinds}

@@ -8,7 +8,8 @@ use Rattle.log_lines.specs.Newest.{compacted}
 use Rattle.log_lines.specs.declared.entry.LogKind.{LogKind}
 use Rattle.log_lines.specs.declared.entry.LogKind.TheVariants as kinds
 use Rattle.union_merge.specs.Branch.{Files, file_at, lines_at, with_file, merged_file}
-use Rattle.trust_groups.specs.Settings.{settings, location_path, file_name, numcopies, mincopies}
+use Rattle.log_lines.specs.Files.{file_name}
+use Rattle.trust_groups.specs.Settings.{settings, location_path, numcopies, mincopies}
 use Rattle.run_data.specs.declared.entry.Entry.{Entry}
 use Rattle.run_data.specs.declared.entry.EntryKind.{EntryKind}
 use Rattle.run_data.specs.declared.entry.EntryKind.TheVariants.{Begin, Log, Compact}

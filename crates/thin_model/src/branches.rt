@@ -6,7 +6,7 @@ ghost use Rattle.annex_base.specs.Lists.{Each};
 ghost use Rattle.log_lines.specs.declared.entry.LogKind.{LogKind};
 ghost use Rattle.union_merge.specs.LineSet.{IsLine};
 ghost use Rattle.union_merge.specs.Branch.{file_at, merged_file};
-ghost use Rattle.trust_groups.specs.Settings.{file_name};
+ghost use Rattle.log_lines.specs.Files.{file_name};
 ghost use Rattle.run_data.specs.declared.entry.Entry.{Entry};
 ghost use Rattle.thin_model.specs.Logs.{file_path, kind_of, branch, branch_after, compact_lines, compact_file, file_in, file_named, first_of, named_kinds};
 ghost use Rattle.thin_model.specs.Branches.{HasBranches, HasPath, LogsToPath};

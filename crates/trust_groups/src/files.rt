@@ -1,31 +1,15 @@
+//! Where files of a branch stand, and their lines.
+
 ghost use Rattle.std.specs.Prelude.{◌≡◌, ◌∷◌, ◌++◌, IfOk};
 ghost use Rattle.hash_dirs.specs.LogPath.{location_log};
 ghost use Rattle.union_merge.specs.Branch.{lines_at};
-ghost use Rattle.trust_groups.specs.Settings.{file_name, location_path};
+ghost use Rattle.trust_groups.specs.Settings.{location_path};
 
 use annex_base::{Line, NoMemory, Text};
 use annex_key::Key;
 use hash_dirs::dirs_of;
-use log_lines::LogKind;
 use std::alloc::Global;
 use union_merge::Branch;
-
-/// The name of a branch's file of this kind; none for a location log, whose path is that of its key (git-annex internals).
-pub fn file_name(kind: LogKind) -> &'static [u8]
-    ensures { result.now ≡ file_name kind }
-{
-    match kind {
-        LogKind::Location => b"",
-        LogKind::Trust => b"trust.log",
-        LogKind::Uuid => b"uuid.log",
-        LogKind::Group => b"group.log",
-        LogKind::Preferred => b"preferred-content.log",
-        LogKind::Required => b"required-content.log",
-        LogKind::GroupPreferred => b"group-preferred-content.log",
-        LogKind::Numcopies => b"numcopies.log",
-        LogKind::Mincopies => b"mincopies.log",
-    }
-}
 
 fn log_path(alloc: Global, unchunked: &[u8], file: &[u8]) -> Result<Text, NoMemory>
     ensures { IfOk result (λ t. t ≡ location_log unchunked.now file.now) }

@@ -4,7 +4,7 @@ use Rattle.log_lines.specs.declared.entry.LogKind.TheVariants as kinds
 use Rattle.log_lines.specs.declared.entry.Topic.TheVariants as topics
 use Rattle.log_lines.specs.declared.entry.Value.TheVariants as values
 use Rattle.log_lines.proofs.FormLemmas.{single_all}
-use Rattle.trust_groups.specs.Settings.{file_name}
+use Rattle.log_lines.specs.Files.{file_name}
 use Rattle.thin_driver.specs.Standing.{IsOneLine}
 use Rattle.thin_driver.proofs.Gathering.{Each-weaker}
 use Rattle.thin_driver.proofs.ThinLines.{IsSingle, line_is, written_line}

@@ -2,7 +2,7 @@ use Rattle.std.proofs.Common.{refl}
 use Rattle.log_lines.specs.declared.entry.LogKind.TheVariants as kinds
 use Rattle.log_lines.specs.declared.entry.Topic.TheVariants as topics
 use Rattle.log_lines.specs.declared.entry.Value.TheVariants as values
-use Rattle.trust_groups.specs.Settings.{file_name}
+use Rattle.log_lines.specs.Files.{file_name}
 use Rattle.thin_driver.proofs.ThinLines.{line_is, written_line}
 use Rattle.thin_driver.proofs.driver.Driver.set_mincopies.Goals as goal
 
