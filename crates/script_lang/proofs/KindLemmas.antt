@@ -5,7 +5,7 @@ use Rattle.std.proofs.lemmas.Slice.Eq.{bytes_eq-Decides}
 use Rattle.log_lines.specs.declared.entry.LogKind.{LogKind}
 use Rattle.log_lines.specs.declared.entry.LogKind.TheVariants as kinds
 use Rattle.log_lines.specs.Files.{file_name}
-use Rattle.run_data.specs.Files.{kind_named}
+use Rattle.log_lines.specs.Files.{kind_named}
 
 differs : (kind : LogKind) → bytes_eq (file_name kind) (codes "location") ≡ false
 differs kinds.Location = refl

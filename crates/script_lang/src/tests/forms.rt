@@ -5,7 +5,6 @@ use crate::{Command, Script};
 use annex_base::{Level, put_number};
 use run_data::LogFile;
 use std::test::Fail;
-use trust_groups::file_name;
 
 fn put_word(out: &mut Vec<u8>, word: &[u8]) -> Result<(), Fail> {
     out.push(b'|')?;
@@ -32,7 +31,7 @@ fn put_file(out: &mut Vec<u8>, file: &LogFile) -> Result<(), Fail> {
             put_word(out, b"location")?;
             put_word(out, key.text())
         }
-        LogFile::Of(kind) => put_word(out, file_name(*kind)),
+        LogFile::Of(kind) => put_word(out, kind.file_name()),
         LogFile::Other(name) => put_word(out, name.bytes()),
     }
 }

@@ -1,5 +1,5 @@
 use Rattle.std.proofs.Common.{◌∙◌, sym, ap}
-use Rattle.run_data.specs.Files.{kind_named}
+use Rattle.log_lines.specs.Files.{kind_named}
 use Rattle.run_data.proofs.FileLemmas.{named_found, named_kind}
 use Rattle.run_data.proofs.files.kind_named.Goals as goal
 
