@@ -15,7 +15,7 @@ use Rattle.log_lines.specs.Index.{Index}
 use Rattle.log_lines.proofs.Steps.{none_some, false_by}
 use Rattle.log_lines.proofs.NewerLemmas.{by_test}
 use Rattle.log_lines.proofs.PutLemmas.{by_order}
-use Rattle.union_merge.specs.FileView.{path_cmp}
+use Rattle.annex_base.specs.ByteOrder.{path_cmp}
 use Rattle.trust_groups.specs.Reads.{Indices, index_at, indices_with, seen}
 
 abbrev Row : Type 0

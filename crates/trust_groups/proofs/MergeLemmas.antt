@@ -10,7 +10,7 @@ use Rattle.log_lines.proofs.CompactLemmas.{member_append, append_first, append_s
 use Rattle.union_merge.specs.LineSet.{union}
 use Rattle.union_merge.specs.Branch.{Files, IsBranch, lines_at, merged_branch, merged_branches}
 use Rattle.union_merge.proofs.SetLemmas.{Member-union, union-left, union-right}
-use Rattle.union_merge.proofs.MergeLemmas.{lines_at-merged, merged_all-order}
+use Rattle.union_merge.proofs.MergeLemmas.{lines_at-merged_branch, merged_branches-order}
 use Rattle.log_lines.specs.Files.{file_name}
 use Rattle.hash_dirs.specs.LogPath.{location_path}
 use Rattle.trust_groups.specs.Settings.{Lines, settings}

@@ -20,7 +20,7 @@ use Rattle.log_lines.proofs.Steps.{false_by}
 use Rattle.log_lines.proofs.OrderLemmas.{other}
 use Rattle.log_lines.proofs.NewerLemmas.{by_test}
 use Rattle.log_lines.proofs.NewestLemmas.{newest_more}
-use Rattle.union_merge.specs.FileView.{path_cmp}
+use Rattle.annex_base.specs.ByteOrder.{path_cmp}
 use Rattle.union_merge.specs.FileView as view
 use Rattle.union_merge.specs.Branch.{Files, IsBranch, lines_at}
 use Rattle.trust_groups.specs.Settings.{Lines}
@@ -143,19 +143,19 @@ BranchRow = Vec ℕ Global × List (List ℕ)
 
 -- the next file was read
 pub from_step : (lines whole : Lines) (all rest : List BranchRow) (row : BranchRow) (path : List ℕ) (more : List (List ℕ)) → all ≡ row ∷ rest → path ≡ row.0.items → more ≡ row.1
-    → ((q : List ℕ) → lines_from lines (view.seen all) q ≡ whole q) → (q : List ℕ) → lines_from (lines_and lines path more) (view.seen rest) q ≡ whole q
+    → ((q : List ℕ) → lines_from lines (view.files_of all) q ≡ whole q) → (q : List ℕ) → lines_from (lines_and lines path more) (view.files_of rest) q ≡ whole q
 unfolding lines_from
 from_step lines whole all rest row path more is named same so_far q =
-    ap (λ (p : List ℕ). lines_from (lines_and lines p more) (view.seen rest) q) named
-    ∙ ap (λ (m : List (List ℕ)). lines_from (lines_and lines row.0.items m) (view.seen rest) q) same
-    ∙ ap (λ (a : List BranchRow). lines_from lines (view.seen a) q) (sym is)
+    ap (λ (p : List ℕ). lines_from (lines_and lines p more) (view.files_of rest) q) named
+    ∙ ap (λ (m : List (List ℕ)). lines_from (lines_and lines row.0.items m) (view.files_of rest) q) same
+    ∙ ap (λ (a : List BranchRow). lines_from lines (view.files_of a) q) (sym is)
     ∙ so_far q
 
 -- all files were read
-pub from_end : (lines whole : Lines) (rest : List BranchRow) → rest ≡ [] → ((q : List ℕ) → lines_from lines (view.seen rest) q ≡ whole q) → (q : List ℕ) → lines q ≡ whole q
+pub from_end : (lines whole : Lines) (rest : List BranchRow) → rest ≡ [] → ((q : List ℕ) → lines_from lines (view.files_of rest) q ≡ whole q) → (q : List ℕ) → lines q ≡ whole q
 unfolding lines_from
-from_end lines whole rest none so_far q = ap (λ (a : List BranchRow). lines_from lines (view.seen a) q) (sym none) ∙ so_far q
+from_end lines whole rest none so_far q = ap (λ (a : List BranchRow). lines_from lines (view.files_of a) q) (sym none) ∙ so_far q
 
 -- no file was read yet
-pub from_start : (files : Files) (rest : List BranchRow) → view.seen rest ≡ files → IsBranch files → (path : List ℕ) → lines_from (λ path. []) (view.seen rest) path ≡ lines_at files path
+pub from_start : (files : Files) (rest : List BranchRow) → view.files_of rest ≡ files → IsBranch files → (path : List ℕ) → lines_from (λ path. []) (view.files_of rest) path ≡ lines_at files path
 from_start files rest same is path = ap (λ (fs : Files). lines_from (λ path. []) fs path) same ∙ from_branch files is path

@@ -18,10 +18,10 @@ ghost use Rattle.std.specs.Option.{option_copied};
 ghost use Rattle.trust_groups.specs.View.{level_of};
 
 use crate::files::lines_of;
-use hash_dirs::location_path;
 use crate::levels::{Levels, level_among};
 use annex_base::{Level, NoMemory, RepoId};
 use annex_key::Key;
+use hash_dirs::location_path;
 use log_lines::{LogKind, Newest, Statement, Topic, Value};
 use std::alloc::Global;
 use std::collections::btree_map::Iter;

@@ -27,8 +27,8 @@ pub fn merges_read_alike()
     ensures own { (x : Lines) → KeepsFiles x x }
     ensures compacted { (old new ever : Lines) → CompactsFiles old new → KeepsFiles old ever → KeepsFiles new ever }
     ensures added { (kept ever new : Lines) (path line : List ℕ) → KeepsFiles kept ever → SameFiles (lines_with kept path line) new → KeepsFiles new (lines_with ever path line) }
-    ensures merged { (xs ys : Files) (ever others : Lines) → IsBranch xs → IsBranch ys → KeepsFiles (lines_at xs) ever → KeepsFiles (lines_at ys) others → KeepsFiles (lines_at (merged xs ys)) (λ path. ever path ++ others path) }
-    ensures order { (start : Files) (xs ys : List Files) → IsBranch start → Each IsBranch xs → Each IsBranch ys → ((b : Files) → Member b xs ↔ Member b ys) → settings (lines_at (merged_all start xs)) ≡ settings (lines_at (merged_all start ys)) }
+    ensures merged { (xs ys : Files) (ever others : Lines) → IsBranch xs → IsBranch ys → KeepsFiles (lines_at xs) ever → KeepsFiles (lines_at ys) others → KeepsFiles (lines_at (merged_branch xs ys)) (λ path. ever path ++ others path) }
+    ensures order { (start : Files) (xs ys : List Files) → IsBranch start → Each IsBranch xs → Each IsBranch ys → ((b : Files) → Member b xs ↔ Member b ys) → settings (lines_at (merged_branches start xs)) ≡ settings (lines_at (merged_branches start ys)) }
 {}
 
 /// Settings that have read lines are those of these lines. So settings that have read every line that was ever added to a

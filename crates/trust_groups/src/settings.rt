@@ -14,13 +14,13 @@ ghost use Rattle.trust_groups.specs.Reads.{Reads, index_at, lines_with, seen};
 ghost use Rattle.trust_groups.specs.View.{settings_of};
 
 use crate::claims::claims_in;
-use hash_dirs::location_path;
 use crate::groups::grouped_in;
 use crate::indices::{add_file, add_line};
 use crate::levels::level_among;
 use crate::values::{groups_in, number_in, text_in, value_of, value_of_group};
 use annex_base::{Level, Line, NoMemory, RepoId, Text};
 use annex_key::Key;
+use hash_dirs::location_path;
 use log_lines::{LogKind, Newest, Topic};
 use std::alloc::Global;
 use std::collections::BTreeMap;

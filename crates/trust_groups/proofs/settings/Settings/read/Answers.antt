@@ -10,7 +10,7 @@ pub loop-path-init : goal.loop-path-init
 loop-path-init c = (
   λ path. [],
   reads_none c.new-files.result.entries c.new-files.ensures.empty,
-  from_start c.args.branch.now c.into_iter-path-iterator.result (ap view.seen c.into_iter-path-iterator.ensures.into_iter_gives ∙ c.files-path-items.ensures.value) c.files-path-items.ensures.branch,
+  from_start c.args.branch.now c.into_iter-path-iterator.result (ap view.files_of c.into_iter-path-iterator.ensures.into_iter_gives ∙ c.files-path-items.ensures.value) c.files-path-items.ensures.branch,
 )
 
 pub loop-path-preserved : goal.loop-path-preserved

@@ -9,4 +9,4 @@ use Rattle.trust_groups.proofs.settings.Settings.read.Given as goal
 -- some lines were read, and with the files that are left they are those of the branch
 abbrev pub invariant-loop-path : goal.invariant-loop-path
 invariant-loop-path l =
-    (lines : Lines) × Reads (seen l.files.entries) lines × ((path : List ℕ) → lines_from lines (view.seen l.path-iterator) path ≡ lines_at l.branch path)
+    (lines : Lines) × Reads (seen l.files.entries) lines × ((path : List ℕ) → lines_from lines (view.files_of l.path-iterator) path ≡ lines_at l.branch path)
