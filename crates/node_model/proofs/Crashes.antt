@@ -1,12 +1,12 @@
 -- What a repository's state is after a crash.
-use Rattle.std.proofs.Common.{◌≡◌, ◌⊎◌, inl, inr, ℕ, ◌+◌, true, List, [], ◌∷◌, refl, sym, ap, ◌∙◌, subst, arith}
+use Rattle.std.proofs.Common.{◌≡◌, inl, inr, ℕ, ◌+◌, true, List, [], ◌∷◌, ap, subst, arith}
 use Rattle.std.specs.Prelude.{map}
 use Rattle.annex_base.specs.Lists.{Member}
 use Rattle.run_data.specs.declared.entry.Entry.{Entry}
 use Rattle.run_data.specs.declared.entry.EntryKind.{EntryKind}
 use Rattle.run_data.specs.declared.entry.EntryKind.TheVariants.{Crash}
 use Rattle.run_data.specs.declared.row.Hold.{Hold}
-use Rattle.node_model.specs.After.{clock_after, state_after}
+use Rattle.node_model.specs.After.{state_after}
 use Rattle.node_model.specs.Clocks.{hold_time}
 use Rattle.node_model.specs.Rows.{holds_after, restart}
 use Rattle.node_model.specs.SetUp.{SetUp}

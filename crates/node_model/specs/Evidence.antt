@@ -1,6 +1,6 @@
 -- The candidates of a drop, what they offer, and the evidence of that (git-annex-numcopies, git-annex-mincopies; how it is
 -- gathered is the project's own).
-use Rattle.std.specs.Prelude.{ℕ, ◌+◌, Bool, true, false, not, ◌&&◌, if◌then◌else◌, ◌==◌, List, [], ◌∷◌, ◌++◌, filter, bytes_eq}
+use Rattle.std.specs.Prelude.{ℕ, Bool, true, false, not, ◌&&◌, if◌then◌else◌, ◌==◌, List, [], ◌∷◌, ◌++◌, filter, bytes_eq}
 use Rattle.std.specs.List.{range_with_len, list_any}
 use Rattle.annex_base.specs.Settings.{Settings}
 use Rattle.annex_base.specs.declared.kinds.Level.{Level}

@@ -83,33 +83,7 @@ next_by r w = find (asks_by r w) (candidates_by r w)
 abbrev pub proof_by : Reading → Work → Proof
 proof_by r w = proof_of r.count r.need (known_by r w)
 
--- ---- the same of a state
-
-abbrev pub knows : SetUp → State → Work → ℕ → Offer
-knows s st w = knows_by (reading s st w) w
-
-abbrev pub is_to_ask : SetUp → State → Work → ℕ → Bool
-is_to_ask s st w = asks_by (reading s st w) w
-
--- ---- evidence
-
-abbrev pub candidates_of : SetUp → Work → List ℕ
-candidates_of s w = candidates (side_of w) (length s.repos) s.number (target_of s.number w)
-
-abbrev pub known : SetUp → State → Work → List Evidence
-known s st w = known_by (reading s st w) w
-
-abbrev pub knows_enough : SetUp → State → Work → Bool
-knows_enough s st w = enough_by (reading s st w) w
-
--- the candidate that is asked next
-abbrev pub next_of : SetUp → State → Work → Option ℕ
-next_of s st w = next_by (reading s st w) w
-
 -- ---- what is stated at the end
-
-abbrev pub proof_known : SetUp → State → Work → Proof
-proof_known s st w = proof_by (reading s st w) w
 
 -- the word beside a refusal to say that a content is there
 abbrev pub cause_of_word : Option Word → Cause
@@ -127,9 +101,6 @@ cause_by word _ heard = cause_heard word heard
 
 abbrev pub causes_by : Reading → (ℕ → Option Word) → Work → List CandidateCause
 causes_by r words w = failures (knows_by r w) (λ c. cause_by (words c) (r.standing c) (heard_of w c)) (candidates_by r w)
-
-abbrev pub causes_known : SetUp → State → (ℕ → Option Word) → Work → List CandidateCause
-causes_known s st words w = causes_by (reading s st w) words w
 
 -- the word beside a refused order
 abbrev pub denial_of : Option Word → Denial

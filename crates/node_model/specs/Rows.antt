@@ -1,5 +1,5 @@
 -- The rows of a repository, and what its entries change in them: which contents are there, bars and holds (own).
-use Rattle.std.specs.Prelude.{ℕ, ◌+◌, ◌-◌, Bool, true, false, not, ◌&&◌, ◌||◌, if◌then◌else◌, ◌==◌, nat_lt, List, ◌∷◌, filter, map, Option, Some, None, bytes_eq}
+use Rattle.std.specs.Prelude.{ℕ, ◌+◌, Bool, true, false, not, ◌&&◌, ◌||◌, if◌then◌else◌, ◌==◌, nat_lt, List, ◌∷◌, filter, map, Option, Some, None, bytes_eq}
 use Rattle.std.specs.List.{list_any}
 use Rattle.annex_base.specs.declared.kinds.Call.TheVariants.{Unhold}
 use Rattle.run_data.specs.declared.row.Hold.{Hold}

@@ -1,5 +1,5 @@
 -- The jobs of a repository, each in one of its four slots, and which job makes an entry (own).
-use Rattle.std.specs.Prelude.{ℕ, ◌+◌, ◌-◌, Bool, true, false, not, if◌then◌else◌, ◌==◌, List, Option, Some, None}
+use Rattle.std.specs.Prelude.{ℕ, ◌+◌, Bool, true, false, not, if◌then◌else◌, ◌==◌, List, Option, Some, None}
 use Rattle.std.specs.List.{list_any}
 use Rattle.run_data.specs.declared.job.Job.{Job}
 use Rattle.run_data.specs.declared.entry.By.{By}

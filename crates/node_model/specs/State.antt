@@ -2,7 +2,6 @@
 use Rattle.std.specs.Prelude.{ℕ, Bool, List, Option}
 use Rattle.annex_base.specs.Settings.{Settings}
 use Rattle.run_data.specs.declared.row.Hold.{Hold}
-use Rattle.node_model.specs.Clocks.{wall}
 use Rattle.node_model.specs.Ends.{End, EndName}
 use Rattle.node_model.specs.Sessions.{Session}
 use Rattle.node_model.specs.Jobs.{Work}

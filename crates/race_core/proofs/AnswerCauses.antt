@@ -22,7 +22,7 @@ use Rattle.node_model.specs.SetUp.{SetUp, served}
 use Rattle.run_model.specs.States.{state_of, works}
 use Rattle.node_model.specs.Ends.{server_end}
 use Rattle.run_model.specs.Words.{word_of, word_of_kind, word_told}
-use Rattle.node_model.specs.Jobs.{Denied, running}
+use Rattle.node_model.specs.Jobs.{running}
 use Rattle.node_model.specs.Knows.{denial_of}
 use Rattle.node_model.specs.DropStep
 use Rattle.node_model.specs.SessionStep.{is_filled, session_fills}
@@ -35,7 +35,7 @@ use Rattle.race_core.proofs.Refusals.{TransferStands, target_in, target_is}
 use Rattle.race_core.proofs.Standing.{stands}
 use Rattle.race_core.proofs.DeniedWords.{DeniedAt, DeniedBy, denied_words}
 use Rattle.race_core.proofs.RefusalCauses.{DropSettled, Ending, drop_settled, ending, ending_words, job_of, transfer_settled}
-use Rattle.race_core.specs.Own.{Meets, MessagePast}
+use Rattle.race_core.proofs.Own.{Meets, MessagePast}
 use Rattle.race_core.proofs.Flights.{occurs_always}
 use Rattle.race_core.proofs.Plain.{and_true}
 use Rattle.race_core.proofs.EpochJobs.{any_member}

@@ -17,7 +17,7 @@ use Rattle.std.specs.List.{list_any}
 use Rattle.drop_proof.specs.declared.rule.Need.{Need}
 use Rattle.drop_proof.specs.Judging.{least_end}
 use Rattle.run_model.specs.States.{works, state_of}
-use Rattle.node_model.specs.Knows.{known}
+use Rattle.race_core.proofs.Knowing.{known}
 use Rattle.node_model.specs.DropStep.{in_time, until}
 use Rattle.node_model.specs.SetUp.{SetUp}
 use Rattle.p2p_wire.specs.declared.message.Message.{Message}
@@ -25,11 +25,12 @@ use Rattle.p2p_wire.specs.declared.message.Message.TheVariants.{CheckPresent, Lo
 use Rattle.p2p_wire.specs.Messages.{order_of, text_of}
 use Rattle.node_model.specs.Sessions.{line_in}
 use Rattle.node_model.specs.State.{State}
-use Rattle.run_model.specs.Frames.{Way, down_of, way_of}
+use Rattle.run_model.specs.Frames.{Way, way_of}
+use Rattle.race_core.proofs.Ways.{down_of}
 use Rattle.node_model.specs.Look.{Look, Made, entry_of}
 use Rattle.node_model.specs.Step.{step}
 use Rattle.node_model.specs.Found.{BySession, GivesAt, InTime, TakesAt, agrees}
-use Rattle.run_model.specs.Answers.{MayBar, MayRemove, MayObey, MayShare, OwnFree, SaysYes}
+use Rattle.race_core.proofs.ServerAnswers.{MayBar, MayRemove, MayObey, MayShare, OwnFree, SaysYes}
 use Rattle.race_core.proofs.Plain.{and_true, eqb_true}
 use Rattle.race_core.proofs.Cases.{find_was}
 use Rattle.race_core.proofs.StepFacts.{bar_found, removes_found, check_found, obeyed_found, own_share_found, share_found}

@@ -12,7 +12,8 @@ use Rattle.run_model.specs.Past.{is_of}
 use Rattle.p2p_wire.specs.declared.message.Message.{Message}
 use Rattle.p2p_wire.specs.declared.message.Message.TheVariants.{CheckPresent, LockContent, GetTimestamp, Timestamp, Remove, RemoveBefore, Valid, Success, Failure}
 use Rattle.p2p_wire.specs.Messages.{order_of}
-use Rattle.run_model.specs.Said.{Says, is_answer, message_in}
+use Rattle.run_model.specs.Said.{Says, message_in}
+use Rattle.race_core.proofs.Ways.{is_answer}
 use Rattle.run_model.specs.Frames.{Flying, last_request, said_of, up_of, way_of}
 use Rattle.node_model.specs.Sessions.{line_in}
 use Rattle.node_model.specs.Jobs.{AsksLock, AsksLook, AsksTime, Orders, Phase, PutsAnswer, partner}

@@ -11,8 +11,9 @@ use Rattle.run_data.specs.Repos.{IsSetUp}
 use Rattle.run_model.specs.Past.{Occurs, is_of}
 use Rattle.p2p_wire.specs.declared.message.Message.{Message}
 use Rattle.p2p_wire.specs.declared.message.Message.TheVariants.{Failure, Put, Remove, RemoveBefore, Valid}
-use Rattle.run_model.specs.Said.{Says, is_answer, is_request, message_in}
-use Rattle.run_model.specs.Frames.{Flying, MayTake, answers, last_request, said_of, sender_of, sent, taken, taken_if, up_of, way_from, way_of}
+use Rattle.run_model.specs.Said.{Says, is_request, message_in}
+use Rattle.race_core.proofs.Ways.{is_answer, answers, way_from}
+use Rattle.run_model.specs.Frames.{Flying, MayTake, last_request, said_of, sender_of, sent, taken, taken_if, up_of, way_of}
 use Rattle.run_model.specs.Run.{RunPast, RunStep, set_up}
 use Rattle.race_core.proofs.SaidDown.{Alike}
 use Rattle.race_core.proofs.SessionAnswers.{AnswerFits, Answering}

@@ -12,8 +12,9 @@ use Rattle.run_data.specs.Repos.{id_of}
 use Rattle.p2p_wire.specs.declared.message.Message.{Message}
 use Rattle.p2p_wire.specs.declared.message.Message.TheVariants.{AuthSuccess, Valid, Invalid}
 use Rattle.p2p_wire.specs.Messages.{message_of, text_of}
-use Rattle.run_model.specs.Said.{Says, completes, is_request, message_in}
-use Rattle.run_model.specs.Frames.{answers, down_of, taken_if, way_from, way_of}
+use Rattle.run_model.specs.Said.{Says, is_request, message_in}
+use Rattle.race_core.proofs.Ways.{completes, answers, down_of, way_from}
+use Rattle.run_model.specs.Frames.{taken_if, way_of}
 use Rattle.node_model.specs.SetUp.{SetUp}
 use Rattle.node_model.specs.Ends.{End, EndName, end_sends, end_takes, frames, is_opening, server_end}
 use Rattle.run_model.specs.States.{end_at, session, state_of}

@@ -19,7 +19,8 @@ use Rattle.node_model.specs.State.{State}
 use Rattle.run_model.specs.States.{state_of, rows_at, works}
 use Rattle.node_model.specs.Jobs
 use Rattle.node_model.specs.Jobs.{Drops, Fresh, Gets, Heard, Part, Phase, Puts, Work, running, side_of, target_of, work_kind}
-use Rattle.node_model.specs.Knows.{is_unasked, knows_enough, offer_by, standing_of}
+use Rattle.node_model.specs.Knows.{is_unasked, offer_by, standing_of}
+use Rattle.race_core.proofs.Knowing.{knows_enough}
 use Rattle.run_model.specs.Run.{OwnPast}
 use Rattle.race_core.proofs.Plain.{both_true, or_left, or_right}
 use Rattle.race_core.proofs.JobKept.{kind_kept}

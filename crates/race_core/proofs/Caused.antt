@@ -29,7 +29,7 @@ use Rattle.race_core.proofs.Standing.{stands}
 use Rattle.race_core.proofs.RefusalCauses.{DropSettled, Ending, absent_found, barred_found, drop_settled, ending, fault_found, held_found, not_here_found, transfer_fault_found, transfer_settled}
 use Rattle.race_core.proofs.ClosedCauses.{ShutsTold}
 use Rattle.race_core.proofs.ClosedFound.{OrdersTold, SourcesInOrder, closed_found, lost_found, no_source_found}
-use Rattle.race_core.specs.Own.{MessagePast}
+use Rattle.race_core.proofs.Own.{MessagePast}
 use Rattle.race_core.proofs.Lists.{eqb_true}
 use Rattle.race_core.proofs.EvidenceCauses.{CausesTold, expired_found, lacking_found, old_found}
 use Rattle.race_core.proofs.AnswerCauses.{FailuresFit, SessionsFill, busy_found, denied_found, rejected_found}

@@ -1,4 +1,5 @@
 -- What an entry changes: the value after it is the value before, or the entry is of a stated kind.
+use Rattle.node_model.specs.Clocks.{hold_time, ClockSet}
 use Rattle.std.proofs.Common.{◌≡◌, ◌≢◌, ℕ, ◌+◌, ◌<◌, ◌≤◌, Bool, true, false, not, ◌&&◌, ◌||◌, List, [], ◌∷◌, length, Option, Some, None, ◌⊎◌, inl, inr, refl, sym, ap, ◌∙◌, subst, arith}
 use Rattle.std.specs.Prelude.{bytes_eq, if◌then◌else◌, ◌==◌, nat_lt, nat_le, filter, map, option_map}
 use Rattle.std.specs.List.{list_any}
@@ -20,7 +21,6 @@ use Rattle.run_data.specs.declared.entry.EntryKind.TheVariants.{Share, Release, 
 use Rattle.run_data.specs.declared.row.Hold.{Hold}
 use Rattle.run_model.specs.Past.{present, bar, is_of, decided, decided_after, Decision, holds, clock_set, now, set_after}
 use Rattle.node_model.specs.Rows.{present_after, bar_after, option_is, holds_after, keep_of, same_owner, is_lost_ordered, blocks, is_blocked, restart}
-use Rattle.node_model.specs.Clocks.{ClockSet}
 use Rattle.run_model.specs.Frames.{Sent, sender, is_job}
 use Rattle.run_model.specs.Drops.{Vouch, Lock, Look, look_of, vouch_kind, vouch, vouches, newer, Asker, asker, is_asker, asked_at, tells, told_by, reply}
 use Rattle.run_model.specs.Safety.{Removal, removal, removal_by, local_removal, remote_removal, ordered, sent_order, add_removal}
@@ -283,10 +283,10 @@ lasts_stays e past r number until owner key h stands = go (is_of r e) refl
     go false is = inl h
 
 -- a crash begins the ten minutes of a hold anew
-pub lasts_crash : (e : Entry) (past : List Entry) (r number was until : ℕ) (owner : By) (key : List ℕ) → (t : Crashes e r) → until ≤ t.clock + 600000 → lasts (holds past r) number was owner key ≡ true → lasts (holds (e ∷ past) r) number until owner key ≡ true
+pub lasts_crash : (e : Entry) (past : List Entry) (r number was until : ℕ) (owner : By) (key : List ℕ) → (t : Crashes e r) → until ≤ t.clock + hold_time → lasts (holds past r) number was owner key ≡ true → lasts (holds (e ∷ past) r) number until owner key ≡ true
 lasts_crash e past r number was until owner key t le h = rw (t.repo_is, t.kind_is) (go (holds past r) h)
   where
-    late : nat_le until (t.clock + 600000) ≡ true
+    late : nat_le until (t.clock + hold_time) ≡ true
     late = grind (arith, nat_tests)
 
     one : (x : Hold) → lasts_one number was owner key x ≡ true → lasts_one number until owner key (restart t.clock x) ≡ true
@@ -294,7 +294,7 @@ lasts_crash e past r number was until owner key t le h = rw (t.repo_is, t.kind_i
         let a = and_true (x.number == number) _ k in
         let b = and_true (same_owner x.owner owner) _ a.1 in
         let c = and_true (bytes_eq x.key key) _ b.1 in
-        both (x.number == number) _ a.0 (both (same_owner x.owner owner) _ b.0 (both (bytes_eq x.key key) (nat_le until (t.clock + 600000)) c.0 late))
+        both (x.number == number) _ a.0 (both (same_owner x.owner owner) _ b.0 (both (bytes_eq x.key key) (nat_le until (t.clock + hold_time)) c.0 late))
 
     go : (xs : List Hold) → lasts xs number was owner key ≡ true → lasts (map (restart t.clock) xs) number until owner key ≡ true
     go [] k = k
@@ -528,7 +528,7 @@ tells_vouches past e r a j v m = go (r == a) (is_job a j e) m
     go false true k = Member-right v (vouch past e r a j) (vouches past r a j) (sender_vouched past a e.taken r a j v (sender past a e.taken) refl k)
     go false false k = absurd k
 
-newer-was : (vs : List Vouch) (old : Option Vouch) (v : Vouch) → newer vs old ≡ Some v → Member v vs ⊎ (old ≡ Some v)
+pub newer-was : (vs : List Vouch) (old : Option Vouch) (v : Vouch) → newer vs old ≡ Some v → Member v vs ⊎ (old ≡ Some v)
 newer-was [] old v h = inr h
 newer-was (w ∷ ws) old v h = inl (inl (some_inj v w (sym h)))
 

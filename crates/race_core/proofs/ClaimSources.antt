@@ -17,7 +17,7 @@ use Rattle.race_core.specs.Removals.{IsRemovalBefore, IsTrustedBefore}
 use Rattle.race_core.proofs.Lists.{and_true, eqb_true, true_or_false}
 use Rattle.race_core.proofs.Flights.{some_inj}
 use Rattle.race_core.proofs.Latest.{least_least}
-use Rattle.race_core.proofs.LockEnds.{some_member}
+use Rattle.race_core.proofs.ItemSources.{some_member}
 use Rattle.race_core.proofs.EntryPlaces.{at_occurs, occurs_at}
 use Rattle.race_core.proofs.AtPlaces.{enough_least}
 

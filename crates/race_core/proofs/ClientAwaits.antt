@@ -7,7 +7,8 @@ use Rattle.run_data.specs.declared.entry.Entry.{Entry}
 use Rattle.run_data.specs.declared.entry.FrameView.{FrameView}
 use Rattle.run_data.specs.declared.entry.FrameText.{FrameText}
 use Rattle.run_data.specs.declared.entry.FrameText.TheVariants.{Opening, Closing, Bytes, Line}
-use Rattle.run_model.specs.Said.{message_in, is_answer}
+use Rattle.run_model.specs.Said.{message_in}
+use Rattle.race_core.proofs.Ways.{is_answer}
 use Rattle.run_model.specs.Frames.{Way, last_request, requests, taken_if, up_of, way_of}
 use Rattle.node_model.specs.Ends.{same_bool, End, is_opening, may_take}
 use Rattle.race_core.proofs.ClientKeeps.{all_keep}

@@ -1,4 +1,5 @@
 -- Each step of a job keeps what its phase says of requests and answers: the walk over all steps.
+use Rattle.node_model.specs.Clocks.{hold_time}
 use Rattle.std.proofs.Common.{◌≡◌, ℕ, ◌+◌, ◌-◌, ◌/◌, ◌^◌, Bool, true, false, List, [], ◌∷◌, Option, Some, None, inl, inr, refl, sym, ap, ◌∙◌, subst}
 use Rattle.std.specs.Prelude.{if◌then◌else◌, ◌==◌, ◌&&◌, not, min, nat_lt, nat_le, bytes_eq, codes}
 use Rattle.std.specs.List.{list_all, list_any}
@@ -231,8 +232,8 @@ module _ (t : Turn) (alone : partner t.w.what.peer t.w.phase ≡ None) (live : I
   bars_even (Some refusal) = ends_even t alone live (Refused refusal)
   bars_even None = still_even t alone live (Bar t.w.number (need_now t) (key_of t)) Next refl
 
-  own_even : (here : Bool) (bar : Option ℕ) → EvenMade t (quietly (own_share (t.number) (clock_of t + 600000) t.w.number (key_of t) (talk t) (by_me t) here bar) None)
-  own_even true None = still_even t alone live (Share (t.number) (clock_of t + 600000) (by_me t) (key_of t)) Next refl
+  own_even : (here : Bool) (bar : Option ℕ) → EvenMade t (quietly (own_share (t.number) (clock_of t + hold_time) t.w.number (key_of t) (talk t) (by_me t) here bar) None)
+  own_even true None = still_even t alone live (Share (t.number) (clock_of t + hold_time) (by_me t) (key_of t)) Next refl
   own_even true (Some j) = quiet_even
   own_even false bar = quiet_even
 
@@ -243,7 +244,7 @@ module _ (t : Turn) (alone : partner t.w.what.peer t.w.phase ≡ None) (live : I
 
   tries_even : (standing : Standing) → EvenMade t (tries_own t standing)
   tries_even Asked = attempts_even (EvenMade t) t (to_hold (is_there t) (bar_there t)) None
-      (quietly (own_share (t.number) (clock_of t + 600000) t.w.number (key_of t) (talk t) (by_me t) (is_there t) (bar_there t)) None)
+      (quietly (own_share (t.number) (clock_of t + hold_time) t.w.number (key_of t) (talk t) (by_me t) (is_there t) (bar_there t)) None)
       (λ call e. fault_even t alone live call (hold_plain (is_there t) (bar_there t) call e)) (own_even (is_there t) (bar_there t))
   tries_even standing = quiet_even
 

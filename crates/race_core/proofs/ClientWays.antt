@@ -9,7 +9,8 @@ use Rattle.run_data.specs.declared.entry.FrameText.{FrameText}
 use Rattle.run_data.specs.declared.entry.FrameText.TheVariants.{Opening, Closing, Bytes, Line}
 use Rattle.p2p_wire.specs.declared.message.Message.{Message}
 use Rattle.p2p_wire.specs.Messages.{message_of}
-use Rattle.run_model.specs.Said.{said_line, message_in, is_request, is_answer}
+use Rattle.run_model.specs.Said.{said_line, message_in, is_request}
+use Rattle.race_core.proofs.Ways.{is_answer}
 use Rattle.run_model.specs.Past.{Always, is_of}
 use Rattle.run_model.specs.Frames
 use Rattle.run_model.specs.Frames.{Way, Flying, flying, is_on, last_of, on_way, requests, says, taken_if, takes_if}

@@ -10,7 +10,7 @@ use Rattle.run_model.specs.Past.{Occurs, clock, clock_set, is_of, now}
 use Rattle.p2p_wire.specs.declared.message.Message.TheVariants.{LockContent}
 use Rattle.run_model.specs.Said.{Says}
 use Rattle.run_model.specs.Drops.{Lock, reply, vouch}
-use Rattle.race_core.specs.Own.{MessagePast, Meets, OneClock, seeks}
+use Rattle.race_core.proofs.Own.{MessagePast, Meets, OneClock, seeks}
 use Rattle.race_core.proofs.Changes.{reply_vouched, set_by_now}
 use Rattle.race_core.proofs.Flights.{always_before, occurs_always, occurs_earlier}
 use Rattle.race_core.proofs.OwnFacts.{VouchesBy, asked_by, asker_seeks, share_seeks, vouches_by}

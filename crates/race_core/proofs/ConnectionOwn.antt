@@ -7,7 +7,7 @@ use Rattle.race_core.proofs.Makers.{who}
 use Rattle.race_core.proofs.OwnTried.{other_apart}
 use Rattle.race_core.proofs.OpenEnds.{job_sends_to, job_takes_from}
 use Rattle.race_core.proofs.EpochJobs.{one_job}
-use Rattle.race_core.specs.Own.{OneJob}
+use Rattle.race_core.proofs.Own.{OneJob}
 use Rattle.race_core.proofs.SessionOwn.{any_to, session_from, session_to, speaks}
 
 -- the field `one_job`

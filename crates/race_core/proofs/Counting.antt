@@ -1,5 +1,6 @@
 -- How a session's reply counts: it closes the connection, or answers what wants an answer in one line, or is silent to what wants
 -- none; GET is answered by DATA, and by the word on its bytes.
+use Rattle.node_model.specs.Clocks.{hold_time}
 use Rattle.std.proofs.Common.{◌≡◌, ℕ, ◌+◌, ◌*◌, ◌/◌, Bool, true, false, List, [], ◌∷◌, Option, Some, None, ◌⊎◌, inl, inr, refl, subst}
 use Rattle.std.specs.Prelude.{if◌then◌else◌, ◌==◌, ◌&&◌, min, nat_lt, nat_le, bytes_eq, codes}
 use Rattle.annex_base.specs.declared.kinds.Call.{Call}
@@ -11,7 +12,8 @@ use Rattle.run_data.specs.declared.entry.FrameText.TheVariants.{Closing, Bytes, 
 use Rattle.p2p_wire.specs.declared.message.Message.{Message}
 use Rattle.p2p_wire.specs.declared.message.Message.TheVariants.{Version, CheckPresent, LockContent, UnlockContent, Remove, RemoveBefore, GetTimestamp, Timestamp, Get, Put, PutFrom, AlreadyHave, Data, Valid, Invalid, Success, Failure, Error}
 use Rattle.p2p_wire.specs.Messages.{text_of}
-use Rattle.run_model.specs.Said.{completes, wants_answer}
+use Rattle.race_core.proofs.Ways.{completes}
+use Rattle.run_model.specs.Said.{wants_answer}
 use Rattle.node_model.specs.Sessions.{Doing, Waits, Guards, Gives, Gave, Wants, Takes, Took, reaches}
 use Rattle.node_model.specs.Calls.{to_commit, to_lock, to_offer, to_remove}
 use Rattle.node_model.specs.Look.{failing}
@@ -98,8 +100,8 @@ request_counts : (h : Here) (v : ℕ) (m : Message) → is_get m ≡ false → C
 request_counts h v (Version n) g = answer Waits (Version (min n h.version)) refl refl
 request_counts h v (CheckPresent key) g = tries_counts h true Waits (calls.Has ∷ []) refuses (check_answer key (is_here h key) (bar_on h key)) (refused Waits refl) (check_counts key (is_here h key) (bar_on h key))
 request_counts h v (LockContent key) g = tries_counts h true Waits (to_lock h.locks (is_here h key) (bar_on h key)) refuses
-    (lock_answer h.number (now_of h + 600000) (by_of h) key h.locks (is_here h key) (bar_on h key)) (refused Waits refl)
-    (lock_counts h.number (now_of h + 600000) (by_of h) key h.locks (is_here h key) (bar_on h key))
+    (lock_answer h.number (now_of h + hold_time) (by_of h) key h.locks (is_here h key) (bar_on h key)) (refused Waits refl)
+    (lock_counts h.number (now_of h + hold_time) (by_of h) key h.locks (is_here h key) (bar_on h key))
 request_counts h v (Remove key) g = on_remove-counts h key
 request_counts h v (RemoveBefore n key) g = with_version h (nat_le 3 v) (on_remove_before h n key) (before_counts h n key)
 request_counts h v GetTimestamp g = with_version h (nat_le 3 v) (reply (Talk None) (Timestamp (now_of h / 1000))) (answer Waits (Timestamp (now_of h / 1000)) refl refl)

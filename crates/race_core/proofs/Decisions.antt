@@ -19,7 +19,7 @@ use Rattle.node_model.specs.SetUp.{SetUp}
 use Rattle.run_model.specs.States.{state_of, end_at, rows_at, works}
 use Rattle.node_model.specs.Ends.{frames}
 use Rattle.node_model.specs.Jobs.{Drops, Work, job_end, running, side_of, target_of}
-use Rattle.node_model.specs.Knows.{knows_enough}
+use Rattle.race_core.proofs.Knowing.{knows_enough}
 use Rattle.run_model.specs.Run.{OwnPart, OwnPast, OwnRun}
 use Rattle.node_model.specs.Found.{HasDeadline, JobKind}
 use Rattle.node_model.specs.Slots.{Running}

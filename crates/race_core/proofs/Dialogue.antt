@@ -7,7 +7,7 @@ use Rattle.node_model.specs.Rows.{option_is}
 use Rattle.p2p_wire.specs.declared.message.Message.{Message}
 use Rattle.p2p_wire.specs.declared.message.Message.TheVariants.{AuthSuccess, Version, CheckPresent, LockContent, Remove, RemoveBefore, GetTimestamp, Timestamp, Get, Put, PutFrom, AlreadyHave, Data, Valid, Invalid, Success, Failure, Error}
 use Rattle.p2p_wire.specs.Messages.{message_of}
-use Rattle.node_model.specs.Sessions.{Doing, Waits, Gives, Gave, Wants, Takes, Took, Session, line_in, new_session, takes_more}
+use Rattle.node_model.specs.Sessions.{Doing, Waits, Guards, Gives, Gave, Wants, Takes, Took, Session, line_in, new_session, takes_more}
 use Rattle.node_model.specs.Jobs
 use Rattle.node_model.specs.Jobs.{Phase, Opens, Greets, GetsData, GetsBytes, GetsWord, PutsOffer, PutsBytes, PutsWord, PutsAnswer, AsksLock, AsksLook, AsksTime, Work, heard_of, partner}
 use Rattle.node_model.specs.JobStep.{is_held}
@@ -107,6 +107,10 @@ IsTaken doing = (key : List ℕ) × (size : ℕ) × (doing ≡ Took key size)
 abbrev pub IsTaking : ℕ → Doing → Type 0
 IsTaking left doing = (key : List ℕ) × (size : ℕ) × (doing ≡ Takes key size left)
 
+-- it waits for a request, or guards a locked key
+abbrev pub IsAtRest : Doing → Type 0
+IsAtRest doing = (doing ≡ Waits) ⊎ ((hold : ℕ) × (key : List ℕ) × (doing ≡ Guards hold key))
+
 abbrev pub Closes : Doing → FrameText → Type 0
 Closes doing b = IsTaken doing × (line_in b ≡ Some Valid)
 
@@ -121,7 +125,7 @@ Answered AtPut z (Some AlreadyHave) = Idle z
 Answered AtPut z (Some Failure) = Idle z
 Answered AtPut z (Some (Error text)) = Idle z × (bytes_eq text (codes "busy") ≡ true)
 Answered AtPut z (Some (PutFrom n)) = (1 ≤ z.version) × (key : List ℕ) × (size : ℕ) × (z.doing ≡ Wants key size)
-Answered AtLock z (Some Success) = Unit {0}
+Answered AtLock z (Some Success) = (hold : ℕ) × (key : List ℕ) × (z.doing ≡ Guards hold key)
 Answered AtLock z (Some Failure) = Idle z
 Answered AtLook z (Some Success) = Idle z
 Answered AtLook z (Some Failure) = Idle z
@@ -170,7 +174,7 @@ Opened z up down = (z ≡ new_session) × (((up ≡ Opening ∷ []) × (down ≡
 -- **the dialogue**, where the job stands so and the session so, with these frames on the way up and down
 abbrev pub Dialogue : Stance → Session → List FrameText → List FrameText → Type 0
 Dialogue Away z up down = (down ≡ []) × (1 ≤ z.version) × Settled (λ d. d ≡ Waits) z.doing up
-Dialogue Locked z up down = down ≡ []
+Dialogue Locked z up down = (down ≡ []) × Settled IsAtRest z.doing up
 Dialogue AtOpen z up down = Opened z up down
 Dialogue AtGet z up down = Still AtGet z up down ⊎ Given z up down
 Dialogue (AtBytes left) z up down = (up ≡ []) × (nat_lt 0 left ≡ true) × Giving left z down

@@ -144,12 +144,19 @@ pub asked_reply : (at : Dialogue.Stance) (z : Session) (up down : List FrameText
 asked_reply at z up down b (inl x) = absurd (let no' : b ∷ down ≡ [] = x.none_down in cc)
 asked_reply at z up down b (inr x) = x
 
-pub lock_locked : (z : Session) (up down : List FrameText) (b : FrameText) → Talk Dialogue.AtLock z up (b ∷ down) → down ≡ []
-lock_locked z up down b x = let y = asked_reply Dialogue.AtLock z up down b x in (cons_inj b y.body down [] y.alone).1
+pub lock_locked : (z : Session) (up down : List FrameText) (b : FrameText) → line_in b ≡ Some Success → Talk Dialogue.AtLock z up (b ∷ down) → Talk Dialogue.Locked z up down
+lock_locked z up down b told x =
+    let y = asked_reply Dialogue.AtLock z up down b x in
+    let a = was_answered Dialogue.AtLock z up down b Success told y in
+    ((cons_inj b y.body down [] y.alone).1, subst (Dialogue.Settled Dialogue.IsAtRest z.doing) (sym y.none_up) (inr a))
+
+each_settled : {P Q : Doing → Type 0} → ((d : Doing) → P d → Q d) → (bs : List FrameText) (d : Doing) → Dialogue.Settled P d bs → Dialogue.Settled Q d bs
+each_settled f [] d y = f d y
+each_settled f (b ∷ bs) d y = (y.0, y.1, each_settled f bs y.0 y.2)
 
 -- nothing is awaited on a connection: with or without a lock
 pub rests_away : (z : Session) (up down : List FrameText) (k : Bool) → Talk Dialogue.Away z up down → Talk (Dialogue.rests k) z up down
-rests_away z up down true x = x.0
+rests_away z up down true x = (x.0, each_settled (λ d w. inl w) up z.doing x.2)
 rests_away z up down false x = x
 
 pub rests_more : (z : Session) (up down : List FrameText) (a b : Bool) → (a ≡ true → b ≡ true) → Talk (Dialogue.rests a) z up down → Talk (Dialogue.rests b) z up down
@@ -213,13 +220,9 @@ Filling left d = (key : List ℕ) × (size : ℕ) × (d ≡ takes_more key size 
 
 more_takes : (p start at left : ℕ) (z : Session) (up down : List FrameText) → down ≡ [] → 1 ≤ z.version → Dialogue.Settled (Filling left) z.doing up → Talk (Dialogue.phase_stance (puts_more p start at left)) z up down
 more_takes p start at left z up down none speaks x = if_found (λ (q : Phase). Talk (Dialogue.phase_stance q) z up down) (left == 0) (PutsWord p start) (PutsBytes p start at left)
-    (λ e. (none, speaks, each (λ d y. (y.0, y.1, y.2 ∙ done y.0 y.1 e)) up z.doing x))
-    (λ e. let more : nat_lt 0 left ≡ true = grind (arith, nat_tests) in (none, speaks, more, each (λ d y. (y.0, y.1, y.2 ∙ rest y.0 y.1 e)) up z.doing x))
+    (λ e. (none, speaks, each_settled (λ d y. (y.0, y.1, y.2 ∙ done y.0 y.1 e)) up z.doing x))
+    (λ e. let more : nat_lt 0 left ≡ true = grind (arith, nat_tests) in (none, speaks, more, each_settled (λ d y. (y.0, y.1, y.2 ∙ rest y.0 y.1 e)) up z.doing x))
   where
-    each : {P Q : Doing → Type 0} → ((d : Doing) → P d → Q d) → (bs : List FrameText) (d : Doing) → Dialogue.Settled P d bs → Dialogue.Settled Q d bs
-    each f [] d y = f d y
-    each f (b ∷ bs) d y = (y.0, y.1, each f bs y.0 y.2)
-
     done : (key : List ℕ) (size : ℕ) → (left == 0) ≡ true → takes_more key size left ≡ Took key size
     done key size e = rw e refl
 

@@ -1,5 +1,5 @@
 -- Each step of a job keeps the dialogue on its connections, where what it takes suits its phase: the steps that take a frame, and all.
-use Rattle.std.proofs.Common.{◌≡◌, ◌≢◌, ℕ, ◌+◌, ◌-◌, ◌/◌, ◌^◌, ◌≤◌, Bool, true, false, List, [], ◌∷◌, ◌++◌, Option, Some, None, inl, inr, ◌⊎◌, refl, sym, ap, ◌∙◌, subst, arith}
+use Rattle.std.proofs.Common.{◌≡◌, ℕ, ◌+◌, ◌-◌, ◌/◌, ◌^◌, ◌≤◌, Bool, true, false, List, [], ◌∷◌, ◌++◌, Option, Some, None, inl, inr, ◌⊎◌, refl, sym, ap, ◌∙◌, subst, arith}
 use Rattle.std.specs.Prelude.{if◌then◌else◌, ◌==◌, ◌&&◌, not, min, nat_lt, nat_le, bytes_eq, codes}
 use Rattle.std.specs.List.{list_all, list_any}
 use Rattle.std.proofs.lemmas.Bool.{true≢false}
@@ -17,7 +17,6 @@ use Rattle.run_data.specs.declared.job.Outcome.TheVariants.{Got, Copied, Refused
 use Rattle.run_data.specs.declared.job.DropRefusal.TheVariants as refusals
 use Rattle.run_data.specs.declared.job.TransferRefusal.TheVariants as failures
 use Rattle.node_model.specs.Rows.{is_lost_ordered}
-use Rattle.node_model.specs.Evidence.{Asked}
 use Rattle.p2p_wire.specs.declared.message.Message.{Message}
 use Rattle.p2p_wire.specs.declared.message.Message.TheVariants.{AuthSuccess, Version, CheckPresent, RemoveBefore, Timestamp, PutFrom, AlreadyHave, Data, Valid, Invalid, Success, Failure, Error}
 use Rattle.p2p_wire.specs.Messages.{message_of, text_of}
@@ -249,7 +248,7 @@ module _ (t : Turn) (f : FrameView) (peer : ℕ) (x : Taking t f peer) (walks : 
       (λ z up down y. subst (λ (at : Stance). Converses at z up down) (sym (rests_at t.w.what.peer Next (kept (took (talker t (Some f)) f.body) peer) peer refl))
       (subst (λ (k : Bool). Converses (rests k) z up down) (sym (subst (λ (v : Work). kept v peer ≡ true) (sym took_is)
       (subst (λ q. kept (listens (talker t (Some f)) (AsksLock q since) Success) peer ≡ true) (sym (some_peer p peer (same_peer (AsksLock p since) is))) (kept_now (talker t (Some f)) peer (Jobs.Held since) refl))))
-      (lock_locked z up down f.body y)))
+      (lock_locked z up down f.body told y)))
 
   drop_good : t.w.part ≡ Drops → (phase : Phase) (m : Message) → t.w.phase ≡ phase → line_in f.body ≡ Some m → DropSuits phase m → GoodMade t (takes_drop t f peer phase m)
   drop_good part (AsksLock p since) Success is told suits = lock_heard p since is told

@@ -16,7 +16,7 @@ use Rattle.node_model.specs.Look.{Made}
 use Rattle.node_model.specs.JobStep.{Turn, end_with}
 use Rattle.node_model.specs.TransferStep.{content_of}
 use Rattle.race_core.proofs.Plain.{eqb_true}
-use Rattle.race_core.proofs.ClientCounts.{IsLive, Local, Stays, is_of_some, none_is, sends_here, takes_here}
+use Rattle.race_core.proofs.ClientCounts.{IsLive, Local, Stays, is_of_some, none_is}
 use Rattle.race_core.proofs.ClientTurns.{end_then, made_entry, moved}
 use Rattle.race_core.proofs.Dialogue
 use Rattle.race_core.proofs.Dialogue.{Stance, kept, phase_stance, rests, stance, stands_at}

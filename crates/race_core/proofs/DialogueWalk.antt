@@ -1,5 +1,6 @@
 -- Each step of a job keeps the dialogue on its connections, where what it takes suits its phase: the walk over all steps.
-use Rattle.std.proofs.Common.{◌≡◌, ◌≢◌, ℕ, ◌+◌, ◌-◌, ◌≤◌, Bool, true, false, List, [], ◌∷◌, ◌++◌, Option, Some, None, inl, inr, refl, sym, ap, ◌∙◌, subst, arith}
+use Rattle.node_model.specs.Clocks.{hold_time}
+use Rattle.std.proofs.Common.{◌≡◌, ◌≢◌, ℕ, ◌+◌, ◌≤◌, Bool, true, false, List, [], ◌∷◌, ◌++◌, Option, Some, None, inl, inr, refl, sym, ap, ◌∙◌, subst, arith}
 use Rattle.std.specs.Prelude.{◌==◌, ◌&&◌, not, nat_lt}
 use Rattle.std.specs.List.{list_any}
 use Rattle.std.proofs.lemmas.Bool.{true≢false}
@@ -258,8 +259,8 @@ module _ (t : Turn) (alone : partner t.w.what.peer t.w.phase ≡ None) (live : I
   bars_good (Some refusal) = ends_good t alone live (Refused refusal)
   bars_good None = (still_keeps t alone live (Bar t.w.number (need_now t) (key_of t)) (Jobs.to_phase t.w Next) refl, inl tt)
 
-  own_good : (here : Bool) (bar : Option ℕ) → GoodMade t (quietly (own_share (t.number) (clock_of t + 600000) t.w.number (key_of t) (talk t) (by_me t) here bar) None)
-  own_good true None = (still_keeps t alone live (Share (t.number) (clock_of t + 600000) (by_me t) (key_of t)) (Jobs.hears t.w (me t) (Held t.look.time)) refl, inl tt)
+  own_good : (here : Bool) (bar : Option ℕ) → GoodMade t (quietly (own_share (t.number) (clock_of t + hold_time) t.w.number (key_of t) (talk t) (by_me t) here bar) None)
+  own_good true None = (still_keeps t alone live (Share (t.number) (clock_of t + hold_time) (by_me t) (key_of t)) (Jobs.hears t.w (me t) (Held t.look.time)) refl, inl tt)
   own_good true (Some j) = quiet_good
   own_good false bar = quiet_good
 
@@ -270,7 +271,7 @@ module _ (t : Turn) (alone : partner t.w.what.peer t.w.phase ≡ None) (live : I
 
   tries_good : (standing : Standing) → GoodMade t (tries_own t standing)
   tries_good Asked = attempts_even (GoodMade t) t (to_hold (is_there t) (bar_there t)) None
-      (quietly (own_share (t.number) (clock_of t + 600000) t.w.number (key_of t) (talk t) (by_me t) (is_there t) (bar_there t)) None)
+      (quietly (own_share (t.number) (clock_of t + hold_time) t.w.number (key_of t) (talk t) (by_me t) (is_there t) (bar_there t)) None)
       (λ call e. fault_good t alone live call (hold_plain (is_there t) (bar_there t) call e)) (own_good (is_there t) (bar_there t))
   tries_good standing = quiet_good
 

@@ -1,4 +1,5 @@
 -- The first step of a drop leads on: a drop that is to begin has read nothing.
+use Rattle.node_model.specs.Clocks.{hold_time}
 use Rattle.std.proofs.Common.{◌≡◌, ◌≢◌, ℕ, Bool, true, false, List, [], ◌∷◌, Option, Some, None, inl, inr, refl, sym, ap, ◌∙◌, subst}
 use Rattle.std.specs.Prelude.{if◌then◌else◌, not, ◌&&◌, ◌+◌}
 use Rattle.std.specs.List.{list_all, list_any}
@@ -86,9 +87,9 @@ module _ (before : Turn) where
 
   tries_leaves : (standing : Standing) → LeavesBy (tries_own t standing)
   tries_leaves Asked = attempts_even LeavesBy t (to_hold (is_there t) (bar_there t)) None
-      (quietly (own_share (t.number) (clock_of t + 600000) t.w.number (key_of t) (talk t) (by_me t) (is_there t) (bar_there t)) None)
+      (quietly (own_share (t.number) (clock_of t + hold_time) t.w.number (key_of t) (talk t) (by_me t) (is_there t) (bar_there t)) None)
       (fault_leaves (to_hold (is_there t) (bar_there t)) (no_put (is_there t) (bar_there t)) (no_unhold (is_there t) (bar_there t)))
-      (share_leaves (t.number) (clock_of t + 600000) (is_there t) (bar_there t))
+      (share_leaves (t.number) (clock_of t + hold_time) (is_there t) (bar_there t))
   tries_leaves Claimed = quiet_leaves
   tries_leaves (Ignored cause) = quiet_leaves
 

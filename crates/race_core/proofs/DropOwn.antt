@@ -18,11 +18,12 @@ use Rattle.run_data.specs.declared.job.Cause.{Cause}
 use Rattle.run_model.specs.Past.{Decision, clock, decided}
 use Rattle.p2p_wire.specs.declared.message.Message.TheVariants.{Timestamp}
 use Rattle.p2p_wire.specs.Messages.{order_of, text_of}
-use Rattle.run_model.specs.Frames.{Way, up_of, way_from, way_of}
+use Rattle.run_model.specs.Frames.{Way, up_of, way_of}
+use Rattle.race_core.proofs.Ways.{way_from}
 use Rattle.node_model.specs.Evidence.{Standing, Claimed, Ignored, Asked}
 use Rattle.run_model.specs.Drops.{is_waiting, option_is_none, standing}
-use Rattle.race_core.specs.Heard.{Heard, Locked_at, Seen_there, heard, heard_cause, heard_key, known_evidence, still_waits}
-use Rattle.race_core.specs.Own.{HasDeadline, HeardOf, MayOrder, MayRemove, OneClock}
+use Rattle.race_core.proofs.Heard.{Heard, Locked_at, Seen_there, heard, heard_cause, heard_key, known_evidence, still_waits}
+use Rattle.race_core.proofs.Own.{HasDeadline, HeardOf, MayOrder, MayRemove, OneClock}
 use Rattle.race_core.proofs.Plain.{and_true, not_true}
 use Rattle.race_core.proofs.SaidDown.{said_is}
 use Rattle.race_core.proofs.HeardTells.{taken_peer}
@@ -38,10 +39,11 @@ use Rattle.node_model.specs.SetUp.{SetUp}
 use Rattle.run_model.specs.States.{state_of, end_at, works}
 use Rattle.node_model.specs.Ends.{EndName, frames, is_opening}
 use Rattle.node_model.specs.AnyTime.{MayCome}
-use Rattle.run_model.specs.Answers
+use Rattle.race_core.proofs.ServerAnswers
 use Rattle.node_model.specs.Jobs
 use Rattle.node_model.specs.Jobs.{Held, Lacks, Seen, Unseen, Work, heard_of, running, side_of, target_of, job_end}
-use Rattle.node_model.specs.Knows.{is_unasked, known, knows_enough, need_of, standing_of}
+use Rattle.node_model.specs.Knows.{is_unasked, need_of, standing_of}
+use Rattle.race_core.proofs.Knowing.{known, knows_enough}
 use Rattle.node_model.specs.Found
 use Rattle.node_model.specs.JobStep.{clock_of}
 use Rattle.node_model.specs.DropStep.{first_end}
@@ -109,14 +111,14 @@ heard_of_key s past w x c h is = key_of_heard w.what.key (heard_of w c) h (sym (
 -- ---- removals
 
 -- what the step found
-removal_found : (s : SetUp) (past : List Entry) (words : ℕ → Option Word) (e : Entry) → OwnPart s past words e → (j : ℕ) (key : List ℕ) → e.kind ≡ Gone (by_job j) key → Answers.MayRemove s past e j key
+removal_found : (s : SetUp) (past : List Entry) (words : ℕ → Option Word) (e : Entry) → OwnPart s past words e → (j : ℕ) (key : List ℕ) → e.kind ≡ Gone (by_job j) key → ServerAnswers.MayRemove s past e j key
 removal_found s past words e own j key is = elim (own.does) [
   | inl x ↦ step x
   | inr x ↦ absurd (subst (MayCome s (state_of s past) e.lines e.sent) is x.may)
 ]
   where
-    step : IsStep s past words e → Answers.MayRemove s past e j key
-    step x = subst (λ (y : Entry). Answers.MayRemove s past y j key) (sym x.is) (may_remove s past x.look x.made x.makes j key (sym (ap (λ (y : Entry). y.kind) x.is) ∙ is))
+    step : IsStep s past words e → ServerAnswers.MayRemove s past e j key
+    step x = subst (λ (y : Entry). ServerAnswers.MayRemove s past y j key) (sym x.is) (may_remove s past x.look x.made x.makes j key (sym (ap (λ (y : Entry). y.kind) x.is) ∙ is))
 
 target_local : (r : ℕ) (side : Side) (peer : Option ℕ) → side ≡ Local → Jobs.or_own r side peer ≡ r
 target_local r Local peer e = refl

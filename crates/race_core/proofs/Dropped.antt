@@ -1,5 +1,5 @@
 -- What the drop of each removal of a run found as it judged its evidence: who judged, what was read and told, and that it hasn't ended.
-use Rattle.std.proofs.Common.{◌≡◌, ℕ, ◌+◌, ◌<◌, true, false, List, [], ◌∷◌, length, Option, Some, inl, inr, refl, sym, ap, ◌∙◌, subst}
+use Rattle.std.proofs.Common.{◌≡◌, ℕ, ◌+◌, ◌<◌, true, false, List, length, Option, Some, inl, inr, refl, sym, ap, ◌∙◌, subst}
 use Rattle.std.specs.Prelude.{◌≢◌, slice_get}
 use Rattle.annex_base.specs.Lists.{Member}
 use Rattle.drop_proof.specs.declared.rule.Need.{Need}
@@ -17,14 +17,16 @@ use Rattle.run_model.specs.Drops.{Vouch, done, evidence, key_of, reply, vouches}
 use Rattle.run_model.specs.Safety.{Removal, local_removal, past_at, removal, remote_removal}
 use Rattle.run_model.specs.Run.{IsRun}
 use Rattle.race_core.specs.Lawful.{Lawful, LawfulPast}
-use Rattle.race_core.specs.Own.{Meets, MessagePast, OneClock}
+use Rattle.race_core.proofs.Own.{Meets, MessagePast, OneClock}
 use Rattle.race_core.specs.Places.{removal_at}
 use Rattle.race_core.specs.Readings.{Judge, judge_at, judge_by}
 use Rattle.race_core.proofs.Changes.{Obeys, Removes, order_is, removal_was, repo_of}
 use Rattle.race_core.proofs.Gather.{MatchSide}
 use Rattle.race_core.proofs.Flights.{always_before, occurs_vouches, some_inj}
-use Rattle.race_core.proofs.Facts.{Facts, facts_kept, facts_start, local_drop}
+use Rattle.race_core.proofs.Facts.{Facts, local_drop}
 use Rattle.race_core.proofs.Pasts.{past_before}
+use Rattle.race_core.proofs.Latest
+use Rattle.race_core.proofs.Latest.{facts_of}
 use Rattle.race_core.proofs.Known.{evidence_known}
 use Rattle.race_core.proofs.Evident.{told_of}
 use Rattle.race_core.proofs.ReadOnce.{need_is_read}
@@ -43,15 +45,11 @@ meets_at run place e h at =
     let k : Meets run.repos (past_at run place) e × MessagePast run.repos (past_at run place) = subst (λ past. MessagePast run.repos past) (past_next run place e at) (messages_at run (place + 1) h) in k.0
 
 lawful_past : (run : Run) (place : ℕ) → IsRun run → LawfulPast run.repos (past_at run place)
-lawful_past run place h = past_before (LawfulPast run.repos) (λ e past k. k.1) place run.entries (runs_are_lawful run h).steps
+lawful_past run place h = Latest.lawful_at run.repos place run.entries (runs_are_lawful run h).steps
 
 pub lawful_at : (run : Run) (place : ℕ) (e : Entry) → IsRun run → slice_get run.entries place ≡ Some e → Lawful run.repos (past_at run place) e
 lawful_at run place e h at =
     let k : Lawful run.repos (past_at run place) e × LawfulPast run.repos (past_at run place) = subst (λ past. LawfulPast run.repos past) (past_next run place e at) (lawful_past run (place + 1) h) in k.0
-
-facts_of : (repos : List RepoView) (past : List Entry) → LawfulPast repos past → Facts repos past
-facts_of repos [] h = facts_start repos
-facts_of repos (e ∷ past) h = facts_kept repos past e (facts_of repos past h.1) h.0
 
 pub facts_at : (run : Run) (place : ℕ) → IsRun run → Facts run.repos (past_at run place)
 facts_at run place h = facts_of run.repos (past_at run place) (lawful_past run place h)

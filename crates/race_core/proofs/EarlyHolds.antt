@@ -1,4 +1,5 @@
 -- A job heard of locks that it asked for within the bounds of time: so a deadline is a number of the wire.
+use Rattle.node_model.specs.Clocks.{hold_time}
 use Rattle.std.proofs.Common.{◌≡◌, ℕ, ◌+◌, ◌-◌, ◌/◌, ◌<◌, ◌≤◌, ◌^◌, Bool, true, false, List, [], ◌∷◌, ◌++◌, Option, Some, None, refl, subst, arith}
 use Rattle.std.specs.Prelude.{if◌then◌else◌, ◌==◌, fold, filter, find, map, min, not, option_map}
 use Rattle.std.specs.List.{reduce}
@@ -35,7 +36,8 @@ use Rattle.node_model.specs.Ends.{end_after}
 use Rattle.node_model.specs.Jobs
 use Rattle.node_model.specs.Jobs.{AsksLock, AsksLook, Drops, Fresh, GetsBytes, GetsData, GetsWord, Gets, Greets, Heard, Held, Next, Orders, Part, Phase, Puts, PutsAnswer, PutsBytes, PutsOffer, PutsWord, Rows, Work, claims, closed_part, fault_of, fault_phase, first_look, gained, gets_bytes, gets_more, heard_of, hears, hears_frame, job_end, learns, listens, put_from, puts_answer, puts_bytes, puts_more, quiet, says, says_some, sends, talks, talks_on, target_of, to_phase, took, took_line, transferred, unreleased, word_taken, work_after, work_kind, works_after}
 use Rattle.run_model.specs.States.{rows_at, works, state_of}
-use Rattle.node_model.specs.Knows.{candidates_of, heard_offer, is_to_ask, known, knows, need_of, offer_by, standing_of}
+use Rattle.race_core.proofs.Knowing.{candidates_of, is_to_ask, known, knows}
+use Rattle.node_model.specs.Knows.{heard_offer, need_of, offer_by, standing_of}
 use Rattle.run_model.specs.Run.{IsBounded, OwnPast}
 use Rattle.race_core.proofs.Plain.{each_member}
 use Rattle.race_core.proofs.Cases.{if_found}
@@ -291,14 +293,14 @@ found_early b c (y ∷ ys) a x h = go (λ g. found_early b c ys a.1 x g) (y.0 ==
     go more false is g = more (rw is at g)
 
 offered : (b n : ℕ) (clock : ℕ → ℕ) → ((time : ℕ) → time ≤ b → clock time ≤ n) → (standing : Standing) (o : Option Heard) → ((x : Heard) → o ≡ Some x → HeardEarly b x)
-    → OfferBelow (n + 600000) (offer_by clock standing o)
+    → OfferBelow (n + hold_time) (offer_by clock standing o)
 offered b n clock small Claimed o f = tt
 offered b n clock small (Ignored cause) o f = tt
 offered b n clock small Asked None f = tt
 offered b n clock small Asked (Some (Held since)) f = let h : clock since ≤ n = small since (f (Held since) refl) in omega (arith, h)
 offered b n clock small Asked (Some x) f = other x f
   where
-    other : (x : Heard) → ((y : Heard) → Some x ≡ Some y → HeardEarly b y) → OfferBelow (n + 600000) (heard_offer clock (Some x))
+    other : (x : Heard) → ((y : Heard) → Some x ≡ Some y → HeardEarly b y) → OfferBelow (n + hold_time) (heard_offer clock (Some x))
     other (Held since) g = let h : clock since ≤ n = small since (g (Held since) refl) in omega (arith, h)
     other x g = tt
 

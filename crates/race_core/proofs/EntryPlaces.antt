@@ -65,3 +65,6 @@ same_place a b f g = go (a == b) refl
     go : (c : Bool) → (a == b) ≡ c → a ≡ b
     go true e = eqb_true a b e
     go false e = let ways : (a < b) ⊎ (b < a) = grind (arith, nat_tests) in elim ways [ inl l ↦ absurd (f l) | inr l ↦ absurd (g l) ]
+
+pub below_or_last : (m n : ℕ) → m ≤ suc n → (m ≤ n) ⊎ (m ≡ suc n)
+below_or_last m n le = grind arith

@@ -15,7 +15,8 @@ use Rattle.run_data.specs.declared.job.Job.{Job}
 use Rattle.run_model.specs.Past.{Occurs, is_of, jobs, jobs_after}
 use Rattle.node_model.specs.Slots.{Running, free_slot, job_of}
 use Rattle.node_model.specs.Rows.{option_is}
-use Rattle.run_model.specs.Frames.{Way, down_of, is_on, takes, up_of}
+use Rattle.run_model.specs.Frames.{Way, is_on, takes, up_of}
+use Rattle.race_core.proofs.Ways.{down_of}
 use Rattle.node_model.specs.Ends.{same_bool, End, EndName, end_took, is_opening, may_take, sent_at, server_end, taken_at}
 use Rattle.node_model.specs.SetUp.{SetUp}
 use Rattle.run_model.specs.States.{end_at, works}

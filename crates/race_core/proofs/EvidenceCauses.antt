@@ -27,8 +27,8 @@ use Rattle.node_model.specs.SetUp.{SetUp}
 use Rattle.run_model.specs.States.{state_of, works}
 use Rattle.node_model.specs.Jobs
 use Rattle.node_model.specs.Jobs.{Drops, Ends, Heard, Late, Work, heard_of, running, side_of, target_of}
-use Rattle.node_model.specs.Knows
-use Rattle.node_model.specs.Knows.{candidates_of, cause_by, causes_known, cause_heard, heard_offer, is_to_ask, is_unasked, known, knows_enough, need_of, next_of, offer_by, standing_of}
+use Rattle.race_core.proofs.Knowing.{candidates_of, causes_known, is_to_ask, known, knows_enough, next_of}
+use Rattle.node_model.specs.Knows.{cause_by, cause_heard, heard_offer, is_unasked, need_of, offer_by, standing_of}
 use Rattle.node_model.specs.DropStep
 use Rattle.node_model.specs.Found.{Expires, Lacks}
 use Rattle.run_model.specs.Words.{word_told}
@@ -40,14 +40,15 @@ use Rattle.race_core.proofs.Refusals.{side_in, side_is, target_in, target_is}
 use Rattle.race_core.proofs.Standing.{stands}
 use Rattle.race_core.proofs.StillKnown.{KnewAt, knew}
 use Rattle.race_core.proofs.RefusalCauses.{DropSettled, Ending, drop_settled, ending, ending_words, job_of}
-use Rattle.race_core.specs.Own.{MessagePast}
-use Rattle.race_core.specs.Heard as heards
-use Rattle.race_core.specs.Heard.{known_evidence, still_waits}
+use Rattle.race_core.proofs.Own.{MessagePast}
+use Rattle.race_core.proofs.Heard as heards
+use Rattle.race_core.proofs.Heard.{known_evidence, still_waits}
 use Rattle.race_core.proofs.Known.{asked_known, evidence_known, gather_same}
 use Rattle.race_core.proofs.KnownAgrees.{known_agrees, knows_same}
 use Rattle.race_core.proofs.DropOwn.{list_agrees}
 use Rattle.race_core.proofs.AtTargets.{at_targets}
 use Rattle.race_core.proofs.Plain.{lt_true}
+use Rattle.race_core.proofs.Knowing
 
 -- a first end is of a lock
 no_ends : (xs : List Evidence) → list_any (λ i. is_locked i.kind) xs ≡ false → ends xs ≡ []
@@ -210,7 +211,7 @@ offers_none clock h e = refl
 module _ (s : SetUp) (past : List Entry) (words : ℕ → Option Word) (e : Entry) (h : OwnPast s past) (own : OwnPart s past words e) (run : MessagePast s.repos past)
     (told : (w : Work) → Member w (works past s.number) → w.part ≡ Drops → CausesTold s past w) (j : ℕ) where
   -- what the list says of a candidate, and what its entries do
-  lacked : (w : Work) → Member w (works past s.number) → w.part ≡ Drops → next_of s (state_of s past) w ≡ None → (c : ℕ) → Member c (candidates_of s w) → Knows.knows s (state_of s past) w c ≡ Fails
+  lacked : (w : Work) → Member w (works past s.number) → w.part ≡ Drops → next_of s (state_of s past) w ≡ None → (c : ℕ) → Member c (candidates_of s w) → Knowing.knows s (state_of s past) w c ≡ Fails
       → ((told_cause past s.number w.number c ≡ Some (cause_by (word_told past s.number w.number c) (standing_of s (state_of s past) w c) (heard_of w c))) × (standing_of s (state_of s past) w c ≡ Asked))
       ⊎ (standing_of s (state_of s past) w c ≡ Ignored (cause_by (word_told past s.number w.number c) (standing_of s (state_of s past) w c) (heard_of w c)))
   lacked w m part last c n fails = go (standing_of s (state_of s past) w c) refl (heard_of w c) refl fails
@@ -232,16 +233,16 @@ module _ (s : SetUp) (past : List Entry) (words : ℕ → Option Word) (e : Entr
       let asks : reached (is_to_ask s (state_of s past) w) cs ≡ cs = reached_all (is_to_ask s (state_of s past) w) cs none in
       items_as s past words e h own run j w m
       ∙ ap (λ zs. gather (side_of w) (need_of (state_of s past) w) (heards.knows s.repos past s.number w.number) zs []) (waits ∙ sym asks)
-      ∙ gather_same (side_of w) (need_of (state_of s past) w) (heards.knows s.repos past s.number w.number) (Knows.knows s (state_of s past) w) (knows_same s past w a) (reached (is_to_ask s (state_of s past) w) cs) []
+      ∙ gather_same (side_of w) (need_of (state_of s past) w) (heards.knows s.repos past s.number w.number) (Knowing.knows s (state_of s past) w) (knows_same s past w a) (reached (is_to_ask s (state_of s past) w) cs) []
     where
       off : (b : Bool) → (b ≡ true → false ≡ true) → b ≡ false
       off false f = refl
       off true f = absurd (let both = f refl in cc)
 
-  asked_fails : (w : Work) → Member w (works past s.number) → (c : ℕ) → Knows.knows s (state_of s past) w c ≡ Fails → asked s.repos past s.number w.number c ≡ Fails
+  asked_fails : (w : Work) → Member w (works past s.number) → (c : ℕ) → Knowing.knows s (state_of s past) w c ≡ Fails → asked s.repos past s.number w.number c ≡ Fails
   asked_fails w m c fails = asked_known s.repos past s.number w.number c run ∙ knows_same s past w (list_agrees s past h w m) c ∙ fails
 
-  caused : (w : Work) (m : Member w (works past s.number)) → w.part ≡ Drops → next_of s (state_of s past) w ≡ None → (c : ℕ) → Member c (candidates_of s w) → Knows.knows s (state_of s past) w c ≡ Fails
+  caused : (w : Work) (m : Member w (works past s.number)) → w.part ≡ Drops → next_of s (state_of s past) w ≡ None → (c : ℕ) → Member c (candidates_of s w) → Knowing.knows s (state_of s past) w c ≡ Fails
       → IsCauseOf s.repos past s.number w.number (candidates_of s w) (record { repo = c; cause = cause_by (word_told past s.number w.number c) (standing_of s (state_of s past) w c) (heard_of w c) })
   caused w m part last c n fails = record {
     candidate = n;
@@ -249,7 +250,7 @@ module _ (s : SetUp) (past : List Entry) (words : ℕ → Option Word) (e : Entr
     told = elim (lacked w m part last c n fails) [ inl x ↦ inl x.0 | inr x ↦ inr (sym ((list_agrees s past h w m).standing_is c) ∙ x) ];
   }
 
-  why_is : (w : Work) (m : Member w (works past s.number)) → w.part ≡ Drops → next_of s (state_of s past) w ≡ None → (c : ℕ) → Member c (candidates_of s w) → Knows.knows s (state_of s past) w c ≡ Fails
+  why_is : (w : Work) (m : Member w (works past s.number)) → w.part ≡ Drops → next_of s (state_of s past) w ≡ None → (c : ℕ) → Member c (candidates_of s w) → Knowing.knows s (state_of s past) w c ≡ Fails
       → why s.repos past s.number w.number c ≡ cause_by (word_told past s.number w.number c) (standing_of s (state_of s past) w c) (heard_of w c)
   why_is w m part last c n fails = elim (lacked w m part last c n fails) [
     | inl x ↦ (λ i. Drops.cause_by ((sym ((list_agrees s past h w m).standing_is c) ∙ x.1) i) (x.0 i))
@@ -273,10 +274,10 @@ module _ (s : SetUp) (past : List Entry) (words : ℕ → Option Word) (e : Entr
           let same = items_lacking w m y.last in
           let same_words : words ≡ word_told past s.number w.number = (λ i c. (frames.tells j (Refused (refusals.Lacking proof reasons)) is c ∙ ap (λ n. word_told past s.number n c) x.number_is) i) in
           let reasons_are : reasons ≡ causes_known s (state_of s past) (word_told past s.number w.number) w = y.causes_are ∙ ap (λ f. causes_known s (state_of s past) f w) (spoke ∙ same_words) in
-          let f = Knows.knows s (state_of s past) w in
+          let f = Knowing.knows s (state_of s past) w in
           let g : ℕ → Cause = λ c. cause_by (word_told past s.number w.number c) (standing_of s (state_of s past) w c) (heard_of w c) in
           let cands : cs ≡ candidates (side_in (running w)) (length s.repos) s.number (target_in s.number (running w)) = (λ i. candidates (sym (side_is w) i) (length s.repos) s.number (sym (target_is s.number w) i)) in
-          let knows_none : (c : ℕ) → asked s.repos past s.number w.number c ≡ Fails → Knows.knows s (state_of s past) w c ≡ Fails = (λ c a. sym (knows_same s past w (list_agrees s past h w m) c) ∙ sym (asked_known s.repos past s.number w.number c run) ∙ a) in
+          let knows_none : (c : ℕ) → asked s.repos past s.number w.number c ≡ Fails → Knowing.knows s (state_of s past) w c ≡ Fails = (λ c a. sym (knows_same s past w (list_agrees s past h w m) c) ∙ sym (asked_known s.repos past s.number w.number c run) ∙ a) in
           let each = failures_each (IsCauseOf s.repos past s.number w.number cs) f g cs cs (λ c n. n) (λ c n fails. caused w m y.part_is y.last c n fails) in
           let all = each_of (λ c. asked s.repos past s.number w.number c ≡ Fails → Member (record { repo = c; cause = why s.repos past s.number w.number c }) reasons) cs
           (λ c n a. subst (Member (record { repo = c; cause = why s.repos past s.number w.number c })) (sym reasons_are)

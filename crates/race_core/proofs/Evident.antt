@@ -1,4 +1,5 @@
 -- Bars, what a job heard, and the ends of its locked items.
+use Rattle.node_model.specs.Clocks.{hold_time}
 use Rattle.std.proofs.Common.{◌≡◌, ℕ, ◌+◌, ◌<◌, ◌≤◌, Bool, true, false, not, ◌&&◌, List, [], ◌∷◌, length, Some, None, ◌⊎◌, inl, inr, refl, sym, ap, ◌∙◌, subst, arith, min}
 use Rattle.std.specs.Prelude.{fold, option_map, ◌==◌}
 use Rattle.std.specs.List.{reduce}
@@ -20,8 +21,8 @@ use Rattle.node_model.specs.Rows.{is_lost_ordered}
 use Rattle.run_model.specs.Drops.{Vouch, Lock, Look, asked, done, done_kind, evidence, key_of, reply, standing}
 use Rattle.node_model.specs.Evidence.{Gives, candidates}
 use Rattle.race_core.specs.Lawful.{IsFresh}
-use Rattle.race_core.specs.Heard.{heard_key}
-use Rattle.race_core.specs.Own.{HeardOf, MessagePast}
+use Rattle.race_core.proofs.Heard.{heard_key}
+use Rattle.race_core.proofs.Own.{HeardOf, MessagePast}
 use Rattle.race_core.proofs.Lists.{and_true, eqb_refl, eqb_true, neither, Each-any, Each-both, Each-weaker}
 use Rattle.race_core.proofs.Changes.{BarOf, PutsBar, bar_was, decided_keeps, decided_new}
 use Rattle.race_core.proofs.Gather.{evidence_each, offer_end}
@@ -114,7 +115,7 @@ each_end P up items f = spread items (least_each P up (ends items) f)
 
 -- a locked item ends ten minutes after it was asked for
 pub item_ends : (side : Side) (repos : List RepoView) (past : List Entry) (a j target : ℕ) (need : Need)
-    → Each (λ i. (end hold since : ℕ) (owner : By) (k : List ℕ) → i.kind ≡ Locked end → reply past a j i.repo ≡ Some (Lock hold since owner k) → end ≡ clock repos past a since + 600000) (evidence side repos past a j target need)
+    → Each (λ i. (end hold since : ℕ) (owner : By) (k : List ℕ) → i.kind ≡ Locked end → reply past a j i.repo ≡ Some (Lock hold since owner k) → end ≡ clock repos past a since + hold_time) (evidence side repos past a j target need)
 item_ends side repos past a j target need = evidence_each _ (λ c. Unit {0}) side repos past a j target need
     (λ c kind u g end hold since owner k is said. offer_end (clock repos past a) (standing repos past a j c) (reply past a j c) hold since end owner k (ap_gives c kind end g is) said)
     (Each-any (candidates side (length repos) a target))
@@ -133,5 +134,5 @@ fresh_items side repos past a j target time need before below =
     Each-both _ _ (IsFresh past a j time) (λ i at lt end hold since owner k is said. later time since end (before i.repo hold since owner k said) (at end hold since owner k is said) (lt end is))
     (evidence side repos past a j target need) (item_ends side repos past a j target need) below
   where
-    later : (t since end : ℕ) → (clock_set repos past a).at ≤ since → end ≡ clock repos past a since + 600000 → clock repos past a t < end → t < since + 600000
+    later : (t since end : ℕ) → (clock_set repos past a).at ≤ since → end ≡ clock repos past a since + hold_time → clock repos past a t < end → t < since + hold_time
     later t since end b e l = omega (arith, b, e, l)

@@ -1,4 +1,5 @@
 -- The facts that every entry of a lawful past keeps.
+use Rattle.node_model.specs.Clocks.{hold_time, runs_on, ClockSet}
 use Rattle.std.proofs.Common.{◌≡◌, ℕ, ◌+◌, ◌-◌, ◌<◌, ◌≤◌, Bool, true, false, not, ◌&&◌, List, [], ◌∷◌, length, Option, Some, None, ◌⊎◌, inl, inr, refl, sym, ap, ◌∙◌, subst, arith}
 use Rattle.std.specs.Prelude.{◌==◌, nat_lt, nat_le, count_by}
 use Rattle.std.specs.List.{list_any, range_with_len}
@@ -19,7 +20,6 @@ use Rattle.run_data.specs.declared.entry.EntryKind.{EntryKind}
 use Rattle.run_data.specs.declared.entry.EntryKind.TheVariants.{Share, Check, Bar, Crash, Gone, End}
 use Rattle.run_model.specs.Past.{present, bar, holds, decided, Decision, is_of, now, clock, clock_set}
 use Rattle.node_model.specs.Rows.{is_blocked, is_lost_ordered}
-use Rattle.node_model.specs.Clocks.{runs_on, ClockSet}
 use Rattle.run_model.specs.Drops.{Vouch, Lock, Look, key_of, vouch, vouches, reply, standing, asked, evidence, done, done_kind}
 use Rattle.node_model.specs.Evidence.{Gives, is_trusted, candidates}
 use Rattle.drop_proof.specs.Judging.{is_enough, counts}
@@ -51,7 +51,7 @@ pub record RemovalOk (repos : List RepoView) (past : List Entry) (key : List ℕ
 
 -- a lock that was vouched is recorded at r, and ends no earlier than ten minutes after it was asked for
 abbrev pub Lasts : List RepoView → List Entry → ℕ → Vouch → Type 0
-Lasts repos past r (Lock hold since owner key) = lasts (holds past r) hold (clock repos past r (since + 600000)) owner key ≡ true
+Lasts repos past r (Lock hold since owner key) = lasts (holds past r) hold (clock repos past r (since + hold_time)) owner key ≡ true
 Lasts repos past r (Look key) = Unit {0}
 
 pub record Facts (repos : List RepoView) (past : List Entry) : Type 0 where
@@ -59,7 +59,7 @@ pub record Facts (repos : List RepoView) (past : List Entry) : Type 0 where
   pub asked_by_now : (r a j : ℕ) (v : Vouch) → Member v (vouches past r a j) → since_of v ≤ now past
   pub bar_there : (r j : ℕ) (key : List ℕ) → bar past r key ≡ Some j → present past r key ≡ true
   pub bar_free : (r j t : ℕ) (key : List ℕ) → now past ≤ t → bar past r key ≡ Some j → is_blocked (holds past r) key (clock repos past r t) ≡ false
-  pub guarded : (r a j hold since : ℕ) (owner : By) (key : List ℕ) → Member (Lock hold since owner key) (vouches past r a j) → done past a j ≡ false → now past < since + 600000 → present past r key ≡ true
+  pub guarded : (r a j hold since : ℕ) (owner : By) (key : List ℕ) → Member (Lock hold since owner key) (vouches past r a j) → done past a j ≡ false → now past < since + hold_time → present past r key ≡ true
   pub placed : (a j : ℕ) (d : Decision) → decided past a j ≡ Some d → d.place < length past
   pub vouched : (r a j : ℕ) (v : Vouch) (d : Decision) → Member v (vouches past r a j) → decided past a j ≡ Some d → LaterOnly repos past r d.place (key_of v)
   pub lasting : (r a j : ℕ) (v : Vouch) → Member v (vouches past r a j) → Lasts repos past r v ⊎ (done past a j ≡ true)
@@ -153,13 +153,13 @@ lasting_kept repos past e f law r a j (Lock hold since owner key) m = elim (Memb
     v : Vouch
     v = Lock hold since owner key
 
-    fresh : Member (Lock hold since owner key) (vouch past e r a j) → lasts (holds (e ∷ past) r) hold (clock repos (e ∷ past) r (since + 600000)) owner key ≡ true
+    fresh : Member (Lock hold since owner key) (vouch past e r a j) → lasts (holds (e ∷ past) r) hold (clock repos (e ∷ past) r (since + hold_time)) owner key ≡ true
     fresh k =
         let w = vouch_was past e r a j (Lock hold since owner key) k in
         let s = law.shares r hold w.1.0 owner key w.0 w.1.1.0 in
         let early : since ≤ e.time = (law.copies r a j (Lock hold since owner key) k).1 in
-        subst (λ (c : ClockSet). lasts (holds (e ∷ past) r) hold (runs_on c (since + 600000)) owner key ≡ true) (sym (share_sets w.1.0 w.1.1.0))
-        (new_lasts past e r hold w.1.0 (clock repos past r (since + 600000)) owner key w.0 w.1.1.0 (omega (arith, s.1, early)))
+        subst (λ (c : ClockSet). lasts (holds (e ∷ past) r) hold (runs_on c (since + hold_time)) owner key ≡ true) (sym (share_sets w.1.0 w.1.1.0))
+        (new_lasts past e r hold w.1.0 (clock repos past r (since + hold_time)) owner key w.0 w.1.1.0 (omega (arith, s.1, early)))
       where
         share_sets : (end : ℕ) → e.kind ≡ Share hold end owner key → clock_set repos (e ∷ past) r ≡ clock_set repos past r
         share_sets end kind = elim (crash_or repos e past r) [
@@ -168,25 +168,25 @@ lasting_kept repos past e f law r a j (Lock hold since owner key) m = elim (Memb
         ]
 
     old : Member (Lock hold since owner key) (vouches past r a j) → Lasts repos past r (Lock hold since owner key) ⊎ (done past a j ≡ true)
-        → (lasts (holds (e ∷ past) r) hold (clock repos (e ∷ past) r (since + 600000)) owner key ≡ true) ⊎ (done (e ∷ past) a j ≡ true)
+        → (lasts (holds (e ∷ past) r) hold (clock repos (e ∷ past) r (since + hold_time)) owner key ≡ true) ⊎ (done (e ∷ past) a j ≡ true)
     old k (inr d) = inr (or_right (is_of a e && done_kind j e.kind) (done past a j) d)
     old k (inl l) = elim (crash_or repos e past r) [ inl t ↦ inl (crashed t) | inr t ↦ same_clock t.1 (goes_on t.0) ]
       where
         -- it was asked for before the crash, and so ends, by the new clock, no later than ten minutes from it
-        crashed : Crashes e r → lasts (holds (e ∷ past) r) hold (clock repos (e ∷ past) r (since + 600000)) owner key ≡ true
+        crashed : Crashes e r → lasts (holds (e ∷ past) r) hold (clock repos (e ∷ past) r (since + hold_time)) owner key ≡ true
         crashed t =
             let early : since ≤ now past = f.asked_by_now r a j (Lock hold since owner key) k in
-            let le : (since + 600000 - e.time) + t.clock ≤ t.clock + 600000 = omega (arith, early, law.time) in
-            subst (λ (c : ClockSet). lasts (holds (e ∷ past) r) hold (runs_on c (since + 600000)) owner key ≡ true) (sym (crash_sets repos e past r t))
-            (lasts_crash e past r hold (clock repos past r (since + 600000)) ((since + 600000 - e.time) + t.clock) owner key t le l)
+            let le : (since + hold_time - e.time) + t.clock ≤ t.clock + hold_time = omega (arith, early, law.time) in
+            subst (λ (c : ClockSet). lasts (holds (e ∷ past) r) hold (runs_on c (since + hold_time)) owner key ≡ true) (sym (crash_sets repos e past r t))
+            (lasts_crash e past r hold (clock repos past r (since + hold_time)) ((since + hold_time - e.time) + t.clock) owner key t le l)
 
-        same_clock : clock_set repos (e ∷ past) r ≡ clock_set repos past r → (lasts (holds (e ∷ past) r) hold (clock repos past r (since + 600000)) owner key ≡ true) ⊎ (done (e ∷ past) a j ≡ true)
-            → (lasts (holds (e ∷ past) r) hold (clock repos (e ∷ past) r (since + 600000)) owner key ≡ true) ⊎ (done (e ∷ past) a j ≡ true)
-        same_clock same (inl s) = inl (subst (λ (c : ClockSet). lasts (holds (e ∷ past) r) hold (runs_on c (since + 600000)) owner key ≡ true) (sym same) s)
+        same_clock : clock_set repos (e ∷ past) r ≡ clock_set repos past r → (lasts (holds (e ∷ past) r) hold (clock repos past r (since + hold_time)) owner key ≡ true) ⊎ (done (e ∷ past) a j ≡ true)
+            → (lasts (holds (e ∷ past) r) hold (clock repos (e ∷ past) r (since + hold_time)) owner key ≡ true) ⊎ (done (e ∷ past) a j ≡ true)
+        same_clock same (inl s) = inl (subst (λ (c : ClockSet). lasts (holds (e ∷ past) r) hold (runs_on c (since + hold_time)) owner key ≡ true) (sym same) s)
         same_clock same (inr d) = inr d
 
-        goes_on : (Crashes e r → ⊥) → (lasts (holds (e ∷ past) r) hold (clock repos past r (since + 600000)) owner key ≡ true) ⊎ (done (e ∷ past) a j ≡ true)
-        goes_on stands = elim (lasts_stays e past r hold (clock repos past r (since + 600000)) owner key l stands) [
+        goes_on : (Crashes e r → ⊥) → (lasts (holds (e ∷ past) r) hold (clock repos past r (since + hold_time)) owner key ≡ true) ⊎ (done (e ∷ past) a j ≡ true)
+        goes_on stands = elim (lasts_stays e past r hold (clock repos past r (since + hold_time)) owner key l stands) [
           | inl s ↦ inl s
           | inr s ↦ elim s [
             | inl t ↦ inr (or_right (is_of a e && done_kind j e.kind) (done past a j) (law.releases r hold t.key t.repo_is t.kind_is a j since owner key k))
@@ -199,15 +199,15 @@ lasting_kept repos past e f law r a j (Lock hold since owner key) m = elim (Memb
 
 -- while a vouched lock lasts, its hold blocks
 lock_blocks : (repos : List RepoView) (past : List Entry) (t : ℕ) → Facts repos past → now past ≤ t → (c a j hold since : ℕ) (owner : By) (key : List ℕ)
-    → Member (Lock hold since owner key) (vouches past c a j) → done past a j ≡ false → t < since + 600000 → is_blocked (holds past c) key (clock repos past c t) ≡ true
+    → Member (Lock hold since owner key) (vouches past c a j) → done past a j ≡ false → t < since + hold_time → is_blocked (holds past c) key (clock repos past c t) ≡ true
 lock_blocks repos past t f le c a j hold since owner key m open' lt = go (f.lasting c a j (Lock hold since owner key) m)
   where
     go : Lasts repos past c (Lock hold since owner key) ⊎ (done past a j ≡ true) → is_blocked (holds past c) key (clock repos past c t) ≡ true
     go (inr d) = absurd (true≢false (sym d ∙ open'))
-    go (inl l) = lasts-blocks (holds past c) hold (clock repos past c (since + 600000)) owner key (clock repos past c t) (omega (arith, le, lt, f.clocks c)) l
+    go (inl l) = lasts-blocks (holds past c) hold (clock repos past c (since + hold_time)) owner key (clock repos past c t) (omega (arith, le, lt, f.clocks c)) l
 
 pub lock_there : (repos : List RepoView) (past : List Entry) (e : Entry) → Facts repos past → Lawful repos past e → (c a j hold since : ℕ) (owner : By) (key : List ℕ)
-    → Member (Lock hold since owner key) (vouches past c a j) → done past a j ≡ false → e.time < since + 600000 → Free past c key
+    → Member (Lock hold since owner key) (vouches past c a j) → done past a j ≡ false → e.time < since + hold_time → Free past c key
 lock_there repos past e f law c a j hold since owner key m open' lt =
     record { there = f.guarded c a j hold since owner key m open' (omega (arith, law.time)); free = free (bar past c key) refl }
   where
@@ -396,7 +396,7 @@ facts_kept repos past e f law = record {
       ]
     ]
 
-    guarded : (r a j hold since : ℕ) (owner : By) (key : List ℕ) → done (e ∷ past) a j ≡ false → e.time < since + 600000
+    guarded : (r a j hold since : ℕ) (owner : By) (key : List ℕ) → done (e ∷ past) a j ≡ false → e.time < since + hold_time
         → Member (Lock hold since owner key) (vouch past e r a j) ⊎ Member (Lock hold since owner key) (vouches past r a j) → present (e ∷ past) r key ≡ true
     guarded r a j hold since owner key o lt (inl k) = elim (present_stays e past r key (law.copies r a j (Lock hold since owner key) k).0.there) [
       | inl s ↦ s

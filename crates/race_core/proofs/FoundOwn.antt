@@ -14,7 +14,8 @@ use Rattle.p2p_wire.specs.declared.message.Message.{Message}
 use Rattle.p2p_wire.specs.declared.message.Message.TheVariants.{CheckPresent, LockContent}
 use Rattle.p2p_wire.specs.Messages.{order_of}
 use Rattle.run_model.specs.Said.{Says}
-use Rattle.run_model.specs.Frames.{Way, down_of, way_from, way_of}
+use Rattle.run_model.specs.Frames.{Way, way_of}
+use Rattle.race_core.proofs.Ways.{down_of, way_from}
 use Rattle.node_model.specs.SetUp.{SetUp}
 use Rattle.node_model.specs.Ends.{is_opening, server_end}
 use Rattle.node_model.specs.Sessions.{line_in}
@@ -22,7 +23,7 @@ use Rattle.run_model.specs.States.{state_of}
 use Rattle.node_model.specs.Look.{Look, Made, entry_of}
 use Rattle.node_model.specs.Step.{step}
 use Rattle.run_model.specs.Run.{ByStep, IsBounded, OwnPast}
-use Rattle.run_model.specs.Answers as answers
+use Rattle.race_core.proofs.ServerAnswers as answers
 use Rattle.race_core.proofs.SaidDown.{said_is}
 use Rattle.race_core.proofs.BySteps.{any_kind, by_step}
 use Rattle.race_core.proofs.AnswerFacts.{looks, may_obey, may_share, may_share_own, shares_with}
@@ -30,7 +31,7 @@ use Rattle.race_core.proofs.EndEpochs.{from_end}
 use Rattle.race_core.proofs.SaidByClock.{said_by_clock}
 use Rattle.race_core.proofs.StepFacts.{gone_by_script, kind_found}
 use Rattle.race_core.specs.Lawful.{Free}
-use Rattle.race_core.specs.Own.{MayObey, MayShare, SaysYes, SharesWith}
+use Rattle.race_core.proofs.Own.{MayObey, MayShare, SaysYes, SharesWith}
 
 -- ---- facts of an entry by its repository's own part
 

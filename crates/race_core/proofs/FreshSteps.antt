@@ -1,4 +1,5 @@
 -- The first step of a job, and of its drop, leaves its place: so where it stands there, it has made none.
+use Rattle.node_model.specs.Clocks.{hold_time}
 use Rattle.std.proofs.Common.{◌≡◌, ◌≢◌, ℕ, ◌+◌, Bool, true, false, List, [], ◌∷◌, Option, Some, None, inl, inr, refl, sym, ap, ◌∙◌, subst}
 use Rattle.std.specs.Prelude.{if◌then◌else◌, ◌&&◌, ◌||◌, not}
 use Rattle.std.specs.List.{list_all, list_any}
@@ -134,7 +135,7 @@ module _ (before : Turn) (none : owns_share before ≡ false) where
   drop_shares = attempts_even (OffBy d) d (to_hold (is_there d) (bar_there d)) None (made_of (is_there d) (bar_there d)) (bad (is_there d) (bar_there d)) (go (is_there d) (bar_there d))
     where
       made_of : Bool → Option ℕ → Made
-      made_of here bar = quietly (own_share (d.number) (clock_of d + 600000) d.w.number (key_of d) (talk d) (by_me d) here bar) None
+      made_of here bar = quietly (own_share (d.number) (clock_of d + hold_time) d.w.number (key_of d) (talk d) (by_me d) here bar) None
 
       bad : (here : Bool) (bar : Option ℕ) (call : Call) → list_any (same_call call) (to_hold here bar) ≡ true → OffBy d (quietly (Fault call (by_me d)) None)
       bad true None = plain_call (calls.Has ∷ calls.Hold ∷ []) refl refl (λ call. OffBy d (quietly (Fault call (by_me d)) None)) drop_fault

@@ -16,7 +16,7 @@ use Rattle.run_model.specs.Safety.{IsSafe}
 use Rattle.node_model.specs.SetUp.{SetUp}
 use Rattle.run_model.specs.Run.{ByStep, FramesPart, IsBounded, IsRun, MayBe, Ordered, OwnPart, OwnPast, OwnRun, RunPast, RunStep, TimeIs, set_up}
 use Rattle.race_core.specs.Lawful.{IsLawful}
-use Rattle.race_core.specs.Own.{IsMessageRun, Meets, MessagePast, Own}
+use Rattle.race_core.proofs.Own.{IsMessageRun, Meets, MessagePast, Own}
 use Rattle.race_core.proofs.Lists.{eqb_refl}
 use Rattle.race_core.proofs.MessageRuns.{message_lawful, message_safe}
 use Rattle.race_core.proofs.FoundOwn.{known_step, look_step, no_script_step, obeys_step, share_step, shares_with_step}

@@ -1,5 +1,6 @@
 -- While a session guards a hold, the past has the share with that number, for its peer and slot, which took its frame on the
 -- connection's present opening.
+use Rattle.node_model.specs.Clocks.{hold_time}
 use Rattle.std.proofs.Common.{◌≡◌, ℕ, ◌+◌, Bool, true, false, List, [], ◌∷◌, Option, Some, None, ◌⊎◌, inl, inr, refl, sym, ap, ◌∙◌, subst}
 use Rattle.std.specs.Prelude.{if◌then◌else◌, ◌==◌}
 use Rattle.annex_base.specs.declared.kinds.Word.{Word}
@@ -104,10 +105,10 @@ lock_grants hold end by key true true None n k e =
 
 on_lock-grants : (h : Here) (key : List ℕ) → Grants (by_of h) (on_lock h key)
 on_lock-grants h key =
-    let good : Reply = lock_answer h.number (now_of h + 600000) (by_of h) key h.locks (is_here h key) (bar_on h key) in
+    let good : Reply = lock_answer h.number (now_of h + hold_time) (by_of h) key h.locks (is_here h key) (bar_on h key) in
     unless_found (Grants (by_of h)) (failing h.fails (to_lock h.locks (is_here h key) (bar_on h key)))
     (λ call. record { kind = Fault call (by_of h); says = refuses }) good (λ call n k e. absurd (cc))
-    (lock_grants h.number (now_of h + 600000) (by_of h) key h.locks (is_here h key) (bar_on h key))
+    (lock_grants h.number (now_of h + hold_time) (by_of h) key h.locks (is_here h key) (bar_on h key))
 
 message_grants : (h : Here) (v : ℕ) (doing : Doing) (k : List ℕ) → Grants (by_of h) (on_message h v doing (LockContent k))
 message_grants h v Waits k hold key e = on_lock-grants h k hold key e

@@ -10,10 +10,11 @@ use Rattle.run_data.specs.declared.job.Cause.{Cause}
 use Rattle.p2p_wire.specs.declared.message.Message.{Message}
 use Rattle.p2p_wire.specs.declared.message.Message.TheVariants.{CheckPresent, LockContent, Failure, Success}
 use Rattle.p2p_wire.specs.Messages.{message_of, order_of}
-use Rattle.run_model.specs.Said.{Said, Says, is_answer, message_in, said_line}
+use Rattle.run_model.specs.Said.{Said, Says, message_in, said_line}
+use Rattle.race_core.proofs.Ways.{is_answer}
 use Rattle.run_model.specs.Frames.{Flying, Sent, last_request, said_of, up_of, way_of}
 use Rattle.run_model.specs.Drops.{cause_by_sender, cause_said}
-use Rattle.race_core.specs.Heard.{Heard, Locked_at, Seen_there, heard_answer, heard_request}
+use Rattle.race_core.proofs.Heard.{Heard, Locked_at, Seen_there, heard_answer, heard_request}
 use Rattle.run_model.specs.Run.{OwnPast}
 use Rattle.node_model.specs.SetUp.{SetUp}
 use Rattle.node_model.specs.Sessions.{line_in}

@@ -23,7 +23,7 @@ use Rattle.run_model.specs.Frames.{is_job, last_request, said_of, up_of, way_of}
 use Rattle.node_model.specs.Ends.{same_bool, EndName, End, end_after, end_sends, end_takes, end_took, frames, sends_at, sent_at, taken_at, takes_at}
 use Rattle.node_model.specs.Look.{first_of}
 use Rattle.run_model.specs.Drops.{cause_closed, cause_said, cause_taken, cause_with, in_slot, newer_cause, option_is_none, or_closed, shuts}
-use Rattle.race_core.specs.Heard.{heard_cause}
+use Rattle.race_core.proofs.Heard.{heard_cause}
 use Rattle.race_core.proofs.Plain.{and_true, eqb_refl, eqb_true, member_filter, any_of}
 use Rattle.race_core.proofs.SaidDown.{said_is, said_closing}
 use Rattle.race_core.proofs.HeardAgrees.{cause_if, refuses_look, takes_failure}

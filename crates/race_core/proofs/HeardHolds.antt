@@ -6,7 +6,7 @@ use Rattle.drop_proof.specs.declared.rule.Side.{Side}
 use Rattle.drop_proof.specs.declared.rule.Side.TheVariants.{Remote}
 use Rattle.run_data.specs.declared.entry.Entry.{Entry}
 use Rattle.node_model.specs.Slots.{Running}
-use Rattle.race_core.specs.Heard.{heard, hears, newer_heard}
+use Rattle.race_core.proofs.Heard.{heard, hears, newer_heard}
 use Rattle.race_core.proofs.KnownAgrees.{heard_as}
 use Rattle.race_core.proofs.HeardCauses.{Told, told_stays}
 use Rattle.node_model.specs.SetUp.{SetUp}

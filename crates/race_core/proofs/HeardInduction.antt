@@ -18,7 +18,7 @@ use Rattle.node_model.specs.Slots.{Running}
 use Rattle.run_model.specs.Past.{begun, is_of}
 use Rattle.run_model.specs.Logs.{is_step}
 use Rattle.node_model.specs.Evidence.{Standing, Claimed, Ignored, Asked}
-use Rattle.race_core.specs.Heard.{Heard, Locked_at, Seen_there, heard, heard_kind, hears, newer_heard}
+use Rattle.race_core.proofs.Heard.{Heard, Locked_at, Seen_there, heard, heard_kind, hears, newer_heard}
 use Rattle.race_core.proofs.KnownAgrees.{heard_as}
 use Rattle.race_core.proofs.HeardAgrees.{by_phase}
 use Rattle.race_core.proofs.HeardTells.{Listens, NoCopy, lock_listens, look_listens, stepped_own, stepped_silent, stepped_tells, still_tells, told_or, taken_peer, tells_else}
@@ -32,7 +32,8 @@ use Rattle.node_model.specs.Sessions.{line_in}
 use Rattle.node_model.specs.Ends.{EndName, end_after, end_sends, end_took, frames, sent_at, taken_at}
 use Rattle.node_model.specs.Jobs
 use Rattle.node_model.specs.Jobs.{AsksLock, AsksLook, AsksTime, Drops, Fresh, Gets, Greets, Held, Lacks, Next, Opens, Orders, Part, Phase, Puts, Seen, Unseen, Work, heard_of, job_end, partner, running, work_kind}
-use Rattle.node_model.specs.Knows.{candidates_of, is_to_ask, is_unasked, standing_of}
+use Rattle.race_core.proofs.Knowing.{candidates_of, is_to_ask}
+use Rattle.node_model.specs.Knows.{is_unasked, standing_of}
 use Rattle.node_model.specs.JobStep.{Turn, end_with}
 use Rattle.run_model.specs.Run.{OwnPast, OwnRun}
 use Rattle.node_model.specs.Found.{JobKind}

@@ -18,7 +18,7 @@ use Rattle.run_model.specs.Frames.{is_job, last_request, up_of, way_of}
 use Rattle.node_model.specs.Slots.{job_of}
 use Rattle.node_model.specs.Ends.{same_bool}
 use Rattle.run_model.specs.Logs.{is_step}
-use Rattle.race_core.specs.Heard.{Heard, heard_answer, heard_frame, heard_kind, hears}
+use Rattle.race_core.proofs.Heard.{Heard, heard_answer, heard_frame, heard_kind, hears}
 use Rattle.race_core.proofs.Plain.{and_right, eqb_refl, eqb_true, some_inj}
 use Rattle.race_core.proofs.SaidDown.{is_said, said_is}
 use Rattle.race_core.proofs.HeardAgrees.{by_phase, takes_other, takes_success}

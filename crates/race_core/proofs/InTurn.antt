@@ -13,7 +13,8 @@ use Rattle.run_model.specs.Past.{Always, is_of}
 use Rattle.p2p_wire.specs.declared.message.Message.{Message}
 use Rattle.p2p_wire.specs.declared.message.Message.TheVariants.{AuthSuccess}
 use Rattle.p2p_wire.specs.Messages.{message_of}
-use Rattle.run_model.specs.Said.{is_answer, is_request, message_in}
+use Rattle.race_core.proofs.Ways.{is_answer}
+use Rattle.run_model.specs.Said.{is_request, message_in}
 use Rattle.run_model.specs.Frames.{sent_if, says, taken_if}
 use Rattle.node_model.specs.SetUp.{SetUp}
 use Rattle.node_model.specs.Ends.{End, EndName, end_sends, end_takes, frames, is_opening, sent_at, server_end, taken_at}

@@ -37,7 +37,7 @@ use Rattle.race_core.proofs.EntryPlaces.{at_occurs, occurs_at, same_place}
 
 -- ---- the steps of a run at a place
 
-steps_at : (run : Run) (place : ℕ) → IsRun run → RunPast (set_up run) (past_at run place)
+pub steps_at : (run : Run) (place : ℕ) → IsRun run → RunPast (set_up run) (past_at run place)
 steps_at run place h = past_before (RunPast (set_up run)) (λ e past k. k.1) place run.entries h.steps
 
 step_at : (run : Run) (place : ℕ) (e : Entry) → IsRun run → slice_get run.entries place ≡ Some e → RunStep (set_up run) (past_at run place) e
@@ -47,7 +47,7 @@ step_at run place e h at =
 own_at : (run : Run) (place r : ℕ) → IsRun run → OwnPast (set_up run r) (past_at run place)
 own_at run place r h = own_past run h.repos r (past_at run place) (steps_at run place h)
 
-part_at : (run : Run) (place r : ℕ) (e : Entry) → IsRun run → slice_get run.entries place ≡ Some e → is_of r e ≡ true → Part (set_up run) (past_at run place) r e
+pub part_at : (run : Run) (place r : ℕ) (e : Entry) → IsRun run → slice_get run.entries place ≡ Some e → is_of r e ≡ true → Part (set_up run) (past_at run place) r e
 part_at run place r e h at is = part_of (set_up run) (past_at run place) e r (step_at run place e h at) is
 
 -- ---- beginnings
@@ -74,7 +74,7 @@ begun_by (e ∷ past) r j what h = go (λ k. begun_by past r j what k) (if_is (i
     go ih (inr t) = older (ih t.1)
 
 -- an entry that begins a job counts from then on
-begun_more : (e : Entry) (past : List Entry) (r : ℕ) → begun past r ≤ begun (e ∷ past) r
+pub begun_more : (e : Entry) (past : List Entry) (r : ℕ) → begun past r ≤ begun (e ∷ past) r
 begun_more e past r = go (is_of r e && is_begin e.kind)
   where
     go : (b : Bool) → begun past r ≤ (if b then begun past r + 1 else begun past r)

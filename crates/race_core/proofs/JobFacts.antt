@@ -1,4 +1,5 @@
 -- What a job found, by the kind of the entry that it makes.
+use Rattle.node_model.specs.Clocks.{hold_time}
 use Rattle.std.proofs.Common.{◌≡◌, ℕ, ◌+◌, ◌-◌, ◌/◌, ◌^◌, Bool, true, false, List, [], ◌∷◌, Option, Some, None, ◌⊎◌, inl, inr, refl, sym, ap, subst}
 use Rattle.std.specs.Prelude.{if◌then◌else◌, ◌==◌, ◌&&◌, not, min, nat_lt, nat_le, bytes_eq, codes, find}
 use Rattle.std.specs.List.{list_all}
@@ -87,7 +88,7 @@ shares_found t part first side asked =
     attempts_found t (to_hold (is_there t) (bar_there t)) None (made_of (is_there t) (bar_there t)) (go (is_there t) (bar_there t) refl refl)
   where
     made_of : Bool → Option ℕ → Made
-    made_of here bar = quietly (own_share (t.number) (clock_of t + 600000) t.w.number (key_of t) (talk t) (by_me t) here bar) None
+    made_of here bar = quietly (own_share (t.number) (clock_of t + hold_time) t.w.number (key_of t) (talk t) (by_me t) here bar) None
 
     go : (here : Bool) (bar : Option ℕ) → is_there t ≡ here → bar_there t ≡ bar → JobFound t None (made_of here bar)
     go false bar there free = quiet_found t None

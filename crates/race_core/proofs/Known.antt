@@ -16,8 +16,8 @@ use Rattle.run_model.specs.Frames.{Sent, is_job, said_of, last_request, sender, 
 use Rattle.std.specs.List.{list_any}
 use Rattle.run_model.specs.Drops.{Vouch, Lock, Look, asked, cause_said, cause_taken, cause_with, evidence, is_waiting, newer_cause, offer, or_closed, option_is_none, reply, shuts, standing, tells_cause, told_cause, waits}
 use Rattle.node_model.specs.Evidence.{Standing, Claimed, Ignored, Asked, Offer, Gives, Fails, candidates, gather, pick, reached}
-use Rattle.race_core.specs.Heard.{heard_cause, known_evidence, known_offer, knows, still_waits}
-use Rattle.race_core.specs.Own.{MessagePast}
+use Rattle.race_core.proofs.Heard.{heard_cause, known_evidence, known_offer, knows, still_waits}
+use Rattle.race_core.proofs.Own.{MessagePast}
 use Rattle.race_core.proofs.Told.{heard_of, reply_heard}
 
 -- ---- whether there is a cause doesn't rest on the sender

@@ -12,15 +12,17 @@ use Rattle.run_data.specs.Repos.{id_of}
 use Rattle.run_model.specs.Logs.{read_at, settings_of}
 use Rattle.node_model.specs.Evidence.{Standing, Claimed, Ignored, Asked, Offer, Gives, Fails, gather, pick, reached, standing_by}
 use Rattle.run_model.specs.Drops.{key_in, standing}
-use Rattle.race_core.specs.Heard
-use Rattle.race_core.specs.Heard.{Heard, Locked_at, Seen_there, heard, known_evidence, known_offer, still_waits}
+use Rattle.race_core.proofs.Heard
+use Rattle.race_core.proofs.Heard.{Heard, Locked_at, Seen_there, heard, known_evidence, known_offer, still_waits}
 use Rattle.node_model.specs.SetUp.{SetUp}
 use Rattle.run_model.specs.States.{state_of}
 use Rattle.node_model.specs.Jobs
 use Rattle.node_model.specs.Jobs.{Held, Seen, Unseen, Lacks, Work, heard_of, side_of, target_of}
 use Rattle.node_model.specs.Knows
 use Rattle.race_core.proofs.Known.{gather_same}
-use Rattle.node_model.specs.Knows.{candidates_of, is_to_ask, known, knows_enough, need_of, standing_of}
+use Rattle.race_core.proofs.Knowing.{candidates_of, is_to_ask, known, knows_enough}
+use Rattle.node_model.specs.Knows.{need_of, standing_of}
+use Rattle.race_core.proofs.Knowing
 
 -- what a job heard, as its entries say it
 abbrev pub heard_as : List ℕ → Option Jobs.Heard → Option Heard
@@ -55,7 +57,7 @@ offer_as clock key Claimed h = refl
 offer_as clock key (Ignored cause) h = refl
 offer_as clock key Asked h = heard_offer_as clock key h
 
-pub knows_same : (s : SetUp) (past : List Entry) (w : Work) → Agrees s past w → (c : ℕ) → Heard.knows s.repos past s.number w.number c ≡ Knows.knows s (state_of s past) w c
+pub knows_same : (s : SetUp) (past : List Entry) (w : Work) → Agrees s past w → (c : ℕ) → Heard.knows s.repos past s.number w.number c ≡ Knowing.knows s (state_of s past) w c
 knows_same s past w x c =
     ap (λ (st : Standing). known_offer (clock s.repos past s.number) st (heard past s.number w.number c)) (sym (x.standing_is c))
     ∙ (ap (λ (h : Option Heard). known_offer (clock s.repos past s.number) (standing_of s (state_of s past) w c) h) (x.heard_is c)
@@ -100,6 +102,6 @@ known_agrees s past w x enough =
     let need = need_of st w in
     let cs = candidates_of s w in
     let more = reached_more (is_to_ask s st w) (still_waits s.repos past s.number w.number) x.waits_too cs in
-    gather_same side need (Heard.knows s.repos past s.number w.number) (Knows.knows s st w) (knows_same s past w x) (reached (still_waits s.repos past s.number w.number) cs) []
-    ∙ (ap (λ zs. gather side need (Knows.knows s st w) zs []) more.1
-    ∙ gather_more side need (Knows.knows s st w) (reached (is_to_ask s st w) cs) more.0 [] enough)
+    gather_same side need (Heard.knows s.repos past s.number w.number) (Knowing.knows s st w) (knows_same s past w x) (reached (still_waits s.repos past s.number w.number) cs) []
+    ∙ (ap (λ zs. gather side need (Knowing.knows s st w) zs []) more.1
+    ∙ gather_more side need (Knowing.knows s st w) (reached (is_to_ask s st w) cs) more.0 [] enough)

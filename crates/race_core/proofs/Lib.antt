@@ -1,3 +1,8 @@
+pub mod Heard
+pub mod Knowing
+pub mod Own
+pub mod ServerAnswers
+pub mod Ways
 pub mod LogLemmas
 pub mod OwnPasts
 pub mod Reading
@@ -113,6 +118,9 @@ pub mod DialogueLeaves
 pub mod DialogueWalk
 pub mod DialogueTakes
 pub mod LocksHeard
+pub mod DialogueReplies
+pub mod DialogueServes
+pub mod DialogueGives
 pub mod Lists
 pub mod Flights
 pub mod Changes
@@ -160,15 +168,16 @@ pub mod MergedOrder
 pub mod MergedRuns
 pub mod RunsGrow
 pub mod MergedNodes
-pub mod RunsBegin
 pub mod AtPlaces
 pub mod ReadLaws
 pub mod Distinct
 pub mod Dropped
 pub mod Numbers
-pub mod LockEnds
+pub mod ItemSources
 pub mod EntryPlaces
 pub mod ClaimSources
 pub mod JobBegins
 pub mod OneDrop
 pub mod NeedsRead
+pub mod RunStarts
+pub mod FirstSteps

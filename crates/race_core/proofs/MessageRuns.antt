@@ -12,7 +12,7 @@ use Rattle.race_core.proofs.Latest.{lawful_safe}
 use Rattle.run_model.specs.Past.{clock}
 use Rattle.run_model.specs.Drops.{evidence}
 use Rattle.race_core.specs.Lawful.{IsLawful, FoundBar, FoundLocal, Lawful, LawfulPast}
-use Rattle.race_core.specs.Own.{IsMessageRun, MayBar, MayRemove, Meets, MessagePast}
+use Rattle.race_core.proofs.Own.{IsMessageRun, MayBar, MayRemove, Meets, MessagePast}
 use Rattle.race_core.proofs.Known.{evidence_known}
 use Rattle.race_core.proofs.OwnFacts.{nobody_vouched, vouch_free}
 use Rattle.race_core.proofs.Evident.{barred, each_end, fresh_items, told_of}

@@ -13,7 +13,8 @@ use Rattle.run_model.specs.Past.{is_of}
 use Rattle.node_model.specs.Slots.{job_by}
 use Rattle.run_model.specs.Frames.{last_request, said_of, up_of, way_of, Flying}
 use Rattle.run_model.specs.Logs.{has_it, has_stepped, hears_has_it, is_quiet, starts_drop}
-use Rattle.run_model.specs.Said.{Said, Says, is_answer, message_in}
+use Rattle.run_model.specs.Said.{Said, Says, message_in}
+use Rattle.race_core.proofs.Ways.{is_answer}
 use Rattle.p2p_wire.specs.declared.message.Message.{Message}
 use Rattle.p2p_wire.specs.declared.message.Message.TheVariants.{AlreadyHave, Success, Valid}
 use Rattle.node_model.specs.Sessions.{line_in}

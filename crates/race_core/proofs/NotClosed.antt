@@ -1,4 +1,5 @@
 -- A job that is to begin, or to go on to its next peer, doesn't end as one whose connection was closed.
+use Rattle.node_model.specs.Clocks.{hold_time}
 use Rattle.std.proofs.Common.{◌≡◌, ℕ, ◌+◌, Bool, true, false, List, [], ◌∷◌, Option, Some, None, refl, subst}
 use Rattle.std.specs.Prelude.{if◌then◌else◌, ◌==◌, nat_lt}
 use Rattle.std.specs.List.{list_all}
@@ -99,9 +100,9 @@ bars_not t (Some refusal) = ends_not t (Refused refusal) tt
 bars_not t None = tt
 
 shares_not : (t : Turn) → Not (shares t)
-shares_not t = attempts_not t (to_hold (is_there t) (bar_there t)) None (quietly (own_share (t.number) (clock_of t + 600000) t.w.number (key_of t) (talk t) (by_me t) (is_there t) (bar_there t)) None) (go (is_there t) (bar_there t))
+shares_not t = attempts_not t (to_hold (is_there t) (bar_there t)) None (quietly (own_share (t.number) (clock_of t + hold_time) t.w.number (key_of t) (talk t) (by_me t) (is_there t) (bar_there t)) None) (go (is_there t) (bar_there t))
   where
-    go : (here : Bool) (bar : Option ℕ) → NotKind (own_share (t.number) (clock_of t + 600000) t.w.number (key_of t) (talk t) (by_me t) here bar)
+    go : (here : Bool) (bar : Option ℕ) → NotKind (own_share (t.number) (clock_of t + hold_time) t.w.number (key_of t) (talk t) (by_me t) here bar)
     go false bar = tt
     go true (Some i) = tt
     go true None = tt

@@ -14,11 +14,12 @@ use Rattle.run_model.specs.Past.{Always, Occurs, clock, is_of, clock_set}
 use Rattle.node_model.specs.Clocks.{ClockSet, runs_on}
 use Rattle.p2p_wire.specs.declared.message.Message.TheVariants.{Timestamp}
 use Rattle.p2p_wire.specs.Messages.{order_of}
-use Rattle.run_model.specs.Said.{Says, is_answer, is_request, message_in}
-use Rattle.run_model.specs.Frames.{Flying, MayTake, Way, answers, down_of, is_job, on_way, requests, says, sender_of, sent, sent_of, taken, taken_if, taker_of, up_of, way_from, way_of}
+use Rattle.run_model.specs.Said.{Says, is_request, message_in}
+use Rattle.race_core.proofs.Ways.{is_answer, answers, down_of, way_from}
+use Rattle.run_model.specs.Frames.{Flying, MayTake, Way, is_job, on_way, requests, says, sender_of, sent, sent_of, taken, taken_if, taker_of, up_of, way_of}
 use Rattle.run_model.specs.Drops.{done, evidence}
 use Rattle.race_core.specs.Lawful.{FoundRemote, IsFresh}
-use Rattle.race_core.specs.Own.{MayObey, MayOrder, Meets, MessagePast, SaidByClock}
+use Rattle.race_core.proofs.Own.{MayObey, MayOrder, Meets, MessagePast, SaidByClock}
 use Rattle.race_core.proofs.Lists.{eqb_refl, true_or_false}
 use Rattle.race_core.proofs.Flights.{always_before, occurs_always, occurs_earlier, sending}
 use Rattle.race_core.proofs.Turns.{OneEach, next_of, of_flying, place_of, taken_of}

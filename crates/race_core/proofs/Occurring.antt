@@ -11,10 +11,11 @@ use Rattle.run_data.specs.declared.run.RepoView.{RepoView}
 use Rattle.run_model.specs.Past.{Occurs, is_of, made}
 use Rattle.node_model.specs.Rows.{is_lost_ordered}
 use Rattle.run_model.specs.Said.{Said, is_request}
-use Rattle.run_model.specs.Frames.{Way, answers, down_of, flying, on_way, says, sender_of, sent_if, taken_if, taker_of, takes_if, up_of}
+use Rattle.run_model.specs.Frames.{Way, flying, on_way, says, sender_of, sent_if, taken_if, taker_of, takes_if, up_of}
+use Rattle.race_core.proofs.Ways.{answers, down_of}
 use Rattle.node_model.specs.Slots.{job_of}
 use Rattle.run_model.specs.Drops.{Vouch, done, done_kind, vouch, vouches}
-use Rattle.race_core.specs.Own.{MessagePast, uses}
+use Rattle.race_core.proofs.Own.{MessagePast, uses}
 use Rattle.race_core.proofs.Lists.{and_true, eqb_refl, or_left, or_right, or_true, Member-append}
 use Rattle.race_core.proofs.Flights.{some_inj}
 use Rattle.race_core.proofs.Turns.{sent_if-prefix, sent_if-step}

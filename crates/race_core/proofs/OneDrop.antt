@@ -11,11 +11,12 @@ use Rattle.run_data.specs.declared.entry.FrameView.{FrameView}
 use Rattle.run_data.specs.declared.run.RepoView.{RepoView}
 use Rattle.run_data.specs.declared.run.Run.{Run}
 use Rattle.run_model.specs.Past.{Decision, Occurs, bar, decided, is_of}
-use Rattle.run_model.specs.Frames.{Flying, MayTake, Way, flying, is_on, on_way, sender_of, sent, sent_of, taken, taker_of, takes, way_from, way_of}
+use Rattle.run_model.specs.Frames.{Flying, MayTake, Way, flying, is_on, on_way, sender_of, sent, sent_of, taken, taker_of, takes, way_of}
+use Rattle.race_core.proofs.Ways.{way_from}
 use Rattle.run_model.specs.Safety.{past_at}
 use Rattle.run_model.specs.Run.{IsRun}
 use Rattle.race_core.proofs.Plain.{get_left}
-use Rattle.race_core.specs.Own.{Meets, MessagePast}
+use Rattle.race_core.proofs.Own.{Meets, MessagePast}
 use Rattle.race_core.specs.Readings.{Judge}
 use Rattle.race_core.specs.Removals.{HasOrder, IsAt, Sends, Takes}
 use Rattle.race_core.proofs.Changes.{bar_was, bytes_refl, decided_keeps, repo_of, same_repo}
@@ -27,7 +28,7 @@ use Rattle.race_core.proofs.Obeying.{ordered_by}
 use Rattle.race_core.proofs.AtPlaces.{past_next}
 use Rattle.race_core.proofs.Pasts.{past_end}
 use Rattle.race_core.proofs.Dropped.{meets_at, messages_at, order_judge}
-use Rattle.race_core.proofs.EntryPlaces.{Placed, at_occurs, there_or_end, occurs_at, same_place}
+use Rattle.race_core.proofs.EntryPlaces.{Placed, at_occurs, below_or_last, occurs_at, same_place, there_or_end}
 use Rattle.race_core.proofs.JobBegins.{order_alone, orderer}
 
 -- ---- who removes
@@ -106,13 +107,10 @@ taken_step e past w = go (is_of (taker_of w) e && takes w e.taken)
     go false = omega arith
 
 -- what grows by each entry grows from place to place
-grows : (f : List Entry → ℕ) → ((e : Entry) (past : List Entry) → f past ≤ f (e ∷ past)) → (run : Run) (a b : ℕ) → a ≤ b → f (past_at run a) ≤ f (past_at run b)
+pub grows : (f : List Entry → ℕ) → ((e : Entry) (past : List Entry) → f past ≤ f (e ∷ past)) → (run : Run) (a b : ℕ) → a ≤ b → f (past_at run a) ≤ f (past_at run b)
 grows f more run a zero le = let same : a ≡ zero = omega (arith, le) in subst (λ n. f (past_at run a) ≤ f (past_at run n)) same (omega arith)
-grows f more run a (suc b) le = go (λ k. grows f more run a b k) (last a b le)
+grows f more run a (suc b) le = go (λ k. grows f more run a b k) (below_or_last a b le)
   where
-    last : (m n : ℕ) → m ≤ suc n → (m ≤ n) ⊎ (m ≡ suc n)
-    last m n k = grind arith
-
     step : f (past_at run b) ≤ f (past_at run (b + 1))
     step = elim (there_or_end run.entries b) [
       | inl t ↦ subst (λ past. f (past_at run b) ≤ f past) (sym (past_next run b t.0 t.1)) (more t.0 (past_at run b))

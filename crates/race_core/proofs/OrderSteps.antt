@@ -15,7 +15,8 @@ use Rattle.node_model.specs.Rows.{is_lost_ordered}
 use Rattle.p2p_wire.specs.declared.message.Message.{Message}
 use Rattle.p2p_wire.specs.declared.message.Message.TheVariants.{Failure, Success}
 use Rattle.p2p_wire.specs.Messages.{message_of}
-use Rattle.run_model.specs.Said.{Says, is_answer, message_in, said_line}
+use Rattle.run_model.specs.Said.{Says, message_in, said_line}
+use Rattle.race_core.proofs.Ways.{is_answer}
 use Rattle.node_model.specs.Ends.{End, EndName, end_after, end_sends, end_takes, end_took, may_take, taken_at, takes_at}
 use Rattle.node_model.specs.Jobs
 use Rattle.node_model.specs.Jobs.{Denied, Drops, Ends, Orders, Phase, Removed, job_end, partner, side_of}

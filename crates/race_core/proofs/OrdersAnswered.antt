@@ -24,7 +24,8 @@ use Rattle.node_model.specs.Look.{first_of, Made, entry_of}
 use Rattle.run_model.specs.Logs.{is_step}
 use Rattle.p2p_wire.specs.declared.message.Message.{Message}
 use Rattle.p2p_wire.specs.Messages.{order_of, text_of}
-use Rattle.run_model.specs.Said.{is_answer, is_request, message_in}
+use Rattle.race_core.proofs.Ways.{is_answer}
+use Rattle.run_model.specs.Said.{is_request, message_in}
 use Rattle.node_model.specs.SetUp.{SetUp, slots}
 use Rattle.node_model.specs.Sessions.{line_in}
 use Rattle.node_model.specs.Ends.{End, EndName, end_after, end_sends, end_takes, end_took, frames, sends_at, sent_at, taken_at, takes_at}

@@ -20,7 +20,7 @@ use Rattle.run_model.specs.Frames.{Flying, is_job, says, sender, sent_of, taken,
 use Rattle.node_model.specs.Slots.{job_of}
 use Rattle.run_model.specs.Drops.{Vouch, Lock, Look, asked_at, asker, asker_by, asker_of, is_asker, key_of, look_of, vouch, vouch_kind, vouches}
 use Rattle.race_core.specs.Lawful.{Free, since_of}
-use Rattle.race_core.specs.Own.{Meets, MessagePast, SaysYes, asks_copy, has_asked, is_share, seeks}
+use Rattle.race_core.proofs.Own.{Meets, MessagePast, SaysYes, asks_copy, has_asked, is_share, seeks}
 use Rattle.race_core.proofs.Lists.{and_true, any-Member, both, eqb_refl, eqb_true, or_left, or_right, or_false}
 use Rattle.race_core.proofs.Flights.{Sending, sending}
 use Rattle.race_core.proofs.Told.{sends_member}

@@ -1,4 +1,5 @@
 -- A remote drop has tried its own repository before it asks any other; so a job opens connections with other repositories alone.
+use Rattle.node_model.specs.Clocks.{hold_time}
 use Rattle.std.proofs.Common.{◌≡◌, ◌≢◌, ℕ, zero, suc, ◌+◌, ◌<◌, ◌≤◌, Bool, true, false, List, [], ◌∷◌, length, Option, Some, None, ◌⊎◌, inl, inr, refl, sym, ap, ◌∙◌, subst, arith}
 use Rattle.std.specs.Prelude.{if◌then◌else◌, ◌==◌, ◌&&◌, ◌||◌, find, not, slice_get}
 use Rattle.std.specs.List.{range_with_len, list_all}
@@ -36,7 +37,8 @@ use Rattle.node_model.specs.Jobs
 use Rattle.node_model.specs.Jobs.{Drops, Fresh, Gets, Heard, Part, Phase, Puts, Rows, Work, claims, fault_of, first_look, first_part, learns, partner, side_of, talks, target_of, unreleased, work_kind}
 use Rattle.node_model.specs.Calls.{to_hold, to_release}
 use Rattle.node_model.specs.Look.{Made, failing}
-use Rattle.node_model.specs.Knows.{is_to_ask, is_unasked, standing_of}
+use Rattle.race_core.proofs.Knowing.{is_to_ask}
+use Rattle.node_model.specs.Knows.{is_unasked, standing_of}
 use Rattle.node_model.specs.JobStep.{Turn, attempts, bar_there, by_me, clock_of, farewells, is_there, key_of, me, owns_share, quietly, talk, others_of}
 use Rattle.node_model.specs.DropStep.{first_drop, first_remote, own_share, required_there, shares, tries_own}
 use Rattle.node_model.specs.TransferStep.{sources}
@@ -163,10 +165,10 @@ attempts_first t cs taken m g = unless_found (λ (x : Made). FirstSays t x.kind)
 
 shares_first : (t : Turn) → FirstSays t (shares t).kind
 shares_first t =
-    attempts_first t (to_hold (is_there t) (bar_there t)) None (quietly (own_share (t.number) (clock_of t + 600000) t.w.number (key_of t) (talk t) (by_me t) (is_there t) (bar_there t)) None)
+    attempts_first t (to_hold (is_there t) (bar_there t)) None (quietly (own_share (t.number) (clock_of t + hold_time) t.w.number (key_of t) (talk t) (by_me t) (is_there t) (bar_there t)) None)
     (go (is_there t) (bar_there t) refl refl)
   where
-    go : (here : Bool) (bar : Option ℕ) → is_there t ≡ here → bar_there t ≡ bar → FirstSays t (own_share (t.number) (clock_of t + 600000) t.w.number (key_of t) (talk t) (by_me t) here bar)
+    go : (here : Bool) (bar : Option ℕ) → is_there t ≡ here → bar_there t ≡ bar → FirstSays t (own_share (t.number) (clock_of t + hold_time) t.w.number (key_of t) (talk t) (by_me t) here bar)
     go false bar there free = inr (inl there)
     go true (Some j) there free = inr (inr (j, free))
     go true None there free = tt

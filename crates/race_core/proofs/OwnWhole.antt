@@ -1,4 +1,5 @@
 -- The facts of an entry over its repository's own entries hold over every past that has these entries.
+use Rattle.node_model.specs.Clocks.{hold_time, ClockSet, runs_on}
 use Rattle.std.proofs.Common.{◌≡◌, ℕ, ◌+◌, ◌-◌, ◌*◌, ◌/◌, ◌<◌, ◌≤◌, Bool, true, false, not, ◌&&◌, ◌||◌, cond, List, [], ◌∷◌, length, Option, Some, None, ◌⊎◌, inl, inr, refl, sym, ap, ◌∙◌, subst}
 use Rattle.std.specs.Prelude.{option_map, if◌then◌else◌, ◌==◌}
 use Rattle.std.specs.List.{list_any}
@@ -13,18 +14,18 @@ use Rattle.run_data.specs.declared.job.Cause.TheVariants.{Closed}
 use Rattle.run_data.specs.declared.run.RepoView.{RepoView}
 use Rattle.run_model.specs.Past.{Decision, Occurs, begun_job, clock, decided, holds, is_of, jobs, present, clock_set, set_after}
 use Rattle.node_model.specs.Rows.{is_blocked, option_is}
-use Rattle.node_model.specs.Clocks.{ClockSet, runs_on}
 use Rattle.p2p_wire.specs.declared.message.Message.TheVariants.{Success}
-use Rattle.run_model.specs.Said.{Said, Says, message_in, is_answer, is_request}
-use Rattle.run_model.specs.Frames.{Flying, Way, answers, down_of, is_job, last_request, says, sender_of, taken_if, taker_of, up_of, way_from, way_of}
+use Rattle.run_model.specs.Said.{Said, Says, message_in, is_request}
+use Rattle.race_core.proofs.Ways.{is_answer, answers, down_of, way_from}
+use Rattle.run_model.specs.Frames.{Flying, Way, is_job, last_request, says, sender_of, taken_if, taker_of, up_of, way_of}
 use Rattle.node_model.specs.Slots.{job_of}
 use Rattle.run_model.specs.Logs.{before_step, in_drop, is_step}
 use Rattle.node_model.specs.Look.{first_of}
 use Rattle.node_model.specs.Evidence.{candidates, gather, reached}
 use Rattle.run_model.specs.Drops.{cause_closed, cause_own, cause_said, cause_taken, cause_with, is_first_step, is_waiting, key_in, newer_cause, option_is_none, or_closed, shuts, standing}
 use Rattle.race_core.specs.Lawful.{Free}
-use Rattle.race_core.specs.Heard.{Heard, heard, heard_answer, heard_cause, heard_frame, heard_kind, heard_request, hears, known_evidence, known_offer, knows, newer_heard, still_waits}
-use Rattle.race_core.specs.Own.{Awaits, HasDeadline, HeardOf, InTimeBy, InTurn, MayEnd, MayBar, MayObey, MayOrder, MayRelease, MayRemove, MaySend, OneClock, Own, SaidByClock, asks_copy, has_asked, is_share}
+use Rattle.race_core.proofs.Heard.{Heard, heard, heard_answer, heard_cause, heard_frame, heard_kind, heard_request, hears, known_evidence, known_offer, knows, newer_heard, still_waits}
+use Rattle.race_core.proofs.Own.{Awaits, HasDeadline, HeardOf, InTimeBy, InTurn, MayEnd, MayBar, MayObey, MayOrder, MayRelease, MayRemove, MaySend, OneClock, Own, SaidByClock, asks_copy, has_asked, is_share}
 use Rattle.race_core.proofs.Lists.{and_true}
 use Rattle.race_core.proofs.Known.{gather_same, reached_same}
 use Rattle.race_core.proofs.Told.{taker_way}
@@ -369,7 +370,7 @@ module _ (repos : List RepoView) (r : ℕ) (e : Entry) (past : List Entry) where
     answered = λ w same. whole_answered is w same (o.answered w same);
     awaits = λ f takes down a. whole_awaits f down (o.awaits f takes down a);
     one_job = λ w client u j i x before h occurs mine' k v. o.one_job w client u j i x (mine r before) h (mine_occurs r past x before occurs mine') mine' k v;
-    share = λ hold end by key kind. let s = o.share hold end by key kind in record { row = whole_free key s.row; end_is = s.end_is ∙ ap (λ t. t + 600000) same_time; number_is = s.number_is ∙ sym (ap (λ n. n + 1) (own_made r past)) };
+    share = λ hold end by key kind. let s = o.share hold end by key kind in record { row = whole_free key s.row; end_is = s.end_is ∙ ap (λ t. t + hold_time) same_time; number_is = s.number_is ∙ sym (ap (λ n. n + 1) (own_made r past)) };
     shares_with = o.shares_with;
     look = λ key kind. let s = o.look key kind in (whole_free key s.0, s.1);
     release = λ hold key kind. whole_release hold key (o.release hold key kind);

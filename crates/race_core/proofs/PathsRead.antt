@@ -34,7 +34,8 @@ use Rattle.node_model.specs.Owed.{Owed}
 use Rattle.node_model.specs.Wanted.{required}
 use Rattle.node_model.specs.OwedStep.{owed_step, pays_first}
 use Rattle.node_model.specs.SessionStep.{is_filled, Here, gives_made, gives_next, here, on_bytes, on_frame, on_message, on_request, on_text, reply_made, session_at, session_makes, session_step}
-use Rattle.node_model.specs.Knows.{knows_enough, next_of, standing_of}
+use Rattle.race_core.proofs.Knowing.{knows_enough, next_of}
+use Rattle.node_model.specs.Knows.{standing_of}
 use Rattle.node_model.specs.JobStep.{Turn, attempts, bar_there, by_me, clock_of, key_of, owns_share, quietly, sends_to, wrong, end_needs, end_with, ends, farewell, farewells, is_there, talk, turn_of}
 use Rattle.node_model.specs.DropStep.{asks_copy, asks_lock, asks_target, expired, in_time, lacking, orders, removes, bars, first_drop, first_end, first_remote, held_until, removed, required_there, row_refusal, takes_drop, takes_time, target, times, tries_own}
 use Rattle.node_model.specs.Requests.{asks, goes_to}

@@ -9,14 +9,15 @@ use Rattle.run_data.specs.declared.entry.FrameView.{FrameView}
 use Rattle.run_data.specs.declared.job.Outcome.{Outcome}
 use Rattle.node_model.specs.Rows.{is_lost_ordered}
 use Rattle.p2p_wire.specs.Messages.{order_of}
-use Rattle.run_model.specs.Said.{is_answer, message_in}
-use Rattle.run_model.specs.Frames.{Way, down_of, requests, taken_if, way_from}
+use Rattle.race_core.proofs.Ways.{is_answer, down_of, way_from}
+use Rattle.run_model.specs.Said.{message_in}
+use Rattle.run_model.specs.Frames.{Way, requests, taken_if}
 use Rattle.node_model.specs.SetUp.{SetUp}
 use Rattle.run_model.specs.Run.{ByStep, IsStep, OwnPart}
 use Rattle.annex_base.specs.declared.kinds.Word.{Word}
 use Rattle.run_data.specs.declared.entry.Entry.{Entry}
 use Rattle.node_model.specs.AnyTime.{MayCome}
-use Rattle.run_model.specs.Answers
+use Rattle.race_core.proofs.ServerAnswers
 use Rattle.race_core.proofs.AnswerFacts.{may_bar}
 use Rattle.race_core.proofs.Decisions.{bar_stands}
 use Rattle.race_core.proofs.ClientAwaits.{own_awaits}
@@ -24,7 +25,7 @@ use Rattle.race_core.proofs.ClientRuns.{client_end}
 use Rattle.race_core.proofs.ClientWays.{up_way}
 use Rattle.race_core.proofs.OrdersSent.{SentOrder}
 use Rattle.race_core.proofs.OrdersAnswered.{ends_answered}
-use Rattle.race_core.specs.Own.{Awaits, MayBar, MayEnd}
+use Rattle.race_core.proofs.Own.{Awaits, MayBar, MayEnd}
 use Rattle.race_core.proofs.SaidDown.{is_said}
 
 -- the way of a frame that goes up
@@ -37,14 +38,14 @@ awaits_step s past words e h b is part f took down answer = own_awaits s past h 
 
 -- the row of a bar, as the step found it
 row_found : (s : SetUp) (past : List Entry) (words : ℕ → Option Word) (e : Entry) → OwnPart s past words e → (j : ℕ) (need : Need) (key : List ℕ) → e.kind ≡ Bar j need key
-    → Answers.MayBar s past e j need key
+    → ServerAnswers.MayBar s past e j need key
 row_found s past words e own j need key is = elim (own.does) [
   | inl x ↦ step x
   | inr x ↦ absurd (subst (MayCome s (state_of s past) e.lines e.sent) is x.may)
 ]
   where
-    step : IsStep s past words e → Answers.MayBar s past e j need key
-    step x = subst (λ (y : Entry). Answers.MayBar s past y j need key) (sym x.is) (may_bar s past x.look x.made x.makes j need key (sym (ap (λ (y : Entry). y.kind) x.is) ∙ is))
+    step : IsStep s past words e → ServerAnswers.MayBar s past e j need key
+    step x = subst (λ (y : Entry). ServerAnswers.MayBar s past y j need key) (sym x.is) (may_bar s past x.look x.made x.makes j need key (sym (ap (λ (y : Entry). y.kind) x.is) ∙ is))
 
 -- the field `bar_put`
 pub bar_put_step : ByStep (λ s past e. (j : ℕ) (need : Need) (key : List ℕ) → e.kind ≡ Bar j need key → MayBar s.repos s.number past e j need key)

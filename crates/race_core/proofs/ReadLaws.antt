@@ -1,6 +1,6 @@
 -- What the drops of a run's removals read of the logs, at the places of the run.
-use Rattle.std.proofs.Common.{◌≡◌, ℕ, ◌+◌, true, List, length, Option, Some, None, inl, inr, refl, sym, ap, ◌∙◌, subst}
-use Rattle.std.specs.Prelude.{◌≢◌, slice_get}
+use Rattle.std.proofs.Common.{◌≡◌, ℕ, true, List, length, Option, Some, None, inl, inr, refl, sym, ap, ◌∙◌, subst}
+use Rattle.std.specs.Prelude.{◌≢◌}
 use Rattle.annex_base.specs.declared.kinds.Level.TheVariants as levels
 use Rattle.annex_base.specs.Lists.{Each, Member}
 use Rattle.drop_proof.specs.declared.evidence.Evidence.{Evidence}
@@ -22,25 +22,13 @@ use Rattle.race_core.proofs.Reading.{standing-claimed, standing-dead, standing-u
 use Rattle.race_core.specs.Places.{removal_at}
 use Rattle.race_core.specs.Readings.{IsLocalRemoval, Judge, claim_read, judge_at, key_read, level_read}
 use Rattle.race_core.proofs.Lists.{Each-any, Each-at}
-use Rattle.race_core.proofs.Pasts.{past_before}
-use Rattle.race_core.proofs.AtPlaces.{past_next}
+use Rattle.race_core.proofs.Dropped.{meets_at, messages_at}
 use Rattle.run_model.specs.Run.{IsRun}
-use Rattle.race_core.specs.Own.{Meets, MessagePast}
-use Rattle.race_core.proofs.FromStep.{runs_are_messages}
 use Rattle.race_core.proofs.Changes.{Obeys, Removes, removal_is, removal_was, repo_of}
 use Rattle.race_core.proofs.Flights.{some_inj}
 use Rattle.race_core.proofs.Evident.{barred}
 use Rattle.race_core.proofs.ReadOnce.{need_is_read}
 use Rattle.race_core.proofs.Gather.{evidence_each}
-
--- ---- runs at a place
-
-messages_at : (run : Run) (place : ℕ) → IsRun run → MessagePast run.repos (past_at run place)
-messages_at run place h = past_before (MessagePast run.repos) (λ e past k. k.1) place run.entries (runs_are_messages run h).steps
-
-meets_at : (run : Run) (place : ℕ) (e : Entry) → IsRun run → slice_get run.entries place ≡ Some e → Meets run.repos (past_at run place) e
-meets_at run place e h at =
-    let k : Meets run.repos (past_at run place) e × MessagePast run.repos (past_at run place) = subst (λ past. MessagePast run.repos past) (past_next run place e at) (messages_at run (place + 1) h) in k.0
 
 -- a local removal has the need that its drop read
 pub need_of_removal : (run : Run) (key : List ℕ) (place r j : ℕ) (x : Removal) → IsRun run → (w : IsLocalRemoval run key place r j) → removal_at run key place w.entry ≡ Some x → x.need ≡ need_read (past_at run place) r j

@@ -10,7 +10,7 @@ use Rattle.run_model.specs.Logs.{before_step, in_drop, is_step, need_read, read_
 use Rattle.node_model.specs.Look.{first_of}
 use Rattle.run_model.specs.Drops.{key_in, standing}
 use Rattle.node_model.specs.Evidence.{standing_by}
-use Rattle.race_core.specs.Own.{MessagePast}
+use Rattle.race_core.proofs.Own.{MessagePast}
 use Rattle.race_core.proofs.Lists.{eqb_refl}
 use Rattle.race_core.proofs.Changes.{Decides, decided_was}
 

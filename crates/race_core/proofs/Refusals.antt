@@ -22,7 +22,8 @@ use Rattle.node_model.specs.Slots.{Running}
 use Rattle.p2p_wire.specs.declared.message.Message.{Message}
 use Rattle.p2p_wire.specs.declared.message.Message.TheVariants.{Error, Failure, Put, Valid, Version}
 use Rattle.p2p_wire.specs.Messages.{order_of}
-use Rattle.run_model.specs.Said.{Said, Says, is_answer}
+use Rattle.run_model.specs.Said.{Said, Says}
+use Rattle.race_core.proofs.Ways.{is_answer}
 use Rattle.run_model.specs.Frames.{Flying, is_job, last_request, said_of, up_of, way_of}
 use Rattle.run_model.specs.Drops.{is_first_step}
 use Rattle.run_model.specs.Causes.{Answers, FailedCall, Hears, side_by, target_by}

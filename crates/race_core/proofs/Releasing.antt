@@ -14,7 +14,7 @@ use Rattle.node_model.specs.Rows.{option_is}
 use Rattle.run_model.specs.Frames.{Way, on_way, sender_of, taken, way_of}
 use Rattle.node_model.specs.Slots.{job_of}
 use Rattle.run_model.specs.Drops.{Lock, done, vouch, vouches}
-use Rattle.race_core.specs.Own.{MayRelease, Meets, MessagePast, uses}
+use Rattle.race_core.proofs.Own.{MayRelease, Meets, MessagePast, uses}
 use Rattle.race_core.proofs.Lists.{and_true}
 use Rattle.race_core.proofs.Flights.{occurs_always, occurs_earlier, sending, some_inj}
 use Rattle.race_core.proofs.OwnFacts.{AskedBy, VouchesBy, asked_by, vouches_by}

@@ -36,7 +36,7 @@ may_paths : (run : Run) → IsRun run → (p : ℕ → ℕ → List (List ℕ)) 
 may_paths run is p past e steps same None who h = h
 may_paths run is p past e steps same (Some r) who h = (h.0, part_paths (set_up run r) (p r) past h.0 e (own_past run is.repos r past steps).run (same r who) h.1, h.2)
 
-run_paths : (run : Run) → IsRun run → (p : ℕ → ℕ → List (List ℕ)) (past : List Entry) → RunPast (set_up run) past → ((r : ℕ) → SamePaths (set_up run r) (p r) past) → RunPast (λ r. with_paths (set_up run r) (p r)) past
+pub run_paths : (run : Run) → IsRun run → (p : ℕ → ℕ → List (List ℕ)) (past : List Entry) → RunPast (set_up run) past → ((r : ℕ) → SamePaths (set_up run r) (p r) past) → RunPast (λ r. with_paths (set_up run r) (p r)) past
 run_paths run is p [] h same = tt
 run_paths run is p (e ∷ past) h same =
     let before : (r : ℕ) → SamePaths (set_up run r) (p r) past = λ r. same_before (set_up run r) (p r) e past (same r) in

@@ -9,7 +9,8 @@ use Rattle.run_data.specs.declared.entry.FrameText.TheVariants.{Opening, Closing
 use Rattle.p2p_wire.specs.declared.message.Message.{Message}
 use Rattle.p2p_wire.specs.declared.message.Message.TheVariants.{AuthSuccess, Version, CheckPresent, LockContent, UnlockContent, Remove, RemoveBefore, GetTimestamp, Timestamp, Get, Put, PutFrom, AlreadyHave, Data, Valid, Invalid, Success, Failure, Error}
 use Rattle.p2p_wire.specs.Messages.{message_of, number_in, text_in, text_of}
-use Rattle.run_model.specs.Said.{CloseIt, OpenIt, Piece, Says, completes, is_answer, message_in, said_line}
+use Rattle.run_model.specs.Said.{CloseIt, OpenIt, Piece, Says, message_in, said_line}
+use Rattle.race_core.proofs.Ways.{completes, is_answer}
 use Rattle.node_model.specs.Sessions.{line_in}
 
 -- what a server tells a client

@@ -10,7 +10,8 @@ use Rattle.run_data.specs.declared.entry.FrameView.{FrameView}
 use Rattle.run_data.specs.declared.entry.FrameText.TheVariants.{Closing, Line}
 use Rattle.p2p_wire.specs.declared.message.Message.TheVariants.{UnlockContent}
 use Rattle.p2p_wire.specs.Messages.{order_of, text_of}
-use Rattle.run_model.specs.Said.{Said, Says, Unknown, is_answer, is_request, message_in}
+use Rattle.run_model.specs.Said.{Said, Says, Unknown, is_request, message_in}
+use Rattle.race_core.proofs.Ways.{is_answer}
 use Rattle.run_model.specs.Frames.{Way, is_on, on_way, says, taker_of}
 use Rattle.node_model.specs.SetUp.{SetUp}
 use Rattle.run_model.specs.Run.{ByStep, OwnPart, OwnPast}
@@ -24,7 +25,7 @@ use Rattle.race_core.proofs.JobLines.{Few, JobSaid, farewells_fail, job_few, job
 use Rattle.race_core.proofs.OrdersRead.{order_read}
 use Rattle.race_core.proofs.SaidDown.{said_closing}
 use Rattle.race_core.proofs.SessionSays.{read_of}
-use Rattle.race_core.specs.Own.{AtMostOne, MaySend}
+use Rattle.race_core.proofs.Own.{AtMostOne, MaySend}
 use Rattle.race_core.proofs.SessionOwn.{SessionSpeaks, any_closes, close_sends, closes_one, session_one_answer, session_one_request, session_sends_step, speaks}
 
 -- ---- who made an own entry

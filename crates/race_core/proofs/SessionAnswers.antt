@@ -1,4 +1,5 @@
 -- Which answers a session gives to which message, and what the entry that answers found.
+use Rattle.node_model.specs.Clocks.{hold_time}
 use Rattle.std.proofs.Common.{◌≡◌, ℕ, ◌+◌, ◌*◌, ◌/◌, ◌≤◌, Bool, true, false, List, [], ◌∷◌, Option, Some, None, ◌⊎◌, inl, inr, refl, sym, ap, ◌∙◌, subst, arith}
 use Rattle.std.proofs.lemmas.Bool.Decides.{nat_tests}
 use Rattle.std.proofs.lemmas.Bool.{true≢false}
@@ -18,7 +19,8 @@ use Rattle.run_model.specs.Causes.{denied_by, rejects}
 use Rattle.p2p_wire.specs.declared.message.Message.{Message}
 use Rattle.p2p_wire.specs.declared.message.Message.TheVariants.{Version, CheckPresent, LockContent, UnlockContent, Remove, RemoveBefore, GetTimestamp, Timestamp, Get, Put, PutFrom, AlreadyHave, Data, Valid, Invalid, Success, Failure, Error}
 use Rattle.p2p_wire.specs.Messages.{message_of, text_of}
-use Rattle.run_model.specs.Said.{Says, completes, is_answer, is_request, message_in, wants_answer}
+use Rattle.run_model.specs.Said.{Says, is_request, message_in, wants_answer}
+use Rattle.race_core.proofs.Ways.{completes, is_answer}
 use Rattle.node_model.specs.Sessions.{Doing, Waits, Guards, Gave, Wants, Took, Session}
 use Rattle.node_model.specs.Calls.{to_commit, to_lock, to_offer, to_remove}
 use Rattle.node_model.specs.Look.{failing}
@@ -126,8 +128,8 @@ request_replied h v (Version n) = fits (Version n) (Talk None) (Version (min n h
 request_replied h v (CheckPresent key) = tries_replied h (CheckPresent key) (calls.Has ∷ []) refuses (check_answer key (is_here h key) (bar_on h key))
     (λ call. fits (CheckPresent key) (Fault call (by_of h)) Failure refl refl) (check_replied key (is_here h key) (bar_on h key))
 request_replied h v (LockContent key) = tries_replied h (LockContent key) (to_lock h.locks (is_here h key) (bar_on h key)) refuses
-    (lock_answer h.number (now_of h + 600000) (by_of h) key h.locks (is_here h key) (bar_on h key)) (λ call. fits (LockContent key) (Fault call (by_of h)) Failure refl tt)
-    (lock_replied h.number (now_of h + 600000) (by_of h) key h.locks (is_here h key) (bar_on h key))
+    (lock_answer h.number (now_of h + hold_time) (by_of h) key h.locks (is_here h key) (bar_on h key)) (λ call. fits (LockContent key) (Fault call (by_of h)) Failure refl tt)
+    (lock_replied h.number (now_of h + hold_time) (by_of h) key h.locks (is_here h key) (bar_on h key))
 request_replied h v (Remove key) = on_remove-replied (Remove key) (removes key) h key
 request_replied h v (RemoveBefore n key) = with_version h (RemoveBefore n key) (nat_le 3 v) (on_remove_before h n key) (before_replied h n key)
 request_replied h v GetTimestamp = with_version h GetTimestamp (nat_le 3 v) (reply (Talk None) (Timestamp (now_of h / 1000))) (fits GetTimestamp (Talk None) (Timestamp (now_of h / 1000)) refl tt)

@@ -1,4 +1,5 @@
 -- What a session found, by the kind of the entry that it makes.
+use Rattle.node_model.specs.Clocks.{hold_time}
 use Rattle.std.proofs.Common.{◌≡◌, ℕ, ◌+◌, ◌*◌, ◌/◌, Bool, true, false, List, [], ◌∷◌, Option, Some, None, ◌⊎◌, inl, inr, refl, ap, subst}
 use Rattle.std.specs.Prelude.{if◌then◌else◌, ◌==◌, ◌&&◌, min, nat_lt, nat_le, bytes_eq, codes}
 use Rattle.std.specs.Cmp.Lexicographic.{bytes_decides}
@@ -43,7 +44,7 @@ check_found h key true (Some j) there free = (refl, inl (inr refl), (j, free), r
 check_found h key true None there free = record { asks = refl; waits = refl; there = there; free = free; says_is = refl }
 
 lock_found : (h : Here) (key : List ℕ) (locks here : Bool) (bar : Option ℕ) → h.locks ≡ locks → is_here h key ≡ here → bar_on h key ≡ bar
-    → SessionFound h Waits (Some (LockContent key)) (lock_answer h.number (now_of h + 600000) (by_of h) key locks here bar)
+    → SessionFound h Waits (Some (LockContent key)) (lock_answer h.number (now_of h + hold_time) (by_of h) key locks here bar)
 lock_found h key false here bar locks there free = (refl, refl, locks, refl)
 lock_found h key true false bar locks there free = (refl, inl (inl refl), there, inl refl)
 lock_found h key true true (Some j) locks there free = (refl, inl (inl refl), (j, free), refl)
@@ -88,7 +89,7 @@ request_found h v (CheckPresent key) =
 request_found h v (LockContent key) =
     let locks = h.locks in
     tries_found h Waits (Some (LockContent key)) (to_lock locks (is_here h key) (bar_on h key)) refuses
-    (lock_answer h.number (now_of h + 600000) (by_of h) key locks (is_here h key) (bar_on h key)) refused
+    (lock_answer h.number (now_of h + hold_time) (by_of h) key locks (is_here h key) (bar_on h key)) refused
     (lock_found h key locks (is_here h key) (bar_on h key) refl refl refl)
 request_found h v (Remove key) = on_remove_found h None key tt
 request_found h v (RemoveBefore n key) = with_version h (Some (RemoveBefore n key)) (nat_le 3 v) (on_remove_before h n key) (remove_before_found h n key)

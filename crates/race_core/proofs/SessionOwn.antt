@@ -16,8 +16,9 @@ use Rattle.run_model.specs.Past.{clock}
 use Rattle.p2p_wire.specs.declared.message.Message.{Message}
 use Rattle.p2p_wire.specs.declared.message.Message.TheVariants.{CheckPresent, LockContent, UnlockContent, Timestamp, Success}
 use Rattle.p2p_wire.specs.Messages.{order_of, message_of, text_of}
-use Rattle.run_model.specs.Said.{Said, Says, is_answer, is_request, message_in}
-use Rattle.run_model.specs.Frames.{Way, answers, down_of, is_on, on_way, says, taken_if, taker_of, up_of, way_from, way_of}
+use Rattle.run_model.specs.Said.{Said, Says, is_request, message_in}
+use Rattle.race_core.proofs.Ways.{is_answer, answers, down_of, way_from}
+use Rattle.run_model.specs.Frames.{Way, is_on, on_way, says, taken_if, taker_of, up_of, way_of}
 use Rattle.node_model.specs.SetUp.{SetUp, others, served, slots}
 use Rattle.node_model.specs.Ends.{End, EndName, end_sends, end_takes, frames, is_opening, sends_at, sent_at, server_end, takes_at}
 use Rattle.run_model.specs.States.{end_at, session, state_of}
@@ -42,7 +43,7 @@ use Rattle.race_core.proofs.SaidDown.{odd_answer, said_closing, said_is}
 use Rattle.race_core.proofs.InTurn.{AllRead, in_turn}
 use Rattle.race_core.proofs.TurnFits.{busy}
 use Rattle.race_core.proofs.SessionSays.{Agrees, FromServer, down_only, frame_agrees, frame_say, is_down, line_locks, line_looks, Short, frame_short, odd_message, odd_request, pieces_no, pieces_say, pieces_short, read_of}
-use Rattle.race_core.specs.Own.{AtMostOne, InTurn, MayRelease, MaySend}
+use Rattle.race_core.proofs.Own.{AtMostOne, InTurn, MayRelease, MaySend}
 
 -- ---- ways of frames and of ends
 

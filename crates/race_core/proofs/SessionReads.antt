@@ -1,4 +1,5 @@
 -- Each line that a session says is read: so the answers that it counts are those that its client reads.
+use Rattle.node_model.specs.Clocks.{hold_time}
 use Rattle.std.proofs.Common.{◌≡◌, ℕ, ◌+◌, ◌*◌, ◌/◌, ◌<◌, ◌≤◌, ◌^◌, Bool, true, false, List, [], ◌∷◌, length, Option, Some, None, inl, inr, refl, ap, ◌∙◌, subst, arith}
 use Rattle.std.specs.Prelude.{if◌then◌else◌, ◌==◌, ◌&&◌, bytes_eq, codes, min, nat_le, nat_lt}
 use Rattle.std.specs.Str.{chars, is_utf8}
@@ -109,8 +110,8 @@ module _ (s : SetUp) (past : List Entry) (h : OwnPast s past) (known : s.number 
 
   lock_ok : (key : List ℕ) → Read (on_lock spot key)
   lock_ok key = tries_read (to_lock (gives_locks s) (is_here spot key) (bar_on spot key)) refuses
-      (lock_answer ((state_of s past).made + 1) (now_of spot + 600000) (by_of spot) key (gives_locks s) (is_here spot key) (bar_on spot key)) refuses_read
-      (lock_read ((state_of s past).made + 1) (now_of spot + 600000) (by_of spot) key (gives_locks s) (is_here spot key) (bar_on spot key))
+      (lock_answer ((state_of s past).made + 1) (now_of spot + hold_time) (by_of spot) key (gives_locks s) (is_here spot key) (bar_on spot key)) refuses_read
+      (lock_read ((state_of s past).made + 1) (now_of spot + hold_time) (by_of spot) key (gives_locks s) (is_here spot key) (bar_on spot key))
 
   remove_ok : (key : List ℕ) → Read (on_remove spot key)
   remove_ok key = tries_read (to_remove (is_here spot key) (bar_on spot key) (is_held spot key)) refuses

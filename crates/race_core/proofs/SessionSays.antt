@@ -1,4 +1,5 @@
 -- What a session's entry says: lines of a server, SUCCESS alone and to a request that it answers.
+use Rattle.node_model.specs.Clocks.{hold_time}
 use Rattle.std.proofs.Common.{◌≡◌, ℕ, ◌+◌, Bool, true, false, List, [], ◌∷◌, Option, Some, None, ◌⊎◌, inl, inr, refl, sym, ap, ◌∙◌, subst}
 use Rattle.std.specs.Prelude.{codes}
 use Rattle.annex_base.specs.Lists.{Each, Member}
@@ -208,9 +209,9 @@ lock_agrees hold end by key true true None e = (hold, end, refl)
 
 message_locks : (h : Here) (v : ℕ) (doing : Doing) (key : List ℕ) → Locks (by_of h) key (on_message h v doing (LockContent key))
 message_locks h v Waits key e =
-    let good : Reply = lock_answer h.number (now_of h + 600000) (by_of h) key h.locks (is_here h key) (bar_on h key) in
+    let good : Reply = lock_answer h.number (now_of h + hold_time) (by_of h) key h.locks (is_here h key) (bar_on h key) in
     unless_found (Locks (by_of h) key) (failing h.fails (to_lock h.locks (is_here h key) (bar_on h key))) (λ call. record { kind = Fault call (by_of h); says = refuses }) good (λ call f. absurd (refused_no f))
-    (lock_agrees h.number (now_of h + 600000) (by_of h) key h.locks (is_here h key) (bar_on h key)) e
+    (lock_agrees h.number (now_of h + hold_time) (by_of h) key h.locks (is_here h key) (bar_on h key)) e
 message_locks h v (Guards hold k) key e = absurd (odd_alone (on_message h v (Guards hold k) (LockContent key)).says refl e)
 message_locks h v (Gives k at left good) key e = absurd (odd_alone (on_message h v (Gives k at left good) (LockContent key)).says refl e)
 message_locks h v Gave key e = absurd (odd_alone (on_message h v Gave (LockContent key)).says refl e)

@@ -34,7 +34,7 @@ use Rattle.node_model.specs.Jobs
 use Rattle.node_model.specs.Jobs.{AsksTime, Denied, Drops, Ends, Greets, Late, Next, Orders, Phase, PutsOffer, Work, partner, running, work_kind}
 use Rattle.node_model.specs.Look.{Made}
 use Rattle.node_model.specs.JobStep.{Turn, end_with}
-use Rattle.node_model.specs.Knows.{knows_enough, next_of}
+use Rattle.race_core.proofs.Knowing.{knows_enough, next_of}
 use Rattle.node_model.specs.Found.{JobKind}
 use Rattle.node_model.specs.Turns.{by_partner, takes_frame}
 use Rattle.run_model.specs.Run.{OwnPast, OwnRun}

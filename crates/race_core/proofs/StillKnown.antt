@@ -26,7 +26,8 @@ use Rattle.node_model.specs.State.{State}
 use Rattle.run_model.specs.States.{state_of, rows_at, works}
 use Rattle.node_model.specs.Jobs
 use Rattle.node_model.specs.Jobs.{AsksTime, Drops, Ends, Heard, Late, Next, Phase, Work, running, side_of, target_of}
-use Rattle.node_model.specs.Knows.{is_unasked, known, knows_enough, next_of, offer_by, standing_of, reading}
+use Rattle.node_model.specs.Knows.{is_unasked, offer_by, standing_of, reading}
+use Rattle.race_core.proofs.Knowing.{known, knows_enough, next_of}
 use Rattle.node_model.specs.JobStep.{Turn}
 use Rattle.node_model.specs.Found.{JobKind}
 use Rattle.run_model.specs.Run.{OwnPast, OwnRun}

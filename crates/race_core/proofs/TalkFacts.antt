@@ -1,4 +1,5 @@
 -- What a job's talk says, by the part of the job and by where it stands; and where a job stands that orders a removal.
+use Rattle.node_model.specs.Clocks.{hold_time}
 use Rattle.std.proofs.Common.{◌≡◌, ℕ, ◌+◌, ◌-◌, ◌/◌, ◌^◌, Bool, true, false, List, [], ◌∷◌, Option, Some, None, ◌⊎◌, inl, inr, refl, sym, ap, ◌∙◌, subst}
 use Rattle.std.specs.Prelude.{if◌then◌else◌, ◌==◌, ◌&&◌, not, min, nat_lt, nat_le, bytes_eq, codes}
 use Rattle.std.specs.List.{list_all}
@@ -172,7 +173,7 @@ shares_talks : (t : Turn) → t.w.phase ≡ Fresh → side_of t.w ≡ Remote →
 shares_talks t fresh side = attempts_talks t (to_hold (is_there t) (bar_there t)) None (made_of (is_there t) (bar_there t)) (go (is_there t) (bar_there t))
   where
     made_of : Bool → Option ℕ → Made
-    made_of here bar = quietly (own_share (t.number) (clock_of t + 600000) t.w.number (key_of t) (talk t) (by_me t) here bar) None
+    made_of here bar = quietly (own_share (t.number) (clock_of t + hold_time) t.w.number (key_of t) (talk t) (by_me t) here bar) None
 
     go : (here : Bool) (bar : Option ℕ) → Talks t (made_of here bar)
     go false bar = start_talks t fresh side

@@ -16,13 +16,14 @@ use Rattle.run_data.specs.declared.run.RepoView.{RepoView}
 use Rattle.run_model.specs.Past.{Always, Occurs, is_of}
 use Rattle.node_model.specs.Rows.{option_is}
 use Rattle.p2p_wire.specs.declared.message.Message.TheVariants.{CheckPresent, LockContent, Success}
-use Rattle.run_model.specs.Said.{Said, Says, message_in, is_request, is_answer}
-use Rattle.run_model.specs.Frames.{Way, Flying, MayTake, Sent, is_on, is_job, on_way, sender, sender_of, sent, sent_of, taker_of, taken, taken_if, takes, way_of, way_from, up_of, down_of, answers, last_request}
+use Rattle.run_model.specs.Said.{Said, Says, message_in, is_request}
+use Rattle.race_core.proofs.Ways.{is_answer, way_from, down_of, answers}
+use Rattle.run_model.specs.Frames.{Way, Flying, MayTake, Sent, is_on, is_job, on_way, sender, sender_of, sent, sent_of, taker_of, taken, taken_if, takes, way_of, up_of, last_request}
 use Rattle.node_model.specs.Slots.{job_of}
 use Rattle.node_model.specs.Ends.{same_bool}
 use Rattle.run_model.specs.Drops.{Asker, Vouch, Lock, Look, asked_at, asker, asker_by, asker_of, is_asker, newer, reply, tells, told_by, vouch, vouch_kind}
-use Rattle.race_core.specs.Heard.{Heard, Locked_at, Seen_there, heard, heard_answer, heard_frame, heard_kind, heard_request, hears, newer_heard}
-use Rattle.race_core.specs.Own.{Meets, MessagePast, Own, SaysYes, asks_copy, uses}
+use Rattle.race_core.proofs.Heard.{Heard, Locked_at, Seen_there, heard, heard_answer, heard_frame, heard_kind, heard_request, hears, newer_heard}
+use Rattle.race_core.proofs.Own.{Meets, MessagePast, Own, SaysYes, asks_copy, uses}
 use Rattle.std.specs.List.{list_any}
 use Rattle.race_core.proofs.Lists.{and_true, any-Member, both, eqb_refl, eqb_true, or_left, or_right, Member-filter}
 use Rattle.race_core.proofs.Flights.{Sending, occurs_always, occurs_earlier, sending, sent_from, some_inj}

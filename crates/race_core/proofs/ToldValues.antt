@@ -501,7 +501,7 @@ module _ (s : SetUp) (past : List Entry) (words : ℕ → Option Word) (e : Entr
       }
         where
           last : LastIs z.by.w.what.key z.by.w.what.peer z.by.w.phase k.peer (option_map asked_by (last_request past (up_of (way_of rr z.f))))
-          last = taken_last s past h e z.f down (ap Rattle.run_model.specs.Said.is_answer (said_is z.f.body Failure z.told)) k (option_map asked_by (last_request past (up_of (way_of rr z.f)))) refl
+          last = taken_last s past h e z.f down (ap Rattle.race_core.proofs.Ways.is_answer (said_is z.f.body Failure z.told)) k (option_map asked_by (last_request past (up_of (way_of rr z.f)))) refl
 
           looked : (time : ℕ) × (option_map asked_by (last_request past (up_of (way_of rr z.f))) ≡ Some (request time (Some (CheckPresent z.by.w.what.key))))
           looked = subst (λ (q : Phase). LastIs z.by.w.what.key z.by.w.what.peer q k.peer (option_map asked_by (last_request past (up_of (way_of rr z.f))))) z.phase last (sym peer_is ∙ taken_peer s past e z.f k)

@@ -8,7 +8,8 @@ use Rattle.run_data.specs.declared.entry.FrameText.TheVariants.{Opening, Closing
 use Rattle.p2p_wire.specs.declared.message.Message.{Message}
 use Rattle.p2p_wire.specs.declared.message.Message.TheVariants.{AuthSuccess, Version, CheckPresent, LockContent, UnlockContent, Remove, RemoveBefore, GetTimestamp, Timestamp, Get, Put, PutFrom, AlreadyHave, Data, Valid, Invalid, Success, Failure, Error}
 use Rattle.p2p_wire.specs.Messages.{message_of, text_of}
-use Rattle.run_model.specs.Said.{completes, is_answer, is_request, message_in, said_line, wants_answer}
+use Rattle.race_core.proofs.Ways.{completes, is_answer}
+use Rattle.run_model.specs.Said.{is_request, message_in, said_line, wants_answer}
 use Rattle.node_model.specs.Ends.{End, EndName, frames}
 use Rattle.node_model.specs.Sessions.{Doing, Waits, Guards, Gives, Gave, Wants, Takes, Took, Session, doing_after, gave_bytes, gives, guards, reaches, said, sent_more, session_took, took_bytes, took_message, takes_more, wanted, wants}
 use Rattle.node_model.specs.SessionStep.{Here, on_frame, on_message, on_text}

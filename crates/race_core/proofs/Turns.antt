@@ -5,9 +5,10 @@ use Rattle.std.specs.Prelude.{filter, map, slice_get, if◌then◌else◌}
 use Rattle.run_data.specs.declared.entry.Entry.{Entry}
 use Rattle.run_data.specs.declared.entry.FrameView.{FrameView}
 use Rattle.run_model.specs.Past.{Always, Occurs, is_of}
-use Rattle.run_model.specs.Said.{Said, message_in, is_request, is_answer}
-use Rattle.run_model.specs.Frames.{Way, Flying, MayTake, flying, is_on, on_way, sender_of, taker_of, sent, sent_if, says, taken, taken_if, up_of, requests, answers, last_of, last_request}
-use Rattle.race_core.specs.Own.{AtMostOne}
+use Rattle.run_model.specs.Said.{Said, message_in, is_request}
+use Rattle.race_core.proofs.Ways.{is_answer, answers}
+use Rattle.run_model.specs.Frames.{Way, Flying, MayTake, flying, is_on, on_way, sender_of, taker_of, sent, sent_if, says, taken, taken_if, up_of, requests, last_of, last_request}
+use Rattle.race_core.proofs.Own.{AtMostOne}
 use Rattle.race_core.proofs.Flights.{some_inj, get_none, sending, always_before}
 use Rattle.race_core.proofs.Plain.{get_left}
 

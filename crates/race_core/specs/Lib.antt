@@ -1,8 +1,6 @@
 pub mod Lawful
-pub mod Heard
-pub mod Own
 pub mod Places
 pub mod Readings
 pub mod Removals
-pub mod Locks
+pub mod Items
 pub mod Merged

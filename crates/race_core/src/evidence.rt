@@ -4,13 +4,13 @@ ghost use Rattle.std.specs.Prelude.{◌≡◌, ◌≢◌, ℕ, ◌+◌, ◌<◌,
 ghost use Rattle.annex_base.specs.Lists.{Member};
 ghost use Rattle.drop_proof.specs.Judging.{is_full};
 ghost use Rattle.drop_proof.specs.declared.evidence.Evidence.{Evidence};
-ghost use Rattle.drop_proof.specs.declared.evidence.Kind.TheVariants.{Locked};
+ghost use Rattle.drop_proof.specs.declared.evidence.Kind.TheVariants.{Locked, Recent};
 ghost use Rattle.run_data.specs.declared.entry.Entry.{Entry};
 ghost use Rattle.run_data.specs.declared.run.Run.{Run};
 ghost use Rattle.run_model.specs.Past.{is_of};
 ghost use Rattle.run_model.specs.Safety.{Removal};
 ghost use Rattle.run_model.specs.Run.{IsRun};
-ghost use Rattle.race_core.specs.Locks.{IsHeld};
+ghost use Rattle.race_core.specs.Items.{IsHeld, WasSeen};
 ghost use Rattle.race_core.specs.Places.{count_at, removal_at};
 ghost use Rattle.race_core.specs.Readings.{Judge, judge_at};
 
@@ -39,6 +39,15 @@ pub fn removals_leave_as_many()
         → IsRun run → slice_get run.entries place ≡ Some e → removal_at run key place e ≡ Some x
         → ((item : Evidence) → Member item x.items → is_full item ≡ true)
         → max x.need.n x.need.m ≤ count_at run key (place + 1) }
+{}
+
+/// A recent item of a removal was seen: its repository looked after the drop had asked it, found the content present and
+/// without a bar, and the drop took what it said (git-annex P2P protocol, CHECKPRESENT).
+pub fn recent_items_were_seen()
+    ensures { (run : Run) (key : List ℕ) (place : ℕ) (e : Entry) (x : Removal) (judge : Judge) (item : Evidence)
+        → IsRun run → slice_get run.entries place ≡ Some e → removal_at run key place e ≡ Some x
+        → judge_at run place e ≡ Some judge → Member item x.items → item.kind ≡ Recent
+        → WasSeen judge item.repo key }
 {}
 
 /// A locked item of a removal ends ten minutes after its drop asked for the lock, on the clock of the repository that judged.

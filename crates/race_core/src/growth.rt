@@ -1,6 +1,6 @@
 //! The laws by which runs grow: entry by entry, or by the histories that their repositories kept alone.
 
-ghost use Rattle.std.specs.Prelude.{◌≡◌, ℕ, ◌<◌, ◌≤◌, List, [], ◌∷◌, ◌++◌, Option, Some, None, filter, length, reverse};
+ghost use Rattle.std.specs.Prelude.{◌≡◌, ℕ, ◌<◌, ◌≤◌, List, [], ◌∷◌, ◌++◌, Option, Some, None, filter, length, reverse, take};
 ghost use Rattle.annex_base.specs.Lists.{Each};
 ghost use Rattle.annex_base.specs.declared.kinds.Word.{Word};
 ghost use Rattle.run_data.specs.declared.entry.Entry.{Entry};
@@ -14,7 +14,7 @@ ghost use Rattle.run_model.specs.Run.{FramesPart, IsRun, OnlyWaits, Ordered, Own
 
 /// A run begins without entries, its repositories set up within their bounds. It stays a run by each entry that may come next:
 /// a turn of a repository, as its own history and the frames on their way allow, or a wait; by each change of the tree at
-/// its end; and by the end of a command.
+/// its end; and by the end of a command. And so each start of a run is a run.
 pub fn runs_grow()
     ensures first { (run : Run) → Each IsSetUp run.repos → run.entries ≡ [] → IsRun run }
     ensures entry { (run : Run) (e : Entry) → IsRun run → RunStep (set_up run) (reverse run.entries) e
@@ -27,6 +27,8 @@ pub fn runs_grow()
     ensures tree { (run : Run) (m : TreeMark) → length run.entries ≤ m.place → IsRun run
         → IsRun (record run { tree = run.tree ++ m ∷ [] }) }
     ensures command { (run : Run) (marks : List ℕ) → IsRun run → IsRun (record run { marks = marks }) }
+    ensures start { (run : Run) (place : ℕ) → place ≤ length run.entries → IsRun run
+        → IsRun (record run { entries = take place run.entries }) }
 {}
 
 /// What repositories added each alone, behind a run, and merged in order of time, count and number, is a run: where each

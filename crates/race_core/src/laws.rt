@@ -6,7 +6,7 @@ ghost use Rattle.drop_proof.specs.declared.evidence.Evidence.{Evidence};
 ghost use Rattle.run_data.specs.declared.entry.Entry.{Entry};
 ghost use Rattle.run_data.specs.declared.run.Run.{Run};
 ghost use Rattle.run_model.specs.Causes.{HasCauses};
-ghost use Rattle.run_model.specs.Logs.{ever, kept, need_read, settings_of};
+ghost use Rattle.run_model.specs.Logs.{ever, kept, need_read, read_at, settings_of};
 ghost use Rattle.node_model.specs.Evidence.{is_locked, is_trusted};
 ghost use Rattle.annex_base.specs.Lists.{Member};
 ghost use Rattle.run_model.specs.Past.{present};
@@ -14,7 +14,7 @@ ghost use Rattle.run_model.specs.Safety.{IsSafe, Removal, least_need, past_at, w
 ghost use Rattle.run_model.specs.Run.{IsRun};
 ghost use Rattle.race_core.specs.Lawful.{IsLawful};
 ghost use Rattle.race_core.specs.Places.{claim_at, count_at, removal_at, removals_at};
-ghost use Rattle.race_core.specs.Readings.{IsLocalRemoval, Judge, claim_read, judge_at, key_read, level_read};
+ghost use Rattle.race_core.specs.Readings.{IsFirstStep, IsLocalRemoval, Judge, claim_read, judge_at, key_read, level_read};
 ghost use Rattle.trust_groups.specs.Settings.{settings};
 
 /// Each run is lawful: every entry finds what it has to.
@@ -86,6 +86,10 @@ pub fn ignored_never_count()
 /// removes on: of a removal by an order, the logs of the repository that sent it. The removal is of the key of the drop's
 /// job, as it stood then (git-annex-numcopies, git-annex-mincopies).
 pub fn drops_read_their_need()
+    ensures first { (run : Run) (key : List ℕ) (place : ℕ) (e : Entry) (x : Removal) (judge : Judge)
+        → IsRun run → slice_get run.entries place ≡ Some e → removal_at run key place e ≡ Some x
+        → judge_at run place e ≡ Some judge
+        → (first : ℕ) × IsFirstStep run judge.repo judge.job first × (read_at judge.past judge.repo judge.job ≡ past_at run first) }
     ensures judged { (run : Run) (key : List ℕ) (place : ℕ) (e : Entry) (x : Removal) (judge : Judge)
         → IsRun run → slice_get run.entries place ≡ Some e → removal_at run key place e ≡ Some x
         → judge_at run place e ≡ Some judge → x.need ≡ need_read judge.past judge.repo judge.job }

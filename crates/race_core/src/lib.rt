@@ -19,7 +19,8 @@ pub use drops::{
 };
 pub use entries::copies;
 pub use evidence::{
-    evidence_is_of_other_repositories, locked_items_are_held, removals_leave_as_many,
+    evidence_is_of_other_repositories, locked_items_are_held, recent_items_were_seen,
+    removals_leave_as_many,
 };
 pub use growth::{histories_of_nodes_are_runs, merged_histories_are_runs, runs_grow};
 pub use laws::{

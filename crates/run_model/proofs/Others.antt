@@ -1,8 +1,7 @@
 -- An entry of another repository changes nothing of a repository's state.
-use Rattle.std.proofs.Common.{◌≡◌, ℕ, Bool, true, false, List, ◌∷◌, Option, Some, None, refl, ap, ◌∙◌}
-use Rattle.std.specs.Prelude.{◌||◌, ◌&&◌, if◌then◌else◌}
+use Rattle.std.proofs.Common.{◌≡◌, ℕ, Bool, false, List, ◌∷◌, Option, Some, None, refl, ap, ◌∙◌}
+use Rattle.std.specs.Prelude.{◌&&◌, if◌then◌else◌}
 use Rattle.std.specs.Option.{unwrap_or}
-use Rattle.annex_base.specs.Settings.{Settings}
 use Rattle.union_merge.specs.Branch.{Files, lines_at}
 use Rattle.trust_groups.specs.Settings.{settings}
 use Rattle.run_data.specs.declared.entry.Entry.{Entry}
@@ -10,10 +9,9 @@ use Rattle.run_data.specs.declared.run.RepoView.{RepoView}
 use Rattle.node_model.specs.Clocks.{runs_on}
 use Rattle.node_model.specs.Look.{first_of}
 use Rattle.node_model.specs.SetUp.{SetUp}
-use Rattle.node_model.specs.Slots.{is_begin}
-use Rattle.run_model.specs.Past.{bar, begun, clock_set, holds, is_of, made, present}
+use Rattle.run_model.specs.Past.{begun, clock_set, holds, is_of, made}
 use Rattle.run_model.specs.Logs.{before_step, branch, ever, in_drop, is_step, read_at, settings_of}
-use Rattle.run_model.specs.States.{content, end_at, owes, session, state_of, works}
+use Rattle.run_model.specs.States.{owes, state_of, works}
 
 -- functions that agree everywhere are one
 funext : {X Y : Type 0} (f g : X → Y) → ((x : X) → f x ≡ g x) → f ≡ g

@@ -14,7 +14,6 @@ use Rattle.run_data.specs.declared.entry.EntryKind.{EntryKind}
 use Rattle.run_data.specs.declared.entry.EntryKind.TheVariants.{Share, Check, Close, Talk, End, Fault as fault_entry}
 use Rattle.run_data.specs.declared.job.Cause.{Cause}
 use Rattle.run_data.specs.declared.job.Cause.TheVariants.{Absent, Barred, Closed, Fault}
-use Rattle.run_data.specs.declared.job.CandidateCause.{CandidateCause}
 use Rattle.run_data.specs.declared.job.Job.{Job}
 use Rattle.run_data.specs.declared.run.RepoView.{RepoView}
 use Rattle.run_data.specs.Repos.{id_of}
@@ -27,7 +26,7 @@ use Rattle.run_model.specs.Said.{Said, Says, CloseIt, is_close, message_in}
 use Rattle.run_model.specs.Frames.{Sent, is_job, last_request, said_of, sender, up_of, way_of}
 use Rattle.run_model.specs.Logs.{before_step, in_drop, is_step, read_at, settings_of}
 use Rattle.node_model.specs.Look.{first_of}
-use Rattle.node_model.specs.Evidence.{Standing, Claimed, Ignored, Asked, standing_by, Offer, Gives, Fails, gather, candidates, reached, failures}
+use Rattle.node_model.specs.Evidence.{Standing, Claimed, Ignored, Asked, standing_by, Offer, Gives, Fails, gather, candidates, reached}
 use Rattle.node_model.specs.Clocks.{hold_time}
 
 -- ---- what a repository says of its copy
@@ -240,10 +239,6 @@ cause_by Asked told = or_fault told
 -- why a candidate gave job j of a nothing
 abbrev pub why : List RepoView → List Entry → ℕ → ℕ → ℕ → Cause
 why repos past a j r = cause_by (standing repos past a j r) (told_cause past a j r)
-
--- the causes of job j of a, a drop from the target, for which no candidate is left
-abbrev pub causes : Side → List RepoView → List Entry → ℕ → ℕ → ℕ → List CandidateCause
-causes side repos past a j target = failures (asked repos past a j) (why repos past a j) (candidates side (length repos) a target)
 
 -- the job's end, other than after a lost order, is among the entries
 abbrev pub done_kind : ℕ → EntryKind → Bool

@@ -5,7 +5,7 @@ use Rattle.run_data.specs.declared.entry.Entry.{Entry}
 use Rattle.run_data.specs.declared.entry.FrameView.{FrameView}
 use Rattle.run_model.specs.Past.{is_of}
 use Rattle.node_model.specs.Rows.{option_is}
-use Rattle.run_model.specs.Said.{Said, message_in, is_request, is_answer}
+use Rattle.run_model.specs.Said.{Said, message_in, is_request}
 use Rattle.node_model.specs.Ends.{same_bool}
 use Rattle.node_model.specs.Slots.{job_of}
 
@@ -20,9 +20,6 @@ pub record Way : Type 0 where
 abbrev pub up_of : Way → Way
 up_of w = record w { up = true }
 
-abbrev pub down_of : Way → Way
-down_of w = record w { up = false }
-
 abbrev pub sender_of : Way → ℕ
 sender_of w = if w.up then w.client else w.server
 
@@ -32,10 +29,6 @@ taker_of w = if w.up then w.server else w.client
 -- the way of a frame that r takes
 abbrev pub way_of : ℕ → FrameView → Way
 way_of r f = record { client = if f.up then f.peer else r; server = if f.up then r else f.peer; slot = f.slot; up = f.up; epoch = f.epoch }
-
--- the way of a frame that r sends
-abbrev pub way_from : ℕ → FrameView → Way
-way_from r g = record { client = if g.up then r else g.peer; server = if g.up then g.peer else r; slot = g.slot; up = g.up; epoch = g.epoch }
 
 -- the frame, listed with this peer, is on the way
 abbrev pub is_on : Way → ℕ → FrameView → Bool
@@ -117,9 +110,6 @@ taken_if q (e ∷ past) w = if is_of (taker_of w) e && takes_if q w e.taken then
 
 abbrev pub requests : List Entry → Way → List Flying
 requests past w = sent_if is_request past w
-
-abbrev pub answers : List Entry → Way → List Flying
-answers past w = sent_if is_answer past w
 
 abbrev pub last_of : {X : Type 0} → List X → Option X
 last_of [] = None

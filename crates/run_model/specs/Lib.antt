@@ -7,5 +7,4 @@ pub mod Safety
 pub mod States
 pub mod Words
 pub mod Run
-pub mod Answers
 pub mod Causes

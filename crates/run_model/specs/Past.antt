@@ -1,7 +1,7 @@
 -- What the entries so far say of each repository (own). A past is the entries before some place, the newest first,
 -- so each definition here is a recursion on it: what an entry changes, and else what was before. Only the entries
 -- of a repository change what is said of it.
-use Rattle.std.specs.Prelude.{◌≡◌, ◌⊎◌, ℕ, ◌+◌, ◌-◌, Bool, false, not, ◌&&◌, if◌then◌else◌, ◌==◌, List, [], ◌∷◌, length, filter, Option, Some, None, bytes_eq}
+use Rattle.std.specs.Prelude.{◌≡◌, ◌⊎◌, ℕ, ◌+◌, Bool, false, not, ◌&&◌, if◌then◌else◌, ◌==◌, List, [], ◌∷◌, length, filter, Option, Some, None}
 use Rattle.std.specs.List.{list_any}
 use Rattle.run_data.specs.declared.entry.Entry.{Entry}
 use Rattle.run_data.specs.declared.run.RepoView.{RepoView}
@@ -66,16 +66,6 @@ bar (e ∷ past) r key = if is_of r e then bar_after key (bar past r key) e.kind
 abbrev pub holds : List Entry → ℕ → List Hold
 holds [] r = []
 holds (e ∷ past) r = if is_of r e then holds_after (holds past r) e.kind else holds past r
-
--- a row: whether the content is there, the job whose bar stands, and the holds
-pub record Row : Type 0 where
-  pub present : Bool
-  pub bar : Option ℕ
-  pub holds : List Hold
-
--- the row of a repository and a key
-abbrev pub row : List Entry → ℕ → List ℕ → Row
-row past r key = record { present = present past r key; bar = bar past r key; holds = filter (λ h. bytes_eq h.key key) (holds past r) }
 
 -- ---- jobs
 

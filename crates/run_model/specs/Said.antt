@@ -1,9 +1,9 @@
 -- What a frame says, as far as it matters in the counts of requests and answers (P2P protocol).
-use Rattle.std.specs.Prelude.{Bool, true, false, Option, Some, None, bytes_eq, codes}
+use Rattle.std.specs.Prelude.{Bool, true, false, Option, Some, None}
 use Rattle.run_data.specs.declared.entry.FrameText.{FrameText}
 use Rattle.run_data.specs.declared.entry.FrameText.TheVariants.{Opening, Closing, Bytes, Line}
 use Rattle.p2p_wire.specs.declared.message.Message.{Message}
-use Rattle.p2p_wire.specs.declared.message.Message.TheVariants.{AuthSuccess, Version, CheckPresent, LockContent, Remove, RemoveBefore, GetTimestamp, Timestamp, Get, Put, PutFrom, AlreadyHave, Valid, Invalid, Success, Failure, Error}
+use Rattle.p2p_wire.specs.declared.message.Message.TheVariants.{Version, CheckPresent, LockContent, Remove, RemoveBefore, GetTimestamp, Get, Put, Valid, Invalid}
 use Rattle.p2p_wire.specs.Messages.{message_of}
 
 -- a connection opens or closes, a piece of bytes comes, a message, or a line that is none
@@ -46,21 +46,3 @@ abbrev pub is_request : Said → Bool
 is_request OpenIt = true
 is_request (Says m) = wants_answer m
 is_request _ = false
-
--- a server's message that completes an answer. An unexpected message has no answer: what is sent then closes the connection
-abbrev pub completes : Message → Bool
-completes (AuthSuccess id) = true
-completes (Version n) = true
-completes (Timestamp seconds) = true
-completes (PutFrom n) = true
-completes AlreadyHave = true
-completes Valid = true
-completes Invalid = true
-completes Success = true
-completes Failure = true
-completes (Error text) = bytes_eq text (codes "busy")
-completes _ = false
-
-abbrev pub is_answer : Said → Bool
-is_answer (Says m) = completes m
-is_answer _ = false

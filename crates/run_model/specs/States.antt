@@ -1,6 +1,6 @@
 -- The state of a repository after the entries so far: each part is a function of the repository's own entries; and the step
 -- that it makes next.
-use Rattle.std.specs.Prelude.{ℕ, if◌then◌else◌, List, [], ◌∷◌, Option, None, ◌-◌}
+use Rattle.std.specs.Prelude.{ℕ, if◌then◌else◌, List, [], ◌∷◌, Option, None}
 use Rattle.run_data.specs.declared.entry.Entry.{Entry}
 use Rattle.run_model.specs.Past.{is_of, bar, present, begun, clock, holds, made}
 use Rattle.node_model.specs.Ends.{EndName, taken_at, sent_at, End, end_after, never}
@@ -11,7 +11,7 @@ use Rattle.node_model.specs.Clocks.{wall}
 use Rattle.run_model.specs.Logs.{kept, read_at, settings_of}
 use Rattle.node_model.specs.Jobs.{Work, Rows, works_after}
 use Rattle.node_model.specs.SetUp.{SetUp}
-use Rattle.node_model.specs.Owed.{Owed, owed, owed_after}
+use Rattle.node_model.specs.Owed.{Owed, owed_after}
 use Rattle.node_model.specs.State.{State}
 
 -- how an end of r stands

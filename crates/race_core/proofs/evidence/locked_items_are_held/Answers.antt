@@ -1,4 +1,4 @@
-use Rattle.race_core.proofs.LockEnds.{item_held}
+use Rattle.race_core.proofs.ItemSources.{item_held}
 use Rattle.race_core.proofs.evidence.locked_items_are_held.Goals as goal
 
 pub returns : goal.returns

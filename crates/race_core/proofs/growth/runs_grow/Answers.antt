@@ -1,5 +1,5 @@
 use Rattle.race_core.proofs.RunsGrow.{command_done, mark_added, own_turn_added, turn_added, wait_added}
-use Rattle.race_core.proofs.RunsBegin.{begins}
+use Rattle.race_core.proofs.RunStarts.{begins, start_is_run}
 use Rattle.race_core.proofs.growth.runs_grow.Goals as goal
 
 pub returns-clause-first : goal.returns-clause-first
@@ -19,3 +19,6 @@ returns-clause-tree c = mark_added
 
 pub returns-clause-command : goal.returns-clause-command
 returns-clause-command c = command_done
+
+pub returns-clause-start : goal.returns-clause-start
+returns-clause-start c = start_is_run

@@ -9,7 +9,8 @@ use Rattle.p2p_wire.specs.declared.message.Message.{Message}
 use Rattle.p2p_wire.specs.declared.message.Message.TheVariants.{Success}
 use Rattle.p2p_wire.specs.Messages.{order_of}
 use Rattle.node_model.specs.Sessions.{line_in}
-use Rattle.run_model.specs.Frames.{down_of, way_from, way_of}
+use Rattle.race_core.proofs.Ways.{down_of, way_from}
+use Rattle.run_model.specs.Frames.{way_of}
 use Rattle.annex_base.specs.Lists.{Member}
 use Rattle.drop_proof.specs.declared.rule.Need.{Need}
 use Rattle.drop_proof.specs.declared.rule.Side.TheVariants.{Local}
@@ -17,7 +18,8 @@ use Rattle.drop_proof.specs.Judging.{least_end}
 use Rattle.node_model.specs.SetUp.{SetUp}
 use Rattle.node_model.specs.Jobs.{Work, Drops, Fresh, Next, side_of}
 use Rattle.run_model.specs.States.{works, state_of}
-use Rattle.node_model.specs.Knows.{known, knows_enough, need_of}
+use Rattle.race_core.proofs.Knowing.{known, knows_enough}
+use Rattle.node_model.specs.Knows.{need_of}
 use Rattle.node_model.specs.Clocks.{hold_time}
 
 -- the content is there, and no bar stands on it

@@ -28,13 +28,14 @@ use Rattle.run_model.specs.Past.{Always, Decision, Occurs, bar, begun_job, clock
 use Rattle.node_model.specs.Rows.{is_blocked, is_lost_ordered}
 use Rattle.p2p_wire.specs.declared.message.Message.TheVariants.{CheckPresent, LockContent, UnlockContent, Timestamp, Success}
 use Rattle.p2p_wire.specs.Messages.{order_of}
-use Rattle.run_model.specs.Said.{Said, Says, is_answer, is_request, message_in}
-use Rattle.run_model.specs.Frames.{MayTake, Way, answers, down_of, is_job, is_on, on_way, requests, says, taken_if, takes, up_of, way_from, way_of}
+use Rattle.run_model.specs.Said.{Said, Says, is_request, message_in}
+use Rattle.race_core.proofs.Ways.{is_answer, answers, down_of, way_from}
+use Rattle.run_model.specs.Frames.{MayTake, Way, is_job, is_on, on_way, requests, says, taken_if, takes, up_of, way_of}
 use Rattle.node_model.specs.Slots.{job_of}
 use Rattle.run_model.specs.Logs.{in_drop, need_read}
 use Rattle.run_model.specs.Drops.{done, key_in}
 use Rattle.race_core.specs.Lawful.{Free}
-use Rattle.race_core.specs.Heard.{Heard, heard, heard_key, known_evidence}
+use Rattle.race_core.proofs.Heard.{Heard, heard, heard_key, known_evidence}
 
 abbrev pub AtMostOne : {X : Type 0} → List X → Type 0
 AtMostOne [] = Unit {0}
