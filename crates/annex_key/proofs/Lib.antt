@@ -11,3 +11,5 @@ pub mod FileLemmas
 pub mod ChunkLemmas
 pub mod TreeLemmas
 pub mod TreeLaws
+pub mod IndexLemmas
+pub mod IndexedLemmas

@@ -18,7 +18,8 @@ use Rattle.std.proofs.lemmas.Map.Text.{is_eq-slice_cmp}
 use Rattle.std.proofs.lemmas.Slice.Eq.{bytes_eq-Decides}
 use Rattle.annex_base.specs.ByteOrder.{text_cmp}
 use Rattle.annex_key.specs.Tree.{Entries, with_key, key_of, paths_of, each_once, distinct_keys}
-use Rattle.annex_key.specs.TreeView.{seen, path_cmp}
+use Rattle.annex_base.specs.ByteOrder.{path_cmp}
+use Rattle.annex_key.specs.TreeView.{seen}
 use Rattle.annex_key.proofs.TreeLemmas.{Row}
 
 -- ---- elements

@@ -15,7 +15,8 @@ use Rattle.std.specs.Str.{bytes_eq}
 use Rattle.indexmap.specs.IndexSet.{insert_key}
 use Rattle.annex_base.specs.ByteOrder.{text_cmp}
 use Rattle.annex_key.specs.Tree.{with_key, key_of, each_once, distinct_keys}
-use Rattle.annex_key.specs.TreeView.{seen, path_cmp}
+use Rattle.annex_base.specs.ByteOrder.{path_cmp}
+use Rattle.annex_key.specs.TreeView.{seen}
 
 abbrev pub Row : Type 0
 Row = Vec ℕ Global × List ℕ
