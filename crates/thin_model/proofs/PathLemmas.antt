@@ -4,7 +4,7 @@ use Rattle.std.specs.List.{list_all}
 use Rattle.std.specs.Fmt.{decimal}
 use Rattle.std.specs.Str.{bytes_eq}
 use Rattle.std.specs.Str.Parse.{digits_value}
-use Rattle.std.proofs.lemmas.Bool.{cases_Bool}
+use Rattle.std.proofs.lemmas.Bool.{cases_Bool, and_parts}
 use Rattle.std.proofs.lemmas.Bool.Decides.{eqb_tells, nat_tests}
 use Rattle.std.proofs.lemmas.Fmt.{digits_decimal}
 use Rattle.std.proofs.lemmas.List.{take-append-drop}
@@ -16,7 +16,6 @@ use Rattle.annex_base.specs.Lists.{Member}
 use Rattle.annex_key.specs.KeyText.{is_backend, is_backend_byte, is_upper, field_text, chunk_text, size_letter, mtime_letter, chunk_size_letter, chunk_letter, dash, IsKeyText}
 use Rattle.annex_key.specs.KeyFile.{ampersand, percent, colon, slash, escaped, file_text}
 use Rattle.annex_key.specs.View.{unchunked_text}
-use Rattle.annex_key.proofs.Steps.{both_true, list_all_weaker}
 use Rattle.log_lines.specs.declared.entry.LogKind.{LogKind}
 use Rattle.log_lines.specs.declared.entry.LogKind.TheVariants as kinds
 use Rattle.log_lines.proofs.WordLemmas.{all_append, append_all}
@@ -26,6 +25,7 @@ use Rattle.hash_dirs.specs.LogPath.{location_path}
 use Rattle.trust_groups.specs.Settings.{file_name}
 use Rattle.run_data.specs.declared.entry.LogFile.{LogFile}
 use Rattle.run_data.specs.declared.entry.LogFile.TheVariants.{Location, Named}
+use Rattle.annex_base.proofs.Lists.{list_all_weaker}
 use Rattle.thin_model.specs.Logs.{kind_of, kind_named, named_kinds}
 use Rattle.thin_model.specs.Branches.{HasPath}
 
@@ -46,8 +46,8 @@ one_line_by_members (x ∷ xs) none = elim (eqb_tells x 10) [
 
 no_newline : (xs : List ℕ) → IsOneLine xs → Member newline xs → ⊥
 no_newline [] all among = among
-no_newline (x ∷ xs) all (inl is) = true≢false (sym (both_true (not_newline x) (list_all not_newline xs) all).0 ∙ ap not_newline (sym is))
-no_newline (x ∷ xs) all (inr among) = no_newline xs (both_true (not_newline x) (list_all not_newline xs) all).1 among
+no_newline (x ∷ xs) all (inl is) = true≢false (sym (and_parts (not_newline x) (list_all not_newline xs) all).0 ∙ ap not_newline (sym is))
+no_newline (x ∷ xs) all (inr among) = no_newline xs (and_parts (not_newline x) (list_all not_newline xs) all).1 among
 
 one_line-take : (n : ℕ) (xs : List ℕ) → IsOneLine xs → IsOneLine (take n xs) × IsOneLine (drop n xs)
 one_line-take n xs all = append_all not_newline (take n xs) (drop n xs) (subst IsOneLine (sym (take-append-drop n xs)) all)
@@ -77,8 +77,8 @@ upper_is_backend_byte b is = rw is refl
 backend_one_line : (backend : List ℕ) → is_backend backend ≡ true → IsOneLine backend
 backend_one_line [] is = refl
 backend_one_line (b ∷ bs) is =
-    let outer = both_true (is_upper b && list_all is_backend_byte bs) _ is in
-    let inner = both_true (is_upper b) (list_all is_backend_byte bs) outer.0 in
+    let outer = and_parts (is_upper b && list_all is_backend_byte bs) _ is in
+    let inner = and_parts (is_upper b) (list_all is_backend_byte bs) outer.0 in
     rw (backend_byte_not_newline b (upper_is_backend_byte b inner.0)) (list_all_weaker is_backend_byte not_newline backend_byte_not_newline bs inner.1)
 
 field_one_line : (letter : ℕ) (o : Option ℕ) → not_newline letter ≡ true → IfSome o (λ n. n < 2 ^ 64) → IsOneLine (field_text letter o)
@@ -127,13 +127,13 @@ escaped_one_line b is =
 file_one_line : (text : List ℕ) → IsOneLine text → IsOneLine (file_text text)
 file_one_line [] all = refl
 file_one_line (b ∷ bs) all =
-    let both = both_true (not_newline b) (list_all not_newline bs) all in
+    let both = and_parts (not_newline b) (list_all not_newline bs) all in
     all_append not_newline (escaped b) (file_text bs) (escaped_one_line b both.0) (file_one_line bs both.1)
 
 index_passes : (p : ℕ → Bool) (xs : List ℕ) (n : ℕ) → list_all p xs ≡ true → p 0 ≡ true → p (slice_index xs n) ≡ true
 index_passes p [] n all none = none
-index_passes p (x ∷ xs) zero all none = (both_true (p x) (list_all p xs) all).0
-index_passes p (x ∷ xs) (suc n) all none = index_passes p xs n (both_true (p x) (list_all p xs) all).1 none
+index_passes p (x ∷ xs) zero all none = (and_parts (p x) (list_all p xs) all).0
+index_passes p (x ∷ xs) (suc n) all none = index_passes p xs n (and_parts (p x) (list_all p xs) all).1 none
 
 digits_one_line : (bytes : List ℕ) → IsOneLine (encode_with lower_digits bytes)
 unfolding encode_with
