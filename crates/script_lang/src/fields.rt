@@ -7,6 +7,7 @@ ghost use Rattle.script_lang.specs.Reading.{Found, Finds};
 
 use annex_base::{Level, NoMemory, Text, parse_decimal};
 use annex_key::{Key, KeyFault};
+use log_lines::LogKind;
 use run_data::LogFile;
 use std::alloc::Global;
 
@@ -140,11 +141,11 @@ pub fn read_level(word: &[u8]) -> Option<Level>
 fn is_log_file_name(word: &[u8]) -> bool
     ensures { result ≡ is_log_name word.now }
 {
-    is_word(word, b"trust.log")
-        || is_word(word, b"uuid.log")
-        || is_word(word, b"group.log")
-        || is_word(word, b"numcopies.log")
-        || is_word(word, b"mincopies.log")
+    is_word(word, LogKind::Trust.file_name())
+        || is_word(word, LogKind::Uuid.file_name())
+        || is_word(word, LogKind::Group.file_name())
+        || is_word(word, LogKind::Numcopies.file_name())
+        || is_word(word, LogKind::Mincopies.file_name())
 }
 
 /// The log file that the word names.

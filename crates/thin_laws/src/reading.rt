@@ -23,7 +23,7 @@ use log_lines::{LogKind, Topic, Value, newest_of};
 use run_data::{By, Entry, EntryKind, RepoView};
 use std::alloc::Global;
 use thin_model::file_path;
-use trust_groups::{file_name, location_path};
+use trust_groups::location_path;
 
 /// How the logs see a repository: as trusted and claimed to have the job's key, as untrusted or dead, or as one that is to
 /// be asked.
@@ -55,7 +55,7 @@ impl Reading {
     {
         let known = before_first_step(entries, repo, job);
         let path = log_path(alloc, begun_key(known, repo, job))?;
-        let trust = added(alloc, known, repo, file_name(LogKind::Trust))?;
+        let trust = added(alloc, known, repo, LogKind::Trust.file_name())?;
         let location = added(alloc, known, repo, path.bytes())?;
         Ok(Reading { trust, location })
     }

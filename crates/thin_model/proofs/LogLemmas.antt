@@ -19,7 +19,7 @@ use Rattle.union_merge.specs.Branch.{Files, file_at, or_none, lines_at, with_fil
 use Rattle.union_merge.proofs.SetLemmas.{Member-union, union-left, union-right}
 use Rattle.union_merge.proofs.BranchLemmas.{lines_at-with_file_same, lines_at-with_file_other}
 use Rattle.union_merge.proofs.MergeLemmas.{lines_at-merged_file_same, lines_at-merged_file_other}
-use Rattle.log_lines.specs.Files.{file_name}
+use Rattle.log_lines.specs.Files.{file_name, named_kinds, kind_among, kind_named}
 use Rattle.trust_groups.specs.Settings.{settings, location_path}
 use Rattle.trust_groups.proofs.SameLemmas.{settings-same}
 use Rattle.run_data.specs.declared.entry.Entry.{Entry}
@@ -28,7 +28,7 @@ use Rattle.run_data.specs.declared.entry.EntryKind.TheVariants.{Log, Compact}
 use Rattle.run_data.specs.declared.entry.LogFile.{LogFile}
 use Rattle.run_data.specs.declared.entry.LogFile.TheVariants.{Location, Named}
 use Rattle.thin_model.specs.Past.{is_of}
-use Rattle.thin_model.specs.Logs.{file_path, named_kinds, kind_named, kind_of, added_by, ever, compact_lines, compact_file, branch_after, branch, kept, settings_of}
+use Rattle.thin_model.specs.Logs.{file_path, kind_of, added_by, ever, compact_lines, compact_file, branch_after, branch, kept, settings_of}
 
 abbrev Lines : Type 0
 Lines = List (List ℕ)
@@ -79,7 +79,7 @@ name_has_no_slash kinds.Mincopies = refl
 apart : (key : List ℕ) (kind : LogKind) → file_name kind ≡ location_path key → ⊥
 apart key kind same = true≢false (sym (name_has_no_slash kind) ∙ ap (list_all not_slash) same ∙ location_has_slash key)
 
-named_kind : (kind : LogKind) → kind ≢ kinds.Location → kind_named named_kinds (file_name kind) ≡ Some kind
+named_kind : (kind : LogKind) → kind ≢ kinds.Location → kind_named (file_name kind) ≡ Some kind
 named_kind kinds.Location other = absurd (other refl)
 named_kind kinds.Trust other = refl
 named_kind kinds.Uuid other = refl
@@ -90,7 +90,7 @@ named_kind kinds.GroupPreferred other = refl
 named_kind kinds.Numcopies other = refl
 named_kind kinds.Mincopies other = refl
 
-none_named : (ks : List LogKind) (key : List ℕ) → kind_named ks (location_path key) ≡ None
+none_named : (ks : List LogKind) (key : List ℕ) → kind_among ks (location_path key) ≡ None
 none_named [] key = refl
 none_named (kind ∷ ks) key = elim (bytes_eq_tells (file_name kind) (location_path key)) [
   | inl same ↦ absurd (apart key kind same.1)
@@ -103,11 +103,11 @@ IsOf kind path = (file : LogFile) → file_path file ≡ path → (kind_of file 
 
 name_is_of : (kind : LogKind) → kind ≢ kinds.Location → IsOf kind (file_name kind)
 name_is_of kind other (Location key) is = absurd (apart key kind (sym is))
-name_is_of kind other (Named name) is = inl (subst (λ p. kind_named named_kinds p ≡ Some kind) (sym is) (named_kind kind other))
+name_is_of kind other (Named name) is = inl (subst (λ p. kind_named p ≡ Some kind) (sym is) (named_kind kind other))
 
 location_is_of : (key : List ℕ) → IsOf kinds.Location (location_path key)
 location_is_of key (Location k) is = inl refl
-location_is_of key (Named name) is = inr (ap (kind_named named_kinds) is ∙ none_named named_kinds key)
+location_is_of key (Named name) is = inr (ap kind_named is ∙ none_named named_kinds key)
 
 -- ---- what is kept of a file reads as all of it
 

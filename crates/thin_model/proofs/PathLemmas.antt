@@ -22,11 +22,11 @@ use Rattle.log_lines.specs.declared.entry.LogKind.TheVariants as kinds
 use Rattle.log_lines.proofs.WordLemmas.{all_append, append_all}
 use Rattle.union_merge.specs.LineSet.{newline, IsLine}
 use Rattle.union_merge.proofs.PlaceLemmas.{Member-contains}
-use Rattle.log_lines.specs.Files.{file_name}
+use Rattle.log_lines.specs.Files.{file_name, named_kinds, kind_among, kind_named}
 use Rattle.trust_groups.specs.Settings.{location_path}
 use Rattle.run_data.specs.declared.entry.LogFile.{LogFile}
 use Rattle.run_data.specs.declared.entry.LogFile.TheVariants.{Location, Named}
-use Rattle.thin_model.specs.Logs.{kind_of, kind_named, named_kinds}
+use Rattle.thin_model.specs.Logs.{kind_of}
 use Rattle.thin_model.specs.Branches.{HasPath}
 
 abbrev not_newline : ℕ → Bool
@@ -186,9 +186,9 @@ pub known_has_path : (file : LogFile) → kind_of file ≢ None → HasPath file
 known_has_path (Location key) known = tt
 known_has_path (Named name) known =
     let p = known_named named_kinds name known in
-    record { some = λ is. absurd (known (ap (kind_named named_kinds) is)); single = no_newline name (subst IsOneLine p.1 (name_one_line p.0)) }
+    record { some = λ is. absurd (known (ap kind_named is)); single = no_newline name (subst IsOneLine p.1 (name_one_line p.0)) }
   where
-    known_named : (ks : List LogKind) (name : List ℕ) → kind_named ks name ≢ None → (kind : LogKind) × (file_name kind ≡ name)
+    known_named : (ks : List LogKind) (name : List ℕ) → kind_among ks name ≢ None → (kind : LogKind) × (file_name kind ≡ name)
     known_named [] name known = absurd (known refl)
     known_named (kind ∷ ks) name known = elim (cases_Bool (bytes_eq (file_name kind) name)) [
       | inl is ↦ (kind, (bytes_eq-Decides (file_name kind) name).0 is)

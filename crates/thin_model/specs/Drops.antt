@@ -1,5 +1,5 @@
 -- The evidence of a drop (git-annex-numcopies and git-annex-mincopies; how it is gathered is the project's own).
-use Rattle.std.specs.Prelude.{◌≡◌, refl, ℕ, ◌+◌, Bool, true, false, not, ◌&&◌, ◌||◌, if◌then◌else◌, ◌==◌, List, [], ◌∷◌, ◌++◌, filter, length, Option, Some, None, bytes_eq}
+use Rattle.std.specs.Prelude.{ℕ, ◌+◌, Bool, true, false, not, ◌&&◌, ◌||◌, if◌then◌else◌, ◌==◌, List, [], ◌∷◌, ◌++◌, filter, length, Option, Some, None, bytes_eq}
 use Rattle.std.specs.List.{range_with_len, list_any}
 use Rattle.annex_base.specs.Settings.{Settings}
 use Rattle.annex_base.specs.declared.kinds.Level.{Level}
@@ -25,7 +25,7 @@ use Rattle.run_data.specs.declared.job.Proof.{Proof}
 use Rattle.run_data.specs.declared.job.Job.{Job}
 use Rattle.run_data.specs.declared.run.RepoView.{RepoView}
 use Rattle.run_data.specs.Repos.{id_of, offset_of}
-use Rattle.thin_model.specs.Past.{is_of, is_lost_ordered, Running, Decision, begun_job, jobs, decided, runs}
+use Rattle.thin_model.specs.Past.{is_of, is_lost_ordered, Running, begun_job, jobs, runs}
 use Rattle.thin_model.specs.Logs.{read_at, settings_of}
 
 -- ---- what a repository says of its copy

@@ -1,6 +1,6 @@
 -- What the entries so far say of the log files of each repository (git-annex internals: branch files; when a drop reads them is
 -- the project's own).
-use Rattle.std.specs.Prelude.{ℕ, Bool, true, false, ◌&&◌, if◌then◌else◌, not, List, [], ◌∷◌, ◌++◌, Option, Some, None, bytes_eq, codes}
+use Rattle.std.specs.Prelude.{ℕ, Bool, false, ◌&&◌, if◌then◌else◌, List, [], ◌∷◌, ◌++◌, Option, Some, None, bytes_eq}
 use Rattle.std.specs.Option.{unwrap_or}
 use Rattle.annex_base.specs.Settings.{Settings}
 use Rattle.drop_proof.specs.declared.rule.Need.{Need}
@@ -8,8 +8,8 @@ use Rattle.log_lines.specs.Newest.{compacted}
 use Rattle.log_lines.specs.declared.entry.LogKind.{LogKind}
 use Rattle.log_lines.specs.declared.entry.LogKind.TheVariants as kinds
 use Rattle.union_merge.specs.Branch.{Files, file_at, lines_at, with_file, merged_file}
-use Rattle.log_lines.specs.Files.{file_name}
-use Rattle.trust_groups.specs.Settings.{settings, location_path, numcopies, mincopies}
+use Rattle.log_lines.specs.Files.{kind_named}
+use Rattle.trust_groups.specs.Settings.{settings, location_path}
 use Rattle.run_data.specs.declared.entry.Entry.{Entry}
 use Rattle.run_data.specs.declared.entry.EntryKind.{EntryKind}
 use Rattle.run_data.specs.declared.entry.EntryKind.TheVariants.{Begin, Log, Compact}
@@ -25,18 +25,10 @@ abbrev pub file_path : LogFile → List ℕ
 file_path (Location key) = location_path key
 file_path (Named name) = name
 
--- the kinds of log with a file of their own
-abbrev pub named_kinds : List LogKind
-named_kinds = kinds.Trust ∷ kinds.Uuid ∷ kinds.Group ∷ kinds.Preferred ∷ kinds.Required ∷ kinds.GroupPreferred ∷ kinds.Numcopies ∷ kinds.Mincopies ∷ []
-
-abbrev pub kind_named : List LogKind → List ℕ → Option LogKind
-kind_named [] name = None
-kind_named (kind ∷ kinds) name = if bytes_eq (file_name kind) name then Some kind else kind_named kinds name
-
 -- what kind of log a file is
 abbrev pub kind_of : LogFile → Option LogKind
 kind_of (Location key) = Some kinds.Location
-kind_of (Named name) = kind_named named_kinds name
+kind_of (Named name) = kind_named name
 
 -- ---- every line ever added
 

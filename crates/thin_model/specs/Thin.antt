@@ -1,6 +1,6 @@
 -- Which entry may come next in a run that is made without messages: content from the script, and local drops one after
 -- the other, each whole, between waits; and lines of logs at any time (own). Each record says what such an entry found.
-use Rattle.std.specs.Prelude.{◌≡◌, ◌≢◌, ℕ, zero, ◌+◌, ◌<◌, ◌≤◌, ◌^◌, Bool, true, false, ◌&&◌, if◌then◌else◌, ◌==◌, List, [], ◌∷◌, length, reverse, Option, Some, None}
+use Rattle.std.specs.Prelude.{◌≡◌, ◌≢◌, ℕ, zero, ◌+◌, ◌<◌, ◌≤◌, ◌^◌, Bool, true, false, List, [], ◌∷◌, length, reverse, Option, Some, None}
 use Rattle.std.specs.List.{find}
 use Rattle.annex_base.specs.declared.kinds.Found.TheVariants.{Absent}
 use Rattle.annex_key.specs.View.{size_part}

@@ -6,9 +6,8 @@ ghost use Rattle.annex_base.specs.Lists.{Each};
 ghost use Rattle.log_lines.specs.declared.entry.LogKind.{LogKind};
 ghost use Rattle.union_merge.specs.LineSet.{IsLine};
 ghost use Rattle.union_merge.specs.Branch.{file_at, merged_file};
-ghost use Rattle.log_lines.specs.Files.{file_name};
 ghost use Rattle.run_data.specs.declared.entry.Entry.{Entry};
-ghost use Rattle.thin_model.specs.Logs.{file_path, kind_of, branch, branch_after, compact_lines, compact_file, file_in, file_named, first_of, named_kinds};
+ghost use Rattle.thin_model.specs.Logs.{file_path, kind_of, branch, branch_after, compact_lines, compact_file, file_in, file_named, first_of};
 ghost use Rattle.thin_model.specs.Branches.{HasBranches, HasPath, LogsToPath};
 
 use annex_base::{Line, NoMemory, Text};
@@ -16,19 +15,8 @@ use log_lines::{LogKind, compact};
 use run_data::{Entry, EntryKind, LogFile};
 use std::alloc::Global;
 use std::collections::BTreeMap;
-use trust_groups::{file_name, location_path};
+use trust_groups::location_path;
 use union_merge::{Branch, LineSet};
-
-const NAMED_KINDS: [LogKind; 8] = [
-    LogKind::Trust,
-    LogKind::Uuid,
-    LogKind::Group,
-    LogKind::Preferred,
-    LogKind::Required,
-    LogKind::GroupPreferred,
-    LogKind::Numcopies,
-    LogKind::Mincopies,
-];
 
 /// The branches of a run's repositories after some first entries of the run, and which file stands at each path.
 #[derive(Debug, Drop)]
@@ -99,17 +87,8 @@ pub fn kind_of(file: &LogFile) -> Option<LogKind>
 {
     match file {
         LogFile::Location(_) => Some(LogKind::Location),
-        LogFile::Named(name) => kind_named(name.bytes()),
+        LogFile::Named(name) => LogKind::named(name.bytes()),
     }
-}
-
-fn kind_named(name: &[u8]) -> Option<LogKind>
-    ensures { result ≡ find (λ kind. bytes_eq (file_name kind) name.now) named_kinds }
-{
-    NAMED_KINDS
-        .iter()
-        .copied()
-        .find(|kind| file_name(*kind) == name)
 }
 
 /// Where a file stands in a branch (git-annex internals: location tracking, hashing).

@@ -22,6 +22,3 @@ pub use laws::{
 };
 pub use levels::Levels;
 pub use settings::Settings;
-
-#[cfg(test)]
-mod tests;
