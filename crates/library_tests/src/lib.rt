@@ -13,3 +13,9 @@ mod drop_proof_tests;
 mod hash_dirs_tests;
 #[cfg(test)]
 mod union_merge_tests;
+#[cfg(test)]
+mod log_lines_tests;
+#[cfg(test)]
+mod log_readings_tests;
+#[cfg(test)]
+mod trust_groups_tests;

@@ -7,11 +7,11 @@ use Rattle.std.proofs.lemmas.List.{length-map}
 use Rattle.annex_base.specs.Lists.{Each}
 use Rattle.log_lines.specs.declared.entry.LogKind.{LogKind}
 use Rattle.log_lines.specs.declared.entry.LogKind.TheVariants as kinds
-use Rattle.log_lines.specs.Files.{file_name}
+use Rattle.log_lines.specs.Files.{file_name, named_kinds, kind_among, kind_named}
 use Rattle.run_data.specs.declared.run.RepoView.{RepoView}
 use Rattle.run_data.specs.declared.entry.LogFile.{LogFile}
 use Rattle.run_data.specs.declared.entry.LogFile.TheVariants.{Location, Named}
-use Rattle.thin_model.specs.Logs.{kind_of, kind_named, named_kinds}
+use Rattle.thin_model.specs.Logs.{kind_of}
 use Rattle.thin_model.specs.Thin.{IsThinRun}
 use Rattle.script_lang.specs.declared.command.Command.{Command}
 use Rattle.script_lang.specs.declared.command.Command.TheVariants as commands
@@ -24,12 +24,12 @@ use Rattle.thin_driver.proofs.ThinScripts.{thin_lines}
 
 -- ---- files of known kinds
 
-named_some : (ks : List LogKind) (name : List ℕ) → list_any (λ k. bytes_eq (file_name k) name) ks ≡ true → kind_named ks name ≢ None
+named_some : (ks : List LogKind) (name : List ℕ) → list_any (λ k. bytes_eq (file_name k) name) ks ≡ true → kind_among ks name ≢ None
 named_some [] name h = absurd (true≢false (sym h))
 named_some (k ∷ ks) name h = go (bytes_eq (file_name k) name) h (named_some ks name)
   where
-    go : (b : Bool) → (b || list_any (λ k. bytes_eq (file_name k) name) ks) ≡ true → (list_any (λ k. bytes_eq (file_name k) name) ks ≡ true → kind_named ks name ≢ None)
-        → (if b then Some k else kind_named ks name) ≢ None
+    go : (b : Bool) → (b || list_any (λ k. bytes_eq (file_name k) name) ks) ≡ true → (list_any (λ k. bytes_eq (file_name k) name) ks ≡ true → kind_among ks name ≢ None)
+        → (if b then Some k else kind_among ks name) ≢ None
     go true e more h = cc
     go false e more h = more e h
 

@@ -11,7 +11,7 @@ ghost use Rattle.thin_driver.specs.State.{IsAt, KeepsRun, Rests};
 use crate::driver::Driver;
 use crate::logs::{file_at, lines_of};
 use annex_base::{Line, NoMemory};
-use log_lines::{LogKind, compact};
+use log_lines::{LogKind, has_outdated};
 use run_data::{EntryKind, LogFile};
 use std::alloc::Global;
 use thin_model::{file_path, kind_of};
@@ -60,27 +60,17 @@ impl Driver {
     {
         let path = file_path(self.alloc, file)?;
         let known = file_at(&self.branches, repo, path.bytes());
-        let outdated = has_outdated(self.alloc, kind_of(file), lines_of(known))?;
+        let outdated = leaves_out(self.alloc, kind_of(file), lines_of(known))?;
         Ok(outdated)
     }
 }
 
-fn has_outdated(alloc: Global, kind: Option<LogKind>, lines: &[Line]) -> Result<bool, NoMemory>
+/// Whether compaction leaves out a line; a file that is no log stays as it is.
+fn leaves_out(alloc: Global, kind: Option<LogKind>, lines: &[Line]) -> Result<bool, NoMemory>
     ensures { IfOk result (λ outdated. outdated ≡ nat_lt (length (compact_lines kind lines.now)) (length lines.now)) }
 {
-    let Some(kind) = kind else {
-        return Ok(false);
-    };
-    let left = compact(alloc, kind, copies(alloc, lines)?)?;
-    Ok(left.len() < lines.len())
-}
-
-fn copies(alloc: Global, lines: &[Line]) -> Result<Vec<Line>, NoMemory>
-    ensures { IfOk result (λ copies. copies.items ≡ lines.now) }
-{
-    let mut copies = Vec::new(alloc);
-    for line in lines {
-        copies.push(line.clone()?)?;
+    match kind {
+        Some(kind) => has_outdated(alloc, kind, lines),
+        None => Ok(false),
     }
-    Ok(copies)
 }

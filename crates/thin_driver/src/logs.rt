@@ -25,7 +25,6 @@ use log_lines::{LogKind, Topic, Value, newest_of, next_stamp, write_line};
 use run_data::{EntryKind, LogFile};
 use std::alloc::Global;
 use thin_model::{Branches, file_path};
-use trust_groups::file_name;
 use union_merge::LineSet;
 
 /// The script's time 0 in milliseconds since 1970 (own).
@@ -49,7 +48,7 @@ impl Driver {
         ensures set { OnOk result ((past : List Entry) → Rests self.old past → Rests self.new (set self.old.run.repos past repo kind topic value)) }
         ensures kept { KeepsRun self.old self.new }
     {
-        let file = LogFile::Named(Text::new(self.alloc, file_name(kind))?);
+        let file = LogFile::Named(Text::new(self.alloc, kind.file_name())?);
         let line = self.written(repo, &file, kind, topic, value)?;
         self.add_lines(repo, file, &[line])?;
         Ok(())

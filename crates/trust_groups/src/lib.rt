@@ -21,6 +21,3 @@ pub use laws::{
 };
 pub use levels::Levels;
 pub use settings::Settings;
-
-#[cfg(test)]
-mod tests;

@@ -1,7 +1,7 @@
-mod readings;
+//! Lines of log files, read and written.
 
-use super::*;
 use annex_base::{Level, RepoId, Stamp, Text};
+use log_lines::{Entry, GroupList, LogKind, Topic, Value, read_line, try_write_line, write_line};
 use std::alloc::Global;
 use std::test::Fail;
 
@@ -238,6 +238,11 @@ fn groups_of_repositories(rt: HostRuntime) -> Result<(), Fail> {
             "22222222-2222-4222-8222-222222222222 b a timestamp=1700000000s",
             Some((Some("1700000000s"), two)),
         ),
+        // As it writes them when the last group is left.
+        (
+            "22222222-2222-4222-8222-222222222222  timestamp=1700000000s",
+            Some((Some("1700000000s"), none)),
+        ),
         // The rules of the grammar.
         (
             "22222222-2222-4222-8222-222222222222 b a",
@@ -257,7 +262,8 @@ fn groups_of_repositories(rt: HostRuntime) -> Result<(), Fail> {
             Some((Some("1s"), accent)),
         ),
         ("22222222-2222-4222-8222-222222222222 ", None),
-        ("22222222-2222-4222-8222-222222222222  timestamp=1s", None),
+        ("22222222-2222-4222-8222-222222222222  ", None),
+        ("22222222-2222-4222-8222-222222222222   timestamp=1s", None),
         ("22222222-2222-4222-8222-222222222222  a", None),
         ("22222222-2222-4222-8222-222222222222 a  b", None),
         ("22222222-2222-4222-8222-222222222222 a timestamp=x", None),
@@ -427,6 +433,11 @@ fn lines_are_written(rt: HostRuntime) -> Result<(), Fail> {
         (
             LogKind::Group,
             "22222222-2222-4222-8222-222222222222 timestamp=1s",
+            "22222222-2222-4222-8222-222222222222 timestamp=1s",
+        ),
+        (
+            LogKind::Group,
+            "22222222-2222-4222-8222-222222222222  timestamp=1s",
             "22222222-2222-4222-8222-222222222222 timestamp=1s",
         ),
         (

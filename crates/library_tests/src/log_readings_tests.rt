@@ -1,5 +1,10 @@
-use crate::*;
+//! What the lines of a log file say together, and compaction.
+
 use annex_base::{Line, RepoId, Stamp, Text};
+use log_lines::{
+    Entry, LogKind, Newest, Topic, Value, compact, has_outdated, newest, newest_of, next_stamp,
+    try_write_line,
+};
 use std::alloc::Global;
 use std::test::Fail;
 
@@ -199,7 +204,12 @@ fn outdated_lines_are_left_out(rt: HostRuntime) -> Result<(), Fail> {
             "22222222-2222-4222-8222-222222222222 new timestamp=1s\n",
         ),
     ] {
-        let kept = compact(rt.alloc(), kind, lines_of(rt.alloc(), lines)?)?;
+        let lines = lines_of(rt.alloc(), lines)?;
+        let count = lines.len();
+        let outdated = has_outdated(rt.alloc(), kind, &lines)?;
+        let kept = compact(rt.alloc(), kind, lines)?;
+        assert_eq!(rt; outdated, kept.len() < count);
+        assert!(rt; !has_outdated(rt.alloc(), kind, &kept)?);
         let text = text_of(rt.alloc(), &kept)?;
         assert_eq!(rt; text.as_slice(), want.as_bytes());
     }
@@ -223,6 +233,62 @@ fn next_stamps(rt: HostRuntime) -> Result<(), Fail> {
         let stamp = next_stamp(newest, Stamp::parse(clock.as_bytes())?);
         let text = stamp.print(rt.alloc())?;
         assert_eq!(rt; text.as_slice(), want.as_bytes());
+    }
+    Ok(())
+}
+
+#[test]
+fn an_index_is_kept_while_lines_come(rt: HostRuntime) -> Result<(), Fail> {
+    let b = Topic::Repo(RepoId::parse(b"22222222-2222-4222-8222-222222222222")?);
+    let mut index = Newest::new(rt.alloc(), LogKind::Location);
+    assert!(rt; index.is_empty());
+    assert!(rt; index.entry(&b).is_none());
+    for (text, present) in [
+        ("1s 1 22222222-2222-4222-8222-222222222222", true),
+        ("hello", true),
+        ("3s 0 22222222-2222-4222-8222-222222222222", false),
+        ("2s 1 22222222-2222-4222-8222-222222222222", false),
+        ("9s 0 33333333-3333-4333-8333-333333333333", false),
+        ("4s 1 22222222-2222-4222-8222-222222222222", true),
+    ] {
+        index.add(&Text::new(rt.alloc(), text.as_bytes())?)?;
+        let found = index
+            .entry(&b)
+            .is_some_and(|said| said.value == Value::Present);
+        assert!(rt; found == present, "at {text}");
+    }
+    assert_eq!(rt; index.entries().count(), 2);
+    assert!(rt; index.group(b"archive").is_none());
+    let text = written(rt.alloc(), LogKind::Location, &index.into_entries()?)?;
+    assert_eq!(rt;
+        text.as_slice(),
+        b"4s 1 22222222-2222-4222-8222-222222222222\n9s 0 33333333-3333-4333-8333-333333333333\n".as_slice()
+    );
+    let lines = lines_of(rt.alloc(), "1s archive x\n2s backup y\n3s archive z")?;
+    let index = Newest::read(rt.alloc(), LogKind::GroupPreferred, &lines)?;
+    let z = Value::Text(Text::new(rt.alloc(), b"z")?);
+    assert!(rt; index.group(b"archive").is_some_and(|said| said.value == z));
+    Ok(())
+}
+
+#[test]
+fn names_of_log_files(rt: HostRuntime) -> Result<(), Fail> {
+    for (kind, name) in [
+        // As git-annex internals has them.
+        (LogKind::Trust, "trust.log"),
+        (LogKind::Uuid, "uuid.log"),
+        (LogKind::Group, "group.log"),
+        (LogKind::Preferred, "preferred-content.log"),
+        (LogKind::Required, "required-content.log"),
+        (LogKind::GroupPreferred, "group-preferred-content.log"),
+        (LogKind::Numcopies, "numcopies.log"),
+        (LogKind::Mincopies, "mincopies.log"),
+    ] {
+        assert_eq!(rt; kind.file_name(), name.as_bytes());
+        assert!(rt; LogKind::named(name.as_bytes()) == Some(kind), "at {name}");
+    }
+    for name in ["", "trust", "remote.log", "975/c65/WORM-s3--abc.log"] {
+        assert!(rt; LogKind::named(name.as_bytes()).is_none(), "at {name}");
     }
     Ok(())
 }

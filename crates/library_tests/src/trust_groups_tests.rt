@@ -1,12 +1,13 @@
-mod real;
+//! What a branch sets: claims, trust, numbers of copies, texts and groups.
 
-use super::*;
-use crate::files::lines_of;
-use annex_base::{Level, NoMemory, RepoId, Text};
+use annex_base::{Level, Line, NoMemory, RepoId, Text};
 use annex_key::Key;
 use log_lines::{LogKind, compact};
 use std::alloc::Global;
 use std::test::Fail;
+use trust_groups::{
+    Levels, Settings, claims_of, groups_of, level_of, mincopies_of, numcopies_of,
+};
 use union_merge::{Branch, LineSet, is_line};
 
 const REPO: &str = "22222222-2222-4222-8222-222222222222";
@@ -16,7 +17,7 @@ const KEY: &str = "WORM-s3--abc";
 const KEY_PATH: &str = "975/c65/WORM-s3--abc.log";
 
 // The path is a line by itself, as a branch wants it.
-pub fn put(branch: &mut Branch, alloc: Global, path: &[u8], text: &[u8]) -> Result<(), NoMemory> {
+fn put(branch: &mut Branch, alloc: Global, path: &[u8], text: &[u8]) -> Result<(), NoMemory> {
     let lines = LineSet::from_bytes(alloc, text)?;
     let paths = LineSet::from_bytes(alloc, path)?;
     for path in paths.lines() {
@@ -25,7 +26,7 @@ pub fn put(branch: &mut Branch, alloc: Global, path: &[u8], text: &[u8]) -> Resu
     Ok(())
 }
 
-pub fn one_file(alloc: Global, path: &[u8], text: &str) -> Result<Branch, NoMemory> {
+fn one_file(alloc: Global, path: &[u8], text: &str) -> Result<Branch, NoMemory> {
     let mut branch = Branch::new(alloc);
     put(&mut branch, alloc, path, text.as_bytes())?;
     Ok(branch)
@@ -36,13 +37,20 @@ fn repo() -> Result<RepoId, Fail> {
 }
 
 // The first digit of each repository.
-pub fn digits(alloc: Global, repos: &[RepoId]) -> Result<Vec<u8>, NoMemory> {
+fn digits(alloc: Global, repos: &[RepoId]) -> Result<Vec<u8>, NoMemory> {
     let mut out = Vec::new(alloc);
     for repo in repos {
         let [first, ..] = repo.print();
         out.push(first)?;
     }
     Ok(out)
+}
+
+fn lines_of<'a>(branch: &'a Branch, path: &[u8]) -> &'a [Line] {
+    match branch.file(path) {
+        Some(lines) => lines.lines(),
+        None => &[],
+    }
 }
 
 fn joined(alloc: Global, names: &[Text]) -> Result<Vec<u8>, NoMemory> {
@@ -61,7 +69,7 @@ fn located(alloc: Global, log: &str, trust: &str) -> Result<Branch, NoMemory> {
     put(
         &mut branch,
         alloc,
-        file_name(LogKind::Trust),
+        LogKind::Trust.file_name(),
         trust.as_bytes(),
     )?;
     Ok(branch)
@@ -192,6 +200,20 @@ fn level_alone(alloc: Global, log: &str) -> Result<Level, Fail> {
     Ok(Levels::read(alloc, &branch)?.level(repo()?))
 }
 
+fn level_added(alloc: Global, log: &str) -> Result<Level, Fail> {
+    let mut settings = Settings::new(alloc);
+    for line in log.lines() {
+        settings.add(b"trust.log", &Text::new(alloc, line.as_bytes())?)?;
+        settings.add(b"other.log", &Text::new(alloc, line.as_bytes())?)?;
+    }
+    Ok(settings.level(repo()?))
+}
+
+fn level_one(alloc: Global, log: &str) -> Result<Level, Fail> {
+    let branch = one_file(alloc, b"trust.log", log)?;
+    Ok(level_of(alloc, &branch, repo()?)?)
+}
+
 #[test]
 fn levels_of_a_repository(rt: HostRuntime) -> Result<(), Fail> {
     for (log, want) in [
@@ -254,6 +276,8 @@ fn levels_of_a_repository(rt: HostRuntime) -> Result<(), Fail> {
     ] {
         assert_eq!(rt; level_in(rt.alloc(), log)?, want, "at {log}");
         assert_eq!(rt; level_alone(rt.alloc(), log)?, want, "at {log}");
+        assert_eq!(rt; level_one(rt.alloc(), log)?, want, "at {log}");
+        assert_eq!(rt; level_added(rt.alloc(), log)?, want, "at {log}");
     }
     Ok(())
 }
@@ -396,7 +420,7 @@ fn grouped_in(alloc: Global, branch: &Branch) -> Result<Vec<u8>, Fail> {
 
 #[test]
 fn groups_of_a_repository(rt: HostRuntime) -> Result<(), Fail> {
-    let rows: [(&str, &str, &[u8]); 7] = [
+    let rows: [(&str, &str, &[u8]); 8] = [
         // As git-annex reads them.
         (
             "22222222-2222-4222-8222-222222222222 timestamp=5 timestamp=1700000000s",
@@ -407,6 +431,12 @@ fn groups_of_a_repository(rt: HostRuntime) -> Result<(), Fail> {
             "22222222-2222-4222-8222-222222222222 b a timestamp=1700000000s\n22222222-2222-4222-8222-222222222222 a b timestamp=1700000000s",
             "b a",
             b"2",
+        ),
+        // As git-annex writes it when the last group is left.
+        (
+            "22222222-2222-4222-8222-222222222222 a timestamp=1s\n22222222-2222-4222-8222-222222222222  timestamp=2s",
+            "",
+            b"",
         ),
         // Nothing set, no groups, lines outside the grammar, other repositories.
         ("", "", b""),
@@ -533,5 +563,89 @@ fn numbers_that_are_merged_and_compacted(rt: HostRuntime) -> Result<(), Fail> {
         let again = merged(rt.alloc(), &less, first, second)?;
         assert_eq!(rt; numcopies_of(rt.alloc(), &again)?, 3);
     }
+    Ok(())
+}
+
+// Of a branch of git-annex, for each backend: the path of a location log, its line, its key, and the first digit of the
+// repository that git-annex says has the key.
+const LOGS: &str = "\
+035/67c/WORM-s176-m1600000021--f21.mp3.log|1700000030.139997s 1 22222222-2222-4222-8222-222222222222|WORM-s176-m1600000021--f21.mp3|2\n\
+0d6/5cf/SHA512-s144--dea239cfb1e7155773d3cb3e86ac4eded29ad5506bb61ccefc114b0327f9eee4432eac3087e21a48381c0f77621b92114aa4275a3bf877df24c57d9205e50231.log|1700000024.659998s 1 33333333-3333-4333-8333-333333333333|SHA512-s144--dea239cfb1e7155773d3cb3e86ac4eded29ad5506bb61ccefc114b0327f9eee4432eac3087e21a48381c0f77621b92114aa4275a3bf877df24c57d9205e50231|3\n\
+18d/e29/MD5E-s112--8aa585cc5ed86e37da330fe7e595d422.c.log|1700000019.179998s 1 44444444-4444-4444-8444-444444444444|MD5E-s112--8aa585cc5ed86e37da330fe7e595d422.c|4\n\
+71a/483/SHA256E-s88--24c0908af34e5d99670b9dde4c616a6aa2320ad43d8ca0a550d9cd8933aacde4.txt.log|1700000015.069999s 1 11111111-1111-4111-8111-111111111111|SHA256E-s88--24c0908af34e5d99670b9dde4c616a6aa2320ad43d8ca0a550d9cd8933aacde4.txt|1\n\
+981/0fb/SHA1-s120--1ce29e2b1767e041c5b0b19a2dc7e33e91ef9702.log|1700000020.549998s 1 55555555-5555-4555-8555-555555555555|SHA1-s120--1ce29e2b1767e041c5b0b19a2dc7e33e91ef9702|5\n\
+";
+
+const DESCRIPTIONS: &str = "\
+11111111-1111-4111-8111-111111111111 a timestamp=1700000000s\n\
+22222222-2222-4222-8222-222222222222 b timestamp=1700000001s\n\
+33333333-3333-4333-8333-333333333333 c timestamp=1700000001s\n\
+44444444-4444-4444-8444-444444444444 d timestamp=1700000001s\n\
+55555555-5555-4555-8555-555555555555 e timestamp=1700000001s\n\
+";
+
+fn parts_of(alloc: Global, text: &[u8], end: u8) -> Result<Vec<&[u8]>, NoMemory> {
+    Ok(text.split(|b| *b == end).collect(alloc)?)
+}
+
+fn put_row(branch: &mut Branch, alloc: Global, row: &[u8]) -> Result<(), NoMemory> {
+    if let [path, line, _, _] = parts_of(alloc, row, b'|')?.as_slice() {
+        put(branch, alloc, path, line)?;
+    }
+    Ok(())
+}
+
+// The key is claimed by the repository alone.
+fn is_read(alloc: Global, settings: &Settings, row: &[u8]) -> Result<bool, Fail> {
+    match parts_of(alloc, row, b'|')?.as_slice() {
+        [_, _, key, want] => {
+            let key = Key::parse(alloc, key)?;
+            Ok(digits(alloc, &settings.claims(&key)?)?.as_slice() == *want)
+        }
+        _ => Ok(row.is_empty()),
+    }
+}
+
+fn is_only_described(settings: &Settings, repo: RepoId, name: &[u8]) -> bool {
+    settings.description(repo) == name
+        && settings.level(repo) == Level::Semitrusted
+        && settings.groups(repo).is_empty()
+        && settings.preferred(repo).is_empty()
+        && settings.required(repo).is_empty()
+}
+
+fn branch_of(alloc: Global, rows: &[&[u8]]) -> Result<Branch, NoMemory> {
+    let mut branch = one_file(alloc, b"uuid.log", DESCRIPTIONS)?;
+    for row in rows {
+        put_row(&mut branch, alloc, row)?;
+    }
+    Ok(branch)
+}
+
+#[test]
+fn a_branch_of_git_annex(rt: HostRuntime) -> Result<(), Fail> {
+    let rows = parts_of(rt.alloc(), LOGS.as_bytes(), b'\n')?;
+    let branch = branch_of(rt.alloc(), &rows)?;
+    let settings = Settings::read(rt.alloc(), &branch)?;
+    for row in &rows {
+        assert!(rt; is_read(rt.alloc(), &settings, row)?, "at {row:?}");
+    }
+    for (repo, name) in [
+        ("11111111-1111-4111-8111-111111111111", "a"),
+        ("22222222-2222-4222-8222-222222222222", "b"),
+        ("33333333-3333-4333-8333-333333333333", "c"),
+        ("44444444-4444-4444-8444-444444444444", "d"),
+        ("55555555-5555-4555-8555-555555555555", "e"),
+    ] {
+        let repo = RepoId::parse(repo.as_bytes())?;
+        assert!(rt;
+            is_only_described(&settings, repo, name.as_bytes()),
+            "at {name}"
+        );
+    }
+    assert_eq!(rt; rows.len(), 6);
+    assert!(rt; settings.grouped()?.is_empty());
+    assert_eq!(rt; settings.numcopies(), 1);
+    assert_eq!(rt; settings.mincopies(), 1);
     Ok(())
 }
