@@ -19,3 +19,13 @@ mod log_lines_tests;
 mod log_readings_tests;
 #[cfg(test)]
 mod trust_groups_tests;
+#[cfg(test)]
+mod report_text_tests;
+#[cfg(test)]
+mod run_data_tests;
+#[cfg(test)]
+mod script_lang_tests;
+#[cfg(test)]
+mod thin_laws_tests;
+#[cfg(test)]
+mod thin_model_tests;

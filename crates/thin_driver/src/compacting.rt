@@ -4,7 +4,8 @@ ghost use Rattle.std.specs.Prelude.{◌≡◌, ◌<◌, List, [], length, nat_lt
 ghost use Rattle.std.specs.Map.{keys_of};
 ghost use Rattle.log_lines.specs.Newest.{compacted};
 ghost use Rattle.run_data.specs.declared.entry.Entry.{Entry};
-ghost use Rattle.thin_model.specs.Logs.{branch, compact_lines, file_path, kept, kind_of};
+ghost use Rattle.run_data.specs.Files.{file_path, kind_of};
+ghost use Rattle.thin_model.specs.Logs.{branch, compact_lines, kept};
 ghost use Rattle.thin_driver.specs.Driver.{compact_files, compact_one};
 ghost use Rattle.thin_driver.specs.State.{IsAt, KeepsRun, Rests};
 
@@ -14,7 +15,6 @@ use annex_base::{Line, NoMemory};
 use log_lines::{LogKind, has_outdated};
 use run_data::{EntryKind, LogFile};
 use std::alloc::Global;
-use thin_model::{file_path, kind_of};
 use union_merge::Branch;
 
 impl Driver {
@@ -35,7 +35,7 @@ impl Driver {
         ensures kept { OnOk result (KeepsRun self.old self.new) }
     {
         for (path, _) in files.files() {
-            let file = self.file_named(path)?;
+            let file = LogFile::of_path(self.alloc, path)?;
             self.compact_one(repo, file)?;
         }
         Ok(())
@@ -58,9 +58,9 @@ impl Driver {
         requires { repo < length self.now.run.repos }
         ensures { IfOk result (λ outdated. (past : List Entry) → IsAt self.now past → outdated ≡ nat_lt (length (compact_lines (kind_of file.now) (kept past repo (file_path file.now)))) (length (kept past repo (file_path file.now)))) }
     {
-        let path = file_path(self.alloc, file)?;
+        let path = file.path(self.alloc)?;
         let known = file_at(&self.branches, repo, path.bytes());
-        let outdated = leaves_out(self.alloc, kind_of(file), lines_of(known))?;
+        let outdated = leaves_out(self.alloc, file.kind(), lines_of(known))?;
         Ok(outdated)
     }
 }
