@@ -49,6 +49,14 @@ def shows(keys, count):
     return lines + ["show presence %s" % key(s % keys) for s in range(count)]
 
 
+def waits_and_shows(count):
+    """So many waits, each an entry of the run, and after each a line that shows what is there then."""
+    lines = with_keys(2, 1)
+    for _ in range(count):
+        lines += ["wait 1", "show presence %s" % key(0)]
+    return lines
+
+
 def reads(lines_of_log, count):
     """A log to which so many lines are added, and so many drops that read it, and are refused for want of copies."""
     lines = declare(2) + ["have %s %s text:abc" % (name(0), key(0)), "numcopies %s 9" % name(0)]
@@ -103,13 +111,16 @@ def table(title, rows, timed=run_time):
 
 def main():
     if not PROGRAM.exists():
-        # any call of the launcher builds the program
-        subprocess.run([str(TOP / "annex")], stdout=subprocess.DEVNULL, check=False)
+        subprocess.run([str(TOP / "prove")], stdout=subprocess.DEVNULL, check=True)
     table("keys, at 2 repositories", [(k, k, with_keys(2, k)) for k in (10, 100, 1000, 10000)])
     table("drops, of 1,000 keys at 4 repositories", [(d, d, drops(4, 1000, d)) for d in (10, 100, 1000, 10000)])
     table("keys, with 1,000 drops at 2 repositories", [(k, k, drops(2, k, 1000)) for k in (10, 100, 1000, 10000)])
     table("repositories, with 1,000 keys and 1,000 drops", [(r, r, drops(r, 1000, 1000)) for r in range(2, 9)])
     table("shows, of 1,000 keys", [(s, s, shows(1000, s)) for s in (10, 100, 1000, 10000)])
+    table(
+        "waits, each followed by a show: a report that goes once over the entries takes as much more time as there is work",
+        [(n, n, waits_and_shows(n)) for n in (10, 100, 1000, 10000)],
+    )
     for lines_of, title in ((location_lines, "a location log"), (trust_lines, "the trust log")):
         for count, drops_title in ((0, ""), (100, ", and 100 drops that read them")):
             table(

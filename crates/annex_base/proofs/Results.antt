@@ -1,5 +1,5 @@
 -- Steps that may fail.
-use Rattle.std.proofs.Common.{◌≡◌, ◌⊎◌, inl, inr, Bool, true, false, if◌then◌else◌, Result, Ok, Err, IfOk, OnOk, refl}
+use Rattle.std.proofs.Common.{◌≡◌, ◌⊎◌, inl, inr, Bool, true, false, if◌then◌else◌, Result, Ok, Err, IfOk, OnOk, OnErr, refl}
 use Rattle.annex_base.specs.ResultSteps.{◌>>=◌}
 
 -- the value of a step that did not fail
@@ -39,6 +39,10 @@ ok_err d y e = cc
 pub OnOk-always : {A E : Type 0} (P : Type 0) (r : Result A E) → P → OnOk r P
 OnOk-always P (Ok x) p = p
 OnOk-always P (Err d) p = tt
+
+pub OnErr-always : {A E : Type 0} (P : Type 0) (r : Result A E) → P → OnErr r P
+OnErr-always P (Ok x) p = tt
+OnErr-always P (Err d) p = p
 
 pub IfOk-both : {A E : Type 0} (r : Result A E) (P Q R : A → Type 0) → ((x : A) → P x → Q x → R x) → IfOk r P → IfOk r Q → IfOk r R
 IfOk-both (Ok x) P Q R f p q = f x p q

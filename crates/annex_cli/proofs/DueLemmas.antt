@@ -2,43 +2,71 @@
 use Rattle.std.proofs.Common.{◌≡◌, ◌⊎◌, inl, inr, ℕ, ◌<◌, ◌≤◌, List, ◌++◌, length, Option, Some, None, refl, sym, ap, subst, ◌∙◌, arith, length-append}
 use Rattle.std.proofs.lemmas.Bool.{cases_lt}
 use Rattle.std.proofs.lemmas.List.{append-nil}
-use Rattle.script_lang.specs.declared.command.Command.{Command}
 use Rattle.std.specs.Prelude.{codes}
+use Rattle.std.specs.Io.KnownBytes.{append_known}
 use Rattle.std.specs.Fmt.{decimal}
+use Rattle.script_lang.specs.declared.command.Command.{Command}
 use Rattle.script_lang.specs.declared.fault.Quantity.{Quantity}
 use Rattle.script_lang.specs.declared.fault.Quantity.TheVariants.{Repositories, Time}
 use Rattle.script_lang.specs.Script.{IsScript, IsBadLine, IsCrowded, IsLate, limit_of, quantity_name}
+use Rattle.thin_driver.specs.Driver.{run_of}
+use Rattle.report_text.specs.Report.{report}
 use Rattle.annex_cli.specs.declared.status.Status.{Status}
 use Rattle.annex_cli.specs.declared.status.Status.TheVariants.{Done, Usage, Script, ReadFault, WriteFault, NoMemory, Limit}
 use Rattle.annex_cli.specs.Whole.{IsRead, script_limit}
-use Rattle.annex_cli.specs.Top.{IsDue, IsDueRead, AnswersRun}
+use Rattle.annex_cli.specs.Top.{IsReport, IsComplaint, IsLong, IsFull, IsOverTime, IsDue, IsDueRead, Writes, AnswersRun, EndsWith}
 
--- the readings of a text exclude each other
-pub record AreExclusive : Type 0 where
-  pub bad : (bytes : List ℕ) (script : List Command) (line : ℕ) → IsScript bytes script → IsBadLine bytes line → ⊥
-  pub crowded : (bytes : List ℕ) (script : List Command) → IsScript bytes script → IsCrowded bytes → ⊥
-  pub bad_crowded : (bytes : List ℕ) (line : ℕ) → IsBadLine bytes line → IsCrowded bytes → ⊥
-  pub late : (bytes : List ℕ) (script : List Command) → IsScript bytes script → IsLate bytes → ⊥
-  pub bad_late : (bytes : List ℕ) (line : ℕ) → IsBadLine bytes line → IsLate bytes → ⊥
+-- a text has one reading
+pub record HaveOneReading : Type 0 where
+  pub script : (bytes : List ℕ) (script other : List Command) → IsScript bytes script → IsScript bytes other → script ≡ other
+  pub bad_line : (bytes : List ℕ) (line other : ℕ) → IsBadLine bytes line → IsBadLine bytes other → line ≡ other
+  pub script_or_bad : (bytes : List ℕ) (script : List Command) (line : ℕ) → IsScript bytes script → IsBadLine bytes line → ⊥
+  pub script_or_crowded : (bytes : List ℕ) (script : List Command) → IsScript bytes script → IsCrowded bytes → ⊥
+  pub bad_or_crowded : (bytes : List ℕ) (line : ℕ) → IsBadLine bytes line → IsCrowded bytes → ⊥
+  pub script_or_late : (bytes : List ℕ) (script : List Command) → IsScript bytes script → IsLate bytes → ⊥
+  pub bad_or_late : (bytes : List ℕ) (line : ℕ) → IsBadLine bytes line → IsLate bytes → ⊥
+  pub crowded_or_late : (bytes : List ℕ) → IsCrowded bytes → IsLate bytes → ⊥
 
-pub due_once : AreExclusive → (bytes : List ℕ) (s s' : Status) (t t' : List ℕ) → IsDue bytes s t → IsDue bytes s' t' → s ≡ s'
-due_once x bytes Done Done t t' d d' = refl
-due_once x bytes Done Script t t' d d' = absurd (x.bad bytes d.script d'.line d.is_script d'.bad)
+-- what is due for a text is one status, with one text
+abbrev IsOne : Status → Status → List ℕ → List ℕ → Type 0
+IsOne s s' t t' = (s ≡ s') × (t ≡ t')
+
+module _ (x : HaveOneReading) (bytes t t' : List ℕ) where
+  one_report : IsReport bytes t → IsReport bytes t' → t ≡ t'
+  one_report d d' = d.text_is ∙ ap (λ script. report script (run_of script)) (x.script bytes d.script d'.script d.is_script d'.is_script) ∙ sym d'.text_is
+
+  one_complaint : IsComplaint bytes t → IsComplaint bytes t' → t ≡ t'
+  one_complaint d d' = d.text_is ∙ ap (λ line. codes "script line " ++ decimal line ++ codes " byte " ++ decimal 0 ++ codes "\n") (x.bad_line bytes d.line d'.line d.bad d'.bad) ∙ sym d'.text_is
+
+  one_limit : (IsLong bytes t ⊎ (IsFull bytes t ⊎ IsOverTime bytes t)) → (IsLong bytes t' ⊎ (IsFull bytes t' ⊎ IsOverTime bytes t')) → t ≡ t'
+  one_limit (inl d) (inl d') = d.text_is ∙ sym d'.text_is
+  one_limit (inl d) (inr (inl d')) = absurd (omega (arith, d.long, d'.short))
+  one_limit (inl d) (inr (inr d')) = absurd (omega (arith, d.long, d'.short))
+  one_limit (inr (inl d)) (inl d') = absurd (omega (arith, d'.long, d.short))
+  one_limit (inr (inl d)) (inr (inl d')) = d.text_is ∙ sym d'.text_is
+  one_limit (inr (inl d)) (inr (inr d')) = absurd (x.crowded_or_late bytes d.crowded d'.late)
+  one_limit (inr (inr d)) (inl d') = absurd (omega (arith, d'.long, d.short))
+  one_limit (inr (inr d)) (inr (inl d')) = absurd (x.crowded_or_late bytes d'.crowded d.late)
+  one_limit (inr (inr d)) (inr (inr d')) = d.text_is ∙ sym d'.text_is
+
+due_once : HaveOneReading → (bytes : List ℕ) (s s' : Status) (t t' : List ℕ) → IsDue bytes s t → IsDue bytes s' t' → IsOne s s' t t'
+due_once x bytes Done Done t t' d d' = (refl, one_report x bytes t t' d d')
+due_once x bytes Done Script t t' d d' = absurd (x.script_or_bad bytes d.script d'.line d.is_script d'.bad)
 due_once x bytes Done Limit t t' d (inl d') = absurd (omega (arith, d.short, d'.long))
-due_once x bytes Done Limit t t' d (inr (inl d')) = absurd (x.crowded bytes d.script d.is_script d'.crowded)
-due_once x bytes Done Limit t t' d (inr (inr d')) = absurd (x.late bytes d.script d.is_script d'.late)
-due_once x bytes Script Done t t' d d' = absurd (x.bad bytes d'.script d.line d'.is_script d.bad)
-due_once x bytes Script Script t t' d d' = refl
+due_once x bytes Done Limit t t' d (inr (inl d')) = absurd (x.script_or_crowded bytes d.script d.is_script d'.crowded)
+due_once x bytes Done Limit t t' d (inr (inr d')) = absurd (x.script_or_late bytes d.script d.is_script d'.late)
+due_once x bytes Script Done t t' d d' = absurd (x.script_or_bad bytes d'.script d.line d'.is_script d.bad)
+due_once x bytes Script Script t t' d d' = (refl, one_complaint x bytes t t' d d')
 due_once x bytes Script Limit t t' d (inl d') = absurd (omega (arith, d.short, d'.long))
-due_once x bytes Script Limit t t' d (inr (inl d')) = absurd (x.bad_crowded bytes d.line d.bad d'.crowded)
-due_once x bytes Script Limit t t' d (inr (inr d')) = absurd (x.bad_late bytes d.line d.bad d'.late)
+due_once x bytes Script Limit t t' d (inr (inl d')) = absurd (x.bad_or_crowded bytes d.line d.bad d'.crowded)
+due_once x bytes Script Limit t t' d (inr (inr d')) = absurd (x.bad_or_late bytes d.line d.bad d'.late)
 due_once x bytes Limit Done t t' (inl d) d' = absurd (omega (arith, d'.short, d.long))
-due_once x bytes Limit Done t t' (inr (inl d)) d' = absurd (x.crowded bytes d'.script d'.is_script d.crowded)
-due_once x bytes Limit Done t t' (inr (inr d)) d' = absurd (x.late bytes d'.script d'.is_script d.late)
+due_once x bytes Limit Done t t' (inr (inl d)) d' = absurd (x.script_or_crowded bytes d'.script d'.is_script d.crowded)
+due_once x bytes Limit Done t t' (inr (inr d)) d' = absurd (x.script_or_late bytes d'.script d'.is_script d.late)
 due_once x bytes Limit Script t t' (inl d) d' = absurd (omega (arith, d'.short, d.long))
-due_once x bytes Limit Script t t' (inr (inl d)) d' = absurd (x.bad_crowded bytes d'.line d'.bad d.crowded)
-due_once x bytes Limit Script t t' (inr (inr d)) d' = absurd (x.bad_late bytes d'.line d'.bad d.late)
-due_once x bytes Limit Limit t t' d d' = refl
+due_once x bytes Limit Script t t' (inr (inl d)) d' = absurd (x.bad_or_crowded bytes d'.line d'.bad d.crowded)
+due_once x bytes Limit Script t t' (inr (inr d)) d' = absurd (x.bad_or_late bytes d'.line d'.bad d.late)
+due_once x bytes Limit Limit t t' d d' = (refl, one_limit x bytes t t' d d')
 due_once x bytes Usage s' t t' d d' = absurd d
 due_once x bytes ReadFault s' t t' d d' = absurd d
 due_once x bytes WriteFault s' t t' d d' = absurd d
@@ -49,10 +77,16 @@ due_once x bytes s WriteFault t t' d d' = absurd d'
 due_once x bytes s NoMemory t t' d d' = absurd d'
 
 -- past the limit, the limit is due
-due_long : (bytes : List ℕ) (s : Status) (t : List ℕ) → script_limit < length bytes → IsDue bytes s t → s ≡ Limit
+long_text : List ℕ
+long_text = codes "limit " ++ codes "script" ++ codes " " ++ decimal script_limit ++ codes "\n"
+
+due_long : (bytes : List ℕ) (s : Status) (t : List ℕ) → script_limit < length bytes → IsDue bytes s t → IsOne s Limit t long_text
+unfolding long_text
 due_long bytes Done t long d = absurd (omega (arith, d.short))
 due_long bytes Script t long d = absurd (omega (arith, d.short))
-due_long bytes Limit t long d = refl
+due_long bytes Limit t long (inl d) = (refl, d.text_is)
+due_long bytes Limit t long (inr (inl d)) = absurd (omega (arith, d.short))
+due_long bytes Limit t long (inr (inr d)) = absurd (omega (arith, d.short))
 due_long bytes Usage t long d = absurd d
 due_long bytes ReadFault t long d = absurd d
 due_long bytes WriteFault t long d = absurd d
@@ -74,26 +108,38 @@ read_all_or_long bytes read (Some rest) r = go (cases_lt script_limit (length re
     go (inr short) = inl (sym (whole ∙ ap (λ end. read ++ end) (r.whole short rest refl) ∙ append-nil read))
 
 -- what is due for what was read is due for what there was
-due_same : AreExclusive → (bytes : List ℕ) (s s' : Status) (text : List ℕ) (left left' : Option (List ℕ)) (t : List ℕ) → left ≡ Some bytes → IsDue bytes s text → IsDueRead left left' s' t → s' ≡ s
+due_same : HaveOneReading → (bytes : List ℕ) (s s' : Status) (text : List ℕ) (left left' : Option (List ℕ)) (t : List ℕ) → left ≡ Some bytes → IsDue bytes s text → IsDueRead left left' s' t → IsOne s' s t text
 due_same x bytes s s' text left left' t known d r = go (read_all_or_long bytes r.bytes left' (subst (λ l. IsRead l left' r.bytes) known r.read))
   where
-    go : (r.bytes ≡ bytes) ⊎ ((script_limit < length r.bytes) × (script_limit < length bytes)) → s' ≡ s
+    go : (r.bytes ≡ bytes) ⊎ ((script_limit < length r.bytes) × (script_limit < length bytes)) → IsOne s' s t text
     go (inl same) = due_once x bytes s' s t text (subst (λ b. IsDue b s' t) same r.due) d
-    go (inr long) = due_long r.bytes s' t long.0 r.due ∙ sym (due_long bytes s text long.1 d)
+    go (inr long) =
+        let read = due_long r.bytes s' t long.0 r.due in
+        let all = due_long bytes s text long.1 d in
+        (read.0 ∙ sym all.0, read.1 ∙ sym all.1)
 
--- without a fault, what is due is answered, or memory ran out
-pub due_answered : AreExclusive → (bytes text : List ℕ) (s result : Status) (left left' taken taken' : Option (List ℕ)) → left ≡ Some bytes → IsDue bytes s text
-    → AnswersRun left left' taken taken' result → (result ≡ ReadFault → ⊥) → (result ≡ WriteFault → ⊥) → (result ≡ s) ⊎ (result ≡ NoMemory)
-due_answered x bytes text s Done left left' taken taken' known d a r w = inl (due_same x bytes s Done text left left' a.text known d a.due)
-due_answered x bytes text s Script left left' taken taken' known d a r w = inl (due_same x bytes s Script text left left' a.text known d a.due)
-due_answered x bytes text s Limit left left' taken taken' known d a r w = inl (due_same x bytes s Limit text left left' a.text known d a.due)
-due_answered x bytes text s WriteFault left left' taken taken' known d a r w = absurd (w refl)
-due_answered x bytes text s ReadFault left left' taken taken' known d a r w = absurd (r refl)
-due_answered x bytes text s NoMemory left left' taken taken' known d a r w = inr refl
-due_answered x bytes text s Usage left left' taken taken' known d a r w = absurd a
+module _ (x : HaveOneReading) (bytes text : List ℕ) (s : Status) (left left' taken taken' : Option (List ℕ)) (known : left ≡ Some bytes) (d : IsDue bytes s text) where
+  due_written : (result : Status) → Writes left left' taken taken' result → EndsWith s text taken taken' result
+  due_written result w =
+      let same = due_same x bytes s result text left left' w.text known d w.due in
+      inl (same.0, w.whole ∙ ap (λ t. append_known taken t) same.1)
+
+  -- without a fault, what is due is answered, or memory ran out
+  pub due_answered : (result : Status) → AnswersRun left left' taken taken' result → (result ≡ ReadFault → ⊥) → (result ≡ WriteFault → ⊥) → EndsWith s text taken taken' result
+  due_answered Done a r w = due_written Done a
+  due_answered Script a r w = due_written Script a
+  due_answered Limit a r w = due_written Limit a
+  due_answered WriteFault a r w = absurd (w refl)
+  due_answered ReadFault a r w = absurd (r refl)
+  due_answered NoMemory a r w = inr (refl, a)
+  due_answered Usage a r w = absurd a
 
 -- past what is counted, its limit is due
 pub limit_due : (bytes text : List ℕ) (quantity : Quantity) → length bytes ≤ script_limit → (quantity ≡ Repositories → IsCrowded bytes) → (quantity ≡ Time → IsLate bytes)
     → text ≡ codes "limit " ++ quantity_name quantity ++ codes " " ++ decimal (limit_of quantity) ++ codes "\n" → IsDue bytes Limit text
 limit_due bytes text Repositories short crowded late is = inr (inl (record { short = short; crowded = crowded refl; text_is = is }))
 limit_due bytes text Time short crowded late is = inr (inr (record { short = short; late = late refl; text_is = is }))
+
+-- for a script its report is due
+pub due_report : (bytes : List ℕ) (script : List Command) → length bytes ≤ script_limit → IsScript bytes script → IsDue bytes Done (report script (run_of script))
+due_report bytes script short is = record { short = short; script = script; is_script = is; text_is = refl }

@@ -16,7 +16,6 @@ use Rattle.script_lang.specs.declared.command.Command.TheVariants as commands
 use Rattle.script_lang.specs.Lines.{Declared, declared, declared_by, MayStand}
 use Rattle.script_lang.specs.Script.{AllStand, IsProgram, IsScript, is_closed}
 use Rattle.thin_driver.specs.Driver.{run_of, view_of}
-use Rattle.thin_driver.proofs.Paths.{known_path}
 use Rattle.thin_driver.proofs.ThinLists.{Each-reverse}
 use Rattle.thin_driver.proofs.ThinPrograms.{declared-append, thin_script}
 use Rattle.report_text.specs.Walk.{IsLogged, ShowsKnown}
@@ -30,7 +29,7 @@ no_lines lines none = subst (λ ls. Each IsLine ls) (sym none) tt
 
 kind_logged : (repos : List RepoView) (past : List Entry) (r time : ℕ) (lines : List (List ℕ)) (kind : EntryKind)
     → HasLines kind lines → ThinKind repos past r time lines kind → LogsToPath kind × Each IsLine lines
-kind_logged repos past r time lines (Log file) has may = (known_path file may.known, may.set.each)
+kind_logged repos past r time lines (Log file) has may = (may.path, may.set.each)
 kind_logged repos past r time lines kind has may = (tt, no_lines lines has)
 
 step_logged : (repos : List RepoView) (past : List Entry) (e : Entry) → ThinStep repos past e → IsLogged e
@@ -58,7 +57,19 @@ one_known n ds closed (commands.ShowLog r file) l s = omega (arith, l, s.0)
 one_known n ds closed (commands.ShowLogs r) l s = omega (arith, l, s)
 one_known n ds closed (commands.ShowNumbers r) l s = omega (arith, l, s)
 one_known n ds closed (commands.ShowLevel r target) l s = (omega (arith, l, s.0), omega (arith, l, s.1))
-one_known n ds closed _ l s = tt
+one_known n ds closed (commands.Repo name id offset) l s = tt
+one_known n ds closed (commands.Have r key content) l s = tt
+one_known n ds closed (commands.Numcopies r n) l s = tt
+one_known n ds closed (commands.Mincopies r n) l s = tt
+one_known n ds closed (commands.Trust r target level) l s = tt
+one_known n ds closed (commands.Describe r target text) l s = tt
+one_known n ds closed (commands.Group r target groups) l s = tt
+one_known n ds closed (commands.Log r file line) l s = tt
+one_known n ds closed (commands.Run r job) l s = tt
+one_known n ds closed (commands.Merge r other) l s = tt
+one_known n ds closed (commands.Compact r) l s = tt
+one_known n ds closed (commands.Wait milliseconds) l s = tt
+one_known n ds closed (commands.ShowPresence key) l s = tt
 
 all_known : (n : ℕ) (before script : List Command) → length (declared (before ++ script)) ≤ n → AllStand before script → Each (ShowsKnown n) script
 all_known n before [] l s = tt

@@ -29,12 +29,15 @@ pub record IsGood (run : Run) : Type 0 where
   pub safe : IsSafe run
   pub causes : HasCauses run
 
--- the bytes are a script, whose run is good, and the text is its report
+-- the run of the script that the bytes are is good
+abbrev pub HasGoodRun : List ℕ → Type 0
+HasGoodRun bytes = (script : List Command) → IsScript bytes script → IsGood (run_of script)
+
+-- the bytes are a script, and the text is the report of its run
 pub record IsReport (bytes text : List ℕ) : Type 0 where
   pub short : length bytes ≤ script_limit
   pub script : List Command
   pub is_script : IsScript bytes script
-  pub good : IsGood (run_of script)
   pub text_is : text ≡ report script (run_of script)
 
 -- the text names the first line that isn't one of a script
@@ -68,11 +71,12 @@ IsDue bytes Script text = IsComplaint bytes text
 IsDue bytes Limit text = IsLong bytes text ⊎ (IsFull bytes text ⊎ IsOverTime bytes text)
 IsDue bytes _ text = ⊥
 
--- the text that is due for what was read
+-- the text that is due for what was read; where it is a report, the run is good
 pub record IsDueRead (old new : Option (List ℕ)) (status : Status) (text : List ℕ) : Type 0 where
   pub bytes : List ℕ
   pub read : IsRead old new bytes
   pub due : IsDue bytes status text
+  pub good : status ≡ Done → HasGoodRun bytes
 
 -- the sink has taken the whole text that is due
 pub record Writes (left left' taken taken' : Option (List ℕ)) (status : Status) : Type 0 where
@@ -102,6 +106,11 @@ abbrev pub AnswersOther : Option (List ℕ) → Option (List ℕ) → Status →
 AnswersOther taken taken' Usage = taken' ≡ append_known taken usage_text
 AnswersOther taken taken' WriteFault = TakesFront taken taken' usage_text
 AnswersOther taken taken' _ = ⊥
+
+-- the call ended with this status, and the sink has taken this text; or memory ran out, and it has taken nothing
+abbrev pub EndsWith : Status → List ℕ → Option (List ℕ) → Option (List ℕ) → Status → Type 0
+EndsWith status text taken taken' result =
+    ((result ≡ status) × (taken' ≡ append_known taken text)) ⊎ ((result ≡ NoMemory) × (taken' ≡ taken))
 
 -- what the sink has taken with each status
 pub record Answers (words : List (List ℕ)) (left left' taken taken' : Option (List ℕ)) (status : Status) : Type 0 where

@@ -4,15 +4,16 @@ ghost use Rattle.std.specs.Prelude.{IfOk, OnOk, ◌≡◌, ◌++◌, ◌≤◌, 
 ghost use Rattle.std.specs.Fmt.{decimal};
 ghost use Rattle.script_lang.specs.Script.{IsScript, IsProgram};
 ghost use Rattle.annex_cli.specs.Whole.{script_limit};
-ghost use Rattle.annex_cli.specs.Top.{IsDue};
+ghost use Rattle.annex_cli.specs.Top.{IsDue, HasGoodRun};
 
 use crate::status::Status;
 use crate::whole::SCRIPT_LIMIT;
 use annex_base::{NoMemory, put_number};
 use report_text::report;
-use script_lang::{Quantity, Script, ScriptFault};
+use script_lang::{Script, ScriptFault, scripts_have_one_reading};
 use std::alloc::Global;
 use thin_driver::run_script;
+use thin_laws::{thin_refusals_have_causes, thin_runs_are_safe};
 
 /// A status, and the text that is written with it.
 #[derive(Debug, Drop)]
@@ -23,7 +24,8 @@ pub struct Due {
 
 /// What is due for these bytes.
 pub fn due_text(alloc: Global, bytes: &[u8]) -> Result<Due, NoMemory>
-    ensures { IfOk result (λ d. IsDue bytes.now d.status d.text.items) }
+    ensures due { IfOk result (λ d. IsDue bytes.now d.status d.text.items) }
+    ensures good { IfOk result (λ d. d.status ≡ Status.Done → HasGoodRun bytes.now) }
 {
     if bytes.len() > SCRIPT_LIMIT {
         return limit_due(alloc, "script", SCRIPT_LIMIT as u64);
@@ -43,8 +45,13 @@ fn report_due(alloc: Global, _bytes: &[u8], script: &Script) -> Result<Due, NoMe
     requires short { length _bytes.now ≤ script_limit }
     requires script { IsScript _bytes.now script.now }
     requires program { IsProgram script.now }
-    ensures { IfOk result (λ d. IsDue _bytes.now d.status d.text.items) }
+    ensures due { IfOk result (λ d. IsDue _bytes.now d.status d.text.items) }
+    ensures good { IfOk result (λ d. d.status ≡ Status.Done → HasGoodRun _bytes.now) }
 {
+    // laws, for the proof that the run is good
+    scripts_have_one_reading();
+    thin_runs_are_safe();
+    thin_refusals_have_causes();
     let run = run_script(alloc, script.lines())?;
     let text = report(alloc, script.lines(), &run)?;
     Ok(Due {

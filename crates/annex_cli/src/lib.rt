@@ -1,11 +1,16 @@
 //! The program's top call: what the words ask for, and what is written.
 #![tactic(auto)]
 
-ghost use Rattle.std.specs.Prelude.{◌≡◌, ◌⊎◌, ℕ, List, map, Some};
+ghost use Rattle.std.specs.Prelude.{◌≡◌, ℕ, ◌<◌, ◌≤◌, List, length, map, Some};
 ghost use Rattle.std.specs.String.{string_bytes};
 ghost use Rattle.annex_base.specs.Causes.{Rose};
+ghost use Rattle.script_lang.specs.declared.command.Command.{Command};
+ghost use Rattle.script_lang.specs.Script.{IsScript};
+ghost use Rattle.thin_driver.specs.Driver.{run_of};
+ghost use Rattle.report_text.specs.Report.{report};
 ghost use Rattle.annex_cli.specs.declared.status.Status.{Status};
-ghost use Rattle.annex_cli.specs.Top.{IsRun, IsDue, Answers, AnswersRun};
+ghost use Rattle.annex_cli.specs.Whole.{script_limit};
+ghost use Rattle.annex_cli.specs.Top.{IsRun, IsDue, EndsWith, Answers, AnswersRun};
 
 mod due;
 mod status;
@@ -14,6 +19,7 @@ mod words;
 
 use annex_base::{Failed, Gate, Sink, Source};
 use due::due_text;
+use script_lang::scripts_have_one_reading;
 pub use status::Status;
 use std::alloc::Global;
 use std::sync::Wait;
@@ -35,15 +41,24 @@ pub fn annex<R: Threads + Wait + Sync, S: Source, K: Sink, G: Gate>(
 ) -> Status
     ensures answers { Answers (map string_bytes words.now) (S.left source.old) (S.left source.new) (K.taken sink.old) (K.taken sink.new) result }
 
-    // a fault is answered only where the count rose
+    // for other words than `run` the source stays unread
+    ensures unread { (IsRun (map string_bytes words.now) → ⊥) → source.new ≡ source.old }
+
+    // a fault is answered only where the count rose, and always where it did
     ensures read { result ≡ Status.ReadFault → Rose (S.faults source.old) (S.faults source.new) }
     ensures write { result ≡ Status.WriteFault → Rose (K.faults sink.old) (K.faults sink.new) }
+    ensures read_failed { S.faults source.old < S.faults source.new → result ≡ Status.ReadFault }
+    ensures write_failed { K.faults sink.old < K.faults sink.new → result ≡ Status.WriteFault }
 
-    // without a fault and with enough memory, what is due is answered
+    // without a fault and with enough memory, what is due is answered: for a script its report
     ensures usage { (IsRun (map string_bytes words.now) → ⊥) → (Rose (K.faults sink.old) (K.faults sink.new) → ⊥) → result ≡ Status.Usage }
     ensures due { (bytes text : List ℕ) (status : Status) → IsRun (map string_bytes words.now) → S.left source.old ≡ Some bytes → IsDue bytes status text
         → (Rose (S.faults source.old) (S.faults source.new) → ⊥) → (Rose (K.faults sink.old) (K.faults sink.new) → ⊥)
-        → (result ≡ status) ⊎ (result ≡ Status.NoMemory) }
+        → EndsWith status text (K.taken sink.old) (K.taken sink.new) result }
+    ensures reported { (bytes : List ℕ) (script : List Command) → IsRun (map string_bytes words.now) → S.left source.old ≡ Some bytes
+        → length bytes ≤ script_limit → IsScript bytes script
+        → (Rose (S.faults source.old) (S.faults source.new) → ⊥) → (Rose (K.faults sink.old) (K.faults sink.new) → ⊥)
+        → EndsWith Status.Done (report script (run_of script)) (K.taken sink.old) (K.taken sink.new) result }
 {
     if !is_run(words) {
         return match write_whole(sink, USAGE) {
@@ -51,6 +66,8 @@ pub fn annex<R: Threads + Wait + Sync, S: Source, K: Sink, G: Gate>(
             Err(Failed) => Status::WriteFault,
         };
     }
+    // a law, for the proof of what is due
+    scripts_have_one_reading();
     run(alloc, source, sink)
 }
 
@@ -59,6 +76,8 @@ fn run<S: Source, K: Sink>(alloc: Global, source: &mut S, sink: &mut K) -> Statu
     ensures answers { AnswersRun (S.left source.old) (S.left source.new) (K.taken sink.old) (K.taken sink.new) result }
     ensures read { result ≡ Status.ReadFault → Rose (S.faults source.old) (S.faults source.new) }
     ensures write { result ≡ Status.WriteFault → Rose (K.faults sink.old) (K.faults sink.new) }
+    ensures read_failed { S.faults source.old < S.faults source.new → result ≡ Status.ReadFault }
+    ensures write_failed { K.faults sink.old < K.faults sink.new → result ≡ Status.WriteFault }
 {
     let bytes = match read_whole(alloc, source) {
         Ok(bytes) => bytes,
@@ -73,6 +92,3 @@ fn run<S: Source, K: Sink>(alloc: Global, source: &mut S, sink: &mut K) -> Statu
         Err(Failed) => Status::WriteFault,
     }
 }
-
-#[cfg(test)]
-mod tests;

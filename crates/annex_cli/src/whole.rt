@@ -24,6 +24,7 @@ pub enum ReadStop {
 pub fn read_whole<S: Source>(alloc: Global, source: &mut S) -> Result<Vec<u8>, ReadStop>
     ensures read { IfOk result (λ text. IsRead (S.left source.old) (S.left source.new) text.items) }
     ensures cause { result ≡ Err ReadStop.Failed → Rose (S.faults source.old) (S.faults source.new) }
+    ensures failed { S.faults source.old < S.faults source.new → result ≡ Err ReadStop.Failed }
     ensures later { S.faults source.old ≤ S.faults source.new }
 {
     let mut text = Vec::new(alloc);
@@ -48,6 +49,7 @@ pub fn write_whole<K: Sink>(sink: &mut K, text: &[u8]) -> Result<(), Failed>
     ensures ok { OnOk result (K.taken sink.new ≡ append_known (K.taken sink.old) text.now) }
     ensures err { OnErr result (TakesFront (K.taken sink.old) (K.taken sink.new) text.now) }
     ensures cause { OnErr result (Rose (K.faults sink.old) (K.faults sink.new)) }
+    ensures kept { OnOk result (K.faults sink.new ≡ K.faults sink.old) }
     ensures later { K.faults sink.old ≤ K.faults sink.new }
 {
     let mut at = 0;

@@ -1,12 +1,12 @@
 -- What a call answers of a text, from the first fault that it tells.
 use Rattle.std.proofs.Common.{inl, inr, ◌≡◌, ◌≢◌, ◌↔◌, ℕ, List, Option, Some, None, Result, Ok, Err, IfOk, IsErrAnd, MatchResult, refl, sym, ap, ◌∙◌}
+use Rattle.annex_base.proofs.Results.{bind_err, bind_ok, ok_err}
 use Rattle.annex_key.specs.declared.fault.KeyFault.{KeyFault}
 use Rattle.annex_key.specs.declared.fault.KeyFault.TheVariants.{NoDashes, BadBackend, BadField, EmptyName, TooLong, BadEscape, BadName, NoMemory}
 use Rattle.annex_key.specs.KeyText.{Parts, IsKey, IsKeyText, key_text}
 use Rattle.annex_key.specs.Reading.{key_at}
 use Rattle.annex_key.specs.Faults.{Breaks}
 use Rattle.annex_key.specs.View.{size_in, size_or_fault, IsKeyed, fault_in, first_fault, of_text, told_fault, size_part, backend_part, or_none}
-use Rattle.annex_key.proofs.Steps.{bind_ok, bind_err, ok_err}
 use Rattle.annex_key.proofs.WordLemmas.{word_again, backend_no_dash}
 use Rattle.annex_key.proofs.KeyLemmas.{text_takes, text_again, key_again, tail1, size_starts}
 use Rattle.annex_key.proofs.FaultLemmas.{key_err}

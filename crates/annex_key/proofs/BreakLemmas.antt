@@ -1,22 +1,20 @@
 -- The first rule that a text breaks is the fault that reading meets.
-use Rattle.std.proofs.Common.{◌⊎◌, inl, inr, ◌≡◌, ◌≢◌, ℕ, ◌+◌, ◌-◌, ◌<◌, ◌^◌, Bool, true, false, eqb, ltb, ◌&&◌, ◌||◌, is_none, List, [], ◌∷◌, ◌++◌, length, Option, Some, None, Result, Ok, Err, IfSome, refl, sym, ap, subst, ◌∙◌, append_assoc, length-append, arith, true≢false}
+use Rattle.std.proofs.Common.{◌⊎◌, inl, inr, ◌≡◌, ◌≢◌, ℕ, ◌+◌, ◌-◌, ◌<◌, ◌^◌, Bool, true, false, eqb, ltb, ◌&&◌, is_none, List, [], ◌∷◌, ◌++◌, length, Option, Some, None, Result, Ok, Err, IfSome, refl, sym, ap, subst, ◌∙◌, append_assoc, length-append, arith, true≢false}
 use Rattle.std.specs.Fmt.{decimal}
-use Rattle.std.proofs.lemmas.Bool.{cases_Bool, eqb-true, lt-ltb, le-ltb}
+use Rattle.std.proofs.lemmas.Bool.{cases_Bool, eqb-true, lt-ltb, le-ltb, and_parts, or_cases, or_parts}
 use Rattle.annex_base.specs.Decimal.{number_of}
 use Rattle.annex_base.proofs.DecimalLemmas.{number_some}
+use Rattle.annex_base.proofs.Options.{none_by}
 use Rattle.annex_key.specs.declared.fault.KeyFault.{KeyFault}
 use Rattle.annex_key.specs.declared.fault.KeyFault.TheVariants.{NoDashes, BadBackend, BadField, EmptyName, TooLong, BadEscape, BadName, NoMemory}
 use Rattle.annex_key.specs.KeyText.{Parts, is_backend, dash, size_letter, mtime_letter, chunk_size_letter, chunk_letter, field_text, chunk_text}
-use Rattle.annex_key.specs.Reading.{◌>>=◌, begins, comes, has_dashes, word_of, backend_at, number_at, field_at, must_at, chunk_at, checked_name, name_at, parts_at, key_at}
+use Rattle.annex_base.specs.ResultSteps.{◌>>=◌}
+use Rattle.annex_key.specs.Reading.{begins, comes, has_dashes, word_of, backend_at, number_at, field_at, must_at, chunk_at, checked_name, name_at, parts_at, key_at}
 use Rattle.annex_key.specs.Faults.{IsNumber, Front, front_text, IsFront, may_come, HasBadLetter, HasBadNumber, HasName, HasBadName, IsTried, Breaks}
 use Rattle.annex_key.proofs.NameLemmas.{checked_bad}
 use Rattle.annex_key.proofs.ReadingLemmas.{backend_again, number_again, field_again, chunk_again}
 use Rattle.annex_key.proofs.KeyLemmas.{named, from_chunk, from_mtime, from_size, from_backend}
 use Rattle.annex_key.proofs.FaultLemmas.{is_has, has_is, regroup}
-
-none_by : (o : Option ℕ) → ((n : ℕ) → o ≡ Some n → ⊥) → o ≡ None
-none_by None h = refl
-none_by (Some n) h = absurd (h n refl)
 
 -- a word that is no number is a fault at it
 bad_number : (total : ℕ) (bytes : List ℕ) → (¬ IsNumber (word_of bytes)) → number_at total bytes ≡ Err (BadField (total - length bytes))
@@ -132,18 +130,6 @@ abbrev at_place : List ℕ → List ℕ → Option ℕ → Option ℕ → Option
 at_place text backend size mtime cs c tail =
     text ≡ backend ++ (field_text size_letter size ++ (field_text mtime_letter mtime ++ (field_text chunk_size_letter cs ++ (field_text chunk_letter c ++ tail))))
 
-or_parts : (a b : Bool) → (a || b) ≡ false → (a ≡ false) × (b ≡ false)
-or_parts true b h = absurd cc
-or_parts false b h = (refl, h)
-
-or_either : (a b : Bool) → (a || b) ≡ true → (a ≡ true) ⊎ (b ≡ true)
-or_either true b h = inl refl
-or_either false b h = inr h
-
-and_both : (a b : Bool) → (a && b) ≡ true → (a ≡ true) × (b ≡ true)
-and_both true b h = (refl, h)
-and_both false b h = absurd cc
-
 none_is : (o : Option ℕ) → is_none o ≡ true → o ≡ None
 none_is None h = refl
 none_is (Some n) h = absurd (true≢false (sym h))
@@ -196,14 +182,14 @@ letter_breaks text backend size mtime (Some n) (Some m) letter rest is spelled b
 which : (size mtime : Option ℕ) (letter : ℕ) → may_come size mtime None None letter ≡ true → letter ≢ dash
     → (letter ≡ chunk_size_letter) ⊎ (((letter ≡ mtime_letter) × (mtime ≡ None)) ⊎ ((letter ≡ size_letter) × (mtime ≡ None) × (size ≡ None)))
 which size mtime letter may field =
-    elim (or_either _ _ may) [
+    elim (or_cases _ _ may) [
       | inr fourth ↦
-          let p = and_both (eqb letter size_letter && is_none mtime) (is_none size) fourth in
-          let q = and_both (eqb letter size_letter) (is_none mtime) p.0 in
+          let p = and_parts (eqb letter size_letter && is_none mtime) (is_none size) fourth in
+          let q = and_parts (eqb letter size_letter) (is_none mtime) p.0 in
           inr (inr (eqb-true letter size_letter q.0, none_is mtime q.1, none_is size p.1))
-      | inl three ↦ elim (or_either _ _ three) [
-        | inr third ↦ let q = and_both (eqb letter mtime_letter) (is_none mtime) third in inr (inl (eqb-true letter mtime_letter q.0, none_is mtime q.1))
-        | inl two ↦ elim (or_either (eqb letter dash) (eqb letter chunk_size_letter) two) [
+      | inl three ↦ elim (or_cases _ _ three) [
+        | inr third ↦ let q = and_parts (eqb letter mtime_letter) (is_none mtime) third in inr (inl (eqb-true letter mtime_letter q.0, none_is mtime q.1))
+        | inl two ↦ elim (or_cases (eqb letter dash) (eqb letter chunk_size_letter) two) [
           | inl first ↦ absurd (field (eqb-true letter dash first))
           | inr second ↦ inl (eqb-true letter chunk_size_letter second)
         ]

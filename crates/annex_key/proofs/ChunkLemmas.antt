@@ -3,7 +3,8 @@ use Rattle.std.proofs.Common.{◌≡◌, ℕ, ◌+◌, ◌-◌, ◌≤◌, List,
 use Rattle.std.proofs.lemmas.List.{take_at}
 use Rattle.annex_key.specs.declared.fault.KeyFault.{KeyFault}
 use Rattle.annex_key.specs.KeyText.{Parts, IsKey, IsKeyText, key_text, without_chunk, size_letter, mtime_letter, field_text, chunk_text}
-use Rattle.annex_key.specs.Reading.{◌>>=◌, field_at, chunk_at, key_at, around_chunk}
+use Rattle.annex_base.specs.ResultSteps.{◌>>=◌}
+use Rattle.annex_key.specs.Reading.{field_at, chunk_at, key_at, around_chunk}
 use Rattle.annex_key.specs.View.{size_in, size_or_fault, IsKeyed, unchunked_text, chunkless}
 use Rattle.annex_key.proofs.Steps.{ok_is}
 use Rattle.annex_key.proofs.ReadingLemmas.{backend_again, field_again, chunk_again}

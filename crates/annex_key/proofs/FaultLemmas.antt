@@ -1,14 +1,17 @@
 -- The first fault that reading meets is the first rule that the text breaks.
 use Rattle.std.proofs.Common.{◌⊎◌, inl, inr, ◌≡◌, ◌≢◌, ℕ, ◌+◌, ◌-◌, ◌<◌, ◌≤◌, ◌^◌, Bool, true, false, eqb, ltb, ◌&&◌, ◌||◌, List, [], ◌∷◌, ◌++◌, length, drop, is_none, Option, Some, None, Ok, Err, IfSome, refl, sym, ap, subst, ◌∙◌, append_assoc, length-append, arith, true≢false}
-use Rattle.std.proofs.lemmas.Bool.{eqb-true, ltb-true, ltb-false}
+use Rattle.std.proofs.lemmas.Bool.{eqb-true, ltb-true, ltb-false, and_parts, or_from}
 use Rattle.annex_base.specs.Decimal.{number_of}
 use Rattle.annex_base.proofs.DecimalLemmas.{number_is}
+use Rattle.annex_base.proofs.Conditions.{if_is}
+use Rattle.annex_base.proofs.Results.{bind_err, bind_ok, err_ok, guard_err, ok_err}
 use Rattle.annex_key.specs.declared.fault.KeyFault.{KeyFault}
 use Rattle.annex_key.specs.declared.fault.KeyFault.TheVariants.{NoDashes, BadBackend, BadField, EmptyName, TooLong, BadName}
 use Rattle.annex_key.specs.KeyText.{Parts, is_backend, dash, size_letter, mtime_letter, chunk_size_letter, chunk_letter, field_text, chunk_text}
-use Rattle.annex_key.specs.Reading.{◌>>=◌, begins, comes, has_dashes, is_dash, word_of, after_word, backend_at, number_at, field_at, must_at, chunk_at, name_front, checked_name, name_at, parts_at, key_at}
+use Rattle.annex_base.specs.ResultSteps.{◌>>=◌}
+use Rattle.annex_key.specs.Reading.{begins, comes, has_dashes, is_dash, word_of, after_word, backend_at, number_at, field_at, must_at, chunk_at, name_front, checked_name, name_at, parts_at, key_at}
 use Rattle.annex_key.specs.Faults.{HasDashes, IsNumber, Front, front_text, IsFront, may_follow, HasName, IsTried, Breaks}
-use Rattle.annex_key.proofs.Steps.{bind_ok, bind_err, guard_err, chosen, ok_is, err_is, err_ok, ok_err, option_err, both_true, comes_is}
+use Rattle.annex_key.proofs.Steps.{ok_is, err_is, option_err, comes_is}
 use Rattle.annex_key.proofs.WordLemmas.{IsLive, has_dashes-letter}
 use Rattle.annex_key.proofs.NameLemmas.{front_longest}
 use Rattle.annex_key.proofs.ReadingLemmas.{backend_takes, backend_live, number_takes, number_live, field_takes, chunk_takes}
@@ -29,8 +32,8 @@ has_is (b ∷ bs) has =
       chosen_or false c h = inr h
 
       both_dashes : (b : ℕ) (bs : List ℕ) → (eqb b dash && begins dash bs) ≡ true → b ∷ bs ≡ dash ∷ dash ∷ drop 1 bs
-      both_dashes b [] h = absurd (true≢false (sym (both_true (eqb b dash) false h).1))
-      both_dashes b (c ∷ cs) h = let p = both_true (eqb b dash) (eqb c dash) h in rw (eqb-true b dash p.0, eqb-true c dash p.1) refl
+      both_dashes b [] h = absurd (true≢false (sym (and_parts (eqb b dash) false h).1))
+      both_dashes b (c ∷ cs) h = let p = and_parts (eqb b dash) (eqb c dash) h in rw (eqb-true b dash p.0, eqb-true c dash p.1) refl
 
 pub is_has : (text : List ℕ) → HasDashes text → has_dashes text ≡ true
 is_has text has = ap has_dashes has.is ∙ has_dashes-append has.front (dash ∷ dash ∷ has.rest) refl
@@ -49,7 +52,7 @@ number_err total bytes e h =
 field_err : (letter total : ℕ) (bytes : List ℕ) (e : KeyFault) → field_at letter total bytes ≡ Err e → (comes letter bytes ≡ true) × (number_at total (drop 2 bytes) ≡ Err e)
 unfolding field_at
 field_err letter total bytes e h =
-    elim (chosen (comes letter bytes) _ _ _ h) [
+    elim (if_is (comes letter bytes) _ _ _ h) [
       | inl took ↦ elim (bind_err (number_at total (drop 2 bytes)) (λ n. Ok (Some n.0, n.1)) e took.1) [
         | inl failed ↦ (took.0, failed)
         | inr went ↦ absurd (ok_err e (Some went.0.0, went.0.1) went.2)
@@ -61,7 +64,7 @@ field_live : (letter total : ℕ) (bytes : List ℕ) (x : Option ℕ × List ℕ
 unfolding field_at
 field_live letter total bytes x e other alive =
     let P : Option ℕ × List ℕ → Type 0 = λ y. IsLive y.1 in
-    elim (chosen (comes letter bytes) _ _ _ e) [
+    elim (if_is (comes letter bytes) _ _ _ e) [
       | inl took ↦
           let b = bind_ok (number_at total (drop 2 bytes)) (λ n. Ok (Some n.0, n.1)) x took.1 in
           subst P (ok_is (Some b.0.0, b.0.1) x b.2)
@@ -76,7 +79,7 @@ some_none n o p q = cc
 field_none : (letter total : ℕ) (bytes : List ℕ) (x : Option ℕ × List ℕ) → field_at letter total bytes ≡ Ok x → x.0 ≡ None → comes letter x.1 ≡ false
 unfolding field_at
 field_none letter total bytes x e none =
-    elim (chosen (comes letter bytes) _ _ _ e) [
+    elim (if_is (comes letter bytes) _ _ _ e) [
       | inl took ↦
           let b = bind_ok (number_at total (drop 2 bytes)) (λ n. Ok (Some n.0, n.1)) x took.1 in
           absurd (some_none b.0.0 x.0 (ap (λ (y : Option ℕ × List ℕ). y.0) (ok_is (Some b.0.0, b.0.1) x b.2)) none)
@@ -87,7 +90,7 @@ field_none letter total bytes x e none =
 field_same : (letter total : ℕ) (bytes : List ℕ) (x : Option ℕ × List ℕ) → field_at letter total bytes ≡ Ok x → x.0 ≡ None → bytes ≡ x.1
 unfolding field_at
 field_same letter total bytes x e none =
-    elim (chosen (comes letter bytes) _ _ _ e) [
+    elim (if_is (comes letter bytes) _ _ _ e) [
       | inl took ↦
           let b = bind_ok (number_at total (drop 2 bytes)) (λ n. Ok (Some n.0, n.1)) x took.1 in
           absurd (some_none b.0.0 x.0 (ap (λ (y : Option ℕ × List ℕ). y.0) (ok_is (Some b.0.0, b.0.1) x b.2)) none)
@@ -98,13 +101,13 @@ chunk_live : (total : ℕ) (bytes : List ℕ) (x : Option (ℕ × ℕ) × List �
 unfolding chunk_at must_at
 chunk_live total bytes x e alive =
     let P : Option (ℕ × ℕ) × List ℕ → Type 0 = λ y. IsLive y.1 in
-    elim (chosen (comes chunk_size_letter bytes) _ _ _ e) [
+    elim (if_is (comes chunk_size_letter bytes) _ _ _ e) [
       | inl took ↦
           let a = bind_ok (number_at total (drop 2 bytes)) (λ size. must_at chunk_letter total size.1 >>= λ chunk. Ok (Some (size.0, chunk.0), chunk.1)) x took.1 in
           let b = bind_ok (must_at chunk_letter total a.0.1) (λ chunk. Ok (Some (a.0.0, chunk.0), chunk.1)) x a.2 in
           let first = number_live total (drop 2 bytes) a.0 a.1 (sym (has_dashes-letter chunk_size_letter (drop 2 bytes) refl) ∙ ap has_dashes (sym (comes_is chunk_size_letter bytes took.0)) ∙ alive.has) in
           subst P (ok_is (Some (a.0.0, b.0.0), b.0.1) x b.2)
-          (elim (chosen (comes chunk_letter a.0.1) _ (Err (BadField (total - length a.0.1 + 1))) _ b.1) [
+          (elim (if_is (comes chunk_letter a.0.1) _ (Err (BadField (total - length a.0.1 + 1))) _ b.1) [
             | inl second ↦ number_live total (drop 2 a.0.1) b.0 second.1 (sym (has_dashes-letter chunk_letter (drop 2 a.0.1) refl) ∙ ap has_dashes (sym (comes_is chunk_letter a.0.1 second.0)) ∙ first.has)
             | inr left ↦ absurd (err_ok (BadField (total - length a.0.1 + 1)) b.0 left.1)
           ])
@@ -117,7 +120,7 @@ some_none_pair n o p q = cc
 chunk_none : (total : ℕ) (bytes : List ℕ) (x : Option (ℕ × ℕ) × List ℕ) → chunk_at total bytes ≡ Ok x → x.0 ≡ None → (comes chunk_size_letter x.1 ≡ false) × (bytes ≡ x.1)
 unfolding chunk_at
 chunk_none total bytes x e none =
-    elim (chosen (comes chunk_size_letter bytes) _ _ _ e) [
+    elim (if_is (comes chunk_size_letter bytes) _ _ _ e) [
       | inl took ↦
           let a = bind_ok (number_at total (drop 2 bytes)) (λ size. must_at chunk_letter total size.1 >>= λ chunk. Ok (Some (size.0, chunk.0), chunk.1)) x took.1 in
           let b = bind_ok (must_at chunk_letter total a.0.1) (λ chunk. Ok (Some (a.0.0, chunk.0), chunk.1)) x a.2 in
@@ -156,7 +159,7 @@ must_fault : (text : List ℕ) (f : Front) → IsFront f → (bytes : List ℕ) 
     → ((letter : ℕ) → may_follow f letter ≡ eqb letter chunk_letter) → (e : KeyFault) → must_at chunk_letter (length text) bytes ≡ Err e → IsTried text → Breaks e text
 unfolding must_at
 must_fault text f is bytes spelled alive only e h tried =
-    elim (chosen (comes chunk_letter bytes) _ (Err (BadField (length text - length bytes + 1))) _ h) [
+    elim (if_is (comes chunk_letter bytes) _ (Err (BadField (length text - length bytes + 1))) _ h) [
       | inl took ↦ number_fault text f is chunk_letter bytes spelled took.0 (λ same. absurd (omega (arith, same))) (only chunk_letter) e took.1 tried
       | inr left ↦ letter_fault text f is bytes spelled alive (only alive.letter ∙ sym (comes_live chunk_letter bytes alive) ∙ left.0) e (err_is (ℕ × List ℕ) (BadField (length text - length bytes + 1)) e left.1) tried
     ]
@@ -198,9 +201,6 @@ name_may : (backend : List ℕ) (size mtime : Option ℕ) (chunk : Option (ℕ �
 name_may backend size mtime None = refl
 name_may backend size mtime (Some c) = refl
 
-or_false : (a b : Bool) → a ≡ false → b ≡ false → (a || b) ≡ false
-or_false a b p q = rw (p, q) refl
-
 and_none : (a : Bool) (o : Option ℕ) → (o ≡ None → a ≡ false) → (a && is_none o) ≡ false
 and_none a None other = rw (other refl) refl
 and_none true (Some n) other = refl
@@ -221,18 +221,18 @@ name_may_not : (backend : List ℕ) (size mtime : Option ℕ) (chunk : Option (�
     → may_follow (front_of backend size mtime chunk) letter ≡ false
 name_may_not backend size mtime (Some c) letter name chunks mtimes sizes = name
 name_may_not backend size mtime None letter name chunks mtimes sizes =
-    or_false _ _ (or_false _ _ (or_false _ _ name (chunks refl)) (and_none (eqb letter mtime_letter) mtime (mtimes refl))) (and_none_twice (eqb letter size_letter) mtime size (sizes refl))
+    or_from _ _ (or_from _ _ (or_from _ _ name (chunks refl)) (and_none (eqb letter mtime_letter) mtime (mtimes refl))) (and_none_twice (eqb letter size_letter) mtime size (sizes refl))
 
 -- ---- the name
 
 checked_fault : (text name : List ℕ) (place : ℕ) → HasName text name place → place ≡ length text - length name → (e : KeyFault) → checked_name (length text) name ≡ Err e → IsTried text → Breaks e text
 unfolding checked_name
 checked_fault text name place has at e h tried =
-    elim (chosen (eqb (length name) 0) (Err EmptyName) _ _ h) [
+    elim (if_is (eqb (length name) 0) (Err EmptyName) _ _ h) [
       | inl empty ↦
           let none : name ≡ [] = length_zero name (eqb-true (length name) 0 empty.0) in
           subst (λ d. Breaks d text) (err_is (List ℕ) EmptyName e empty.1) (tried, place, subst (λ (w : List ℕ). HasName text w place) none has)
-      | inr some ↦ elim (chosen (ltb (name_front name) (length name)) (Err (BadName (length text - length name + name_front name))) (Ok name) _ some.1) [
+      | inr some ↦ elim (if_is (ltb (name_front name) (length name)) (Err (BadName (length text - length name + name_front name))) (Ok name) _ some.1) [
         | inl bad ↦
             let from : length text - length name + name_front name ≡ place + name_front name = omega (arith, at) in
             subst (λ d. Breaks d text) (err_is (List ℕ) (BadName (length text - length name + name_front name)) e bad.1)
@@ -250,7 +250,7 @@ name_fault : (text : List ℕ) (backend : List ℕ) (size mtime : Option ℕ) (c
 unfolding name_at
 name_fault text backend size mtime chunk is bytes spelled alive chunks mtimes sizes e h tried =
     let f = front_of backend size mtime chunk in
-    elim (chosen (comes dash bytes) _ (Err (BadField (length text - length bytes + 1))) _ h) [
+    elim (if_is (comes dash bytes) _ (Err (BadField (length text - length bytes + 1))) _ h) [
       | inl took ↦
           let name = drop 2 bytes in
           let all : text ≡ front_text f ++ (dash ∷ dash ∷ name) = spelled ∙ ap (λ (w : List ℕ). front_text f ++ w) (comes_is dash bytes took.0) in
@@ -272,7 +272,7 @@ unfolding chunk_at
 chunk_fault text backend size mtime is bytes spelled alive e h tried =
     let total = length text in
     let f = front_of backend size mtime None in
-    elim (chosen (comes chunk_size_letter bytes) _ _ _ h) [
+    elim (if_is (comes chunk_size_letter bytes) _ _ _ h) [
       | inl took ↦ elim (bind_err (number_at total (drop 2 bytes)) (λ n. must_at chunk_letter total n.1 >>= λ chunk. Ok (Some (n.0, chunk.0), chunk.1)) e took.1) [
         | inl failed ↦ number_fault text f is chunk_size_letter bytes spelled took.0 (λ same. absurd (omega (arith, same))) refl e failed tried
         | inr went ↦ elim (bind_err (must_at chunk_letter total went.0.1) (λ chunk. Ok (Some (went.0.0, chunk.0), chunk.1)) e went.2) [
@@ -376,11 +376,11 @@ parts_err text e has h tried =
 pub key_err : (text : List ℕ) (e : KeyFault) → key_at text ≡ Err e → Breaks e text
 unfolding key_at
 key_err text e h =
-    elim (chosen (ltb 1024 (length text)) (Err TooLong) _ _ h) [
+    elim (if_is (ltb 1024 (length text)) (Err TooLong) _ _ h) [
       | inl long ↦ subst (λ d. Breaks d text) (err_is Parts TooLong e long.1) (ltb-true 1024 (length text) long.0)
       | inr short ↦
           let within : length text ≤ 1024 = ltb-false 1024 (length text) short.0 in
-          elim (chosen (has_dashes text) _ (Err NoDashes) _ short.1) [
+          elim (if_is (has_dashes text) _ (Err NoDashes) _ short.1) [
             | inl has ↦ parts_err text e has.0 has.1 (within, has_is text has.0)
             | inr left ↦ subst (λ d. Breaks d text) (err_is Parts NoDashes e left.1) (within, λ has. true≢false (sym (is_has text has) ∙ left.0))
           ]

@@ -1,13 +1,13 @@
 -- A file name stands for one text, or has one first bad escape.
-use Rattle.std.proofs.Common.{◌⊎◌, inl, inr, ◌≡◌, ◌≢◌, ℕ, ◌+◌, Bool, true, false, eqb, ◌||◌, not, List, [], ◌∷◌, ◌++◌, length, Some, None, Result, Ok, Err, IfOk, IsErrAnd, MatchResult, ◌↔◌, refl, sym, ap, subst, ◌∙◌, append_assoc, length-append, true≢false}
-use Rattle.std.proofs.lemmas.Bool.{cases_Bool, eqb-true}
+use Rattle.std.proofs.Common.{◌⊎◌, inl, inr, ◌≡◌, ◌≢◌, ℕ, ◌+◌, true, eqb, ◌||◌, not, List, [], ◌∷◌, ◌++◌, length, Some, None, Result, Ok, Err, IfOk, IsErrAnd, MatchResult, ◌↔◌, refl, sym, ap, subst, ◌∙◌, append_assoc, length-append, true≢false}
+use Rattle.std.proofs.lemmas.Bool.{cases_Bool, eqb-true, and_parts, or_cases}
+use Rattle.std.proofs.lemmas.Option.{none-some, same_Some}
 use Rattle.annex_key.specs.declared.fault.KeyFault.{KeyFault}
 use Rattle.annex_key.specs.declared.fault.KeyFault.TheVariants.{NoDashes, BadBackend, BadField, EmptyName, TooLong, BadEscape, BadName, NoMemory}
 use Rattle.annex_key.specs.KeyFile.{ampersand, percent, colon, slash, ampersand_letter, percent_letter, colon_letter, escaped, file_text, byte_at, after_ampersand, is_bad_escape, HasBadEscape, BreaksFile, StandsForBroken, FailsEscape}
 use Rattle.annex_key.specs.KeyText.{IsKeyText}
 use Rattle.annex_key.specs.Reading.{begins}
 use Rattle.annex_key.specs.Faults.{Breaks}
-use Rattle.annex_key.proofs.Steps.{both_true}
 
 -- what is written of a byte is read as it
 pub byte_at-escaped : (b : ℕ) (rest : List ℕ) → byte_at (escaped b ++ rest) ≡ Some (b, rest)
@@ -26,10 +26,6 @@ byte_at-escaped b rest =
       ]
     ]
 
-or_either : (a b : Bool) → (a || b) ≡ true → (a ≡ true) ⊎ (b ≡ true)
-or_either true b h = inl refl
-or_either false b h = inr h
-
 after_bad : (bs : List ℕ) → not (begins ampersand_letter bs || begins percent_letter bs || begins colon_letter bs) ≡ true → after_ampersand bs ≡ None
 after_bad [] bad = refl
 after_bad (c ∷ cs) bad =
@@ -47,24 +43,18 @@ after_bad (c ∷ cs) bad =
 bad_at : (b : ℕ) (bs : List ℕ) → is_bad_escape (b ∷ bs) ≡ true → byte_at (b ∷ bs) ≡ None
 bad_at b bs bad =
     let P : ℕ → Type 0 = λ c. is_bad_escape (c ∷ bs) ≡ true → byte_at (c ∷ bs) ≡ None in
-    elim (or_either (eqb b colon || eqb b slash) _ bad) [
-      | inl two ↦ elim (or_either (eqb b colon) (eqb b slash) two) [
+    elim (or_cases (eqb b colon || eqb b slash) _ bad) [
+      | inl two ↦ elim (or_cases (eqb b colon) (eqb b slash) two) [
         | inl is ↦ subst P (sym (eqb-true b colon is)) (λ _. refl) bad
         | inr is ↦ subst P (sym (eqb-true b slash is)) (λ _. refl) bad
       ]
-      | inr alone ↦ subst P (sym (eqb-true b ampersand (both_true (eqb b ampersand) _ alone).0)) (λ h. after_bad bs h) bad
+      | inr alone ↦ subst P (sym (eqb-true b ampersand (and_parts (eqb b ampersand) _ alone).0)) (λ h. after_bad bs h) bad
     ]
 
 -- a bad escape is read as nothing
 pub byte_at-bad : (bytes : List ℕ) → is_bad_escape bytes ≡ true → byte_at bytes ≡ None
 byte_at-bad [] bad = absurd (true≢false (sym bad))
 byte_at-bad (b ∷ bs) bad = bad_at b bs bad
-
-none_some : (x : ℕ × List ℕ) → None ≡ Some x → ⊥
-none_some x h = cc
-
-some_is : (x y : ℕ × List ℕ) → Some x ≡ Some y → x ≡ y
-some_is x y h = cc
 
 -- a text's first byte is read from what begins with its file name
 cons_read : (b : ℕ) (bs rest : List ℕ) → byte_at (file_text (b ∷ bs) ++ rest) ≡ Some (b, file_text bs ++ rest)
@@ -73,10 +63,10 @@ cons_read b bs rest = ap byte_at (append_assoc (escaped b) (file_text bs) rest) 
 -- two texts with one file name are one
 pub one_text : (x y : List ℕ) → file_text x ≡ file_text y → x ≡ y
 one_text [] [] same = refl
-one_text [] (c ∷ cs) same = absurd (none_some (c, file_text cs) (ap byte_at same ∙ byte_at-escaped c (file_text cs)))
-one_text (b ∷ bs) [] same = absurd (none_some (b, file_text bs) (sym (sym (byte_at-escaped b (file_text bs)) ∙ ap byte_at same)))
+one_text [] (c ∷ cs) same = absurd (none-some (c, file_text cs) (ap byte_at same ∙ byte_at-escaped c (file_text cs)))
+one_text (b ∷ bs) [] same = absurd (none-some (b, file_text bs) (sym (sym (byte_at-escaped b (file_text bs)) ∙ ap byte_at same)))
 one_text (b ∷ bs) (c ∷ cs) same =
-    let is = some_is (b, file_text bs) (c, file_text cs) (sym (byte_at-escaped b (file_text bs)) ∙ ap byte_at same ∙ byte_at-escaped c (file_text cs)) in
+    let is = same_Some (b, file_text bs) (c, file_text cs) (sym (byte_at-escaped b (file_text bs)) ∙ ap byte_at same ∙ byte_at-escaped c (file_text cs)) in
     let first : b ≡ c = ap (λ (p : ℕ × List ℕ). p.0) is in
     let rest : bs ≡ cs = one_text bs cs (ap (λ (p : ℕ × List ℕ). p.1) is) in
     ap (λ d. d ∷ bs) first ∙ ap (λ (w : List ℕ). c ∷ w) rest
@@ -84,19 +74,19 @@ one_text (b ∷ bs) (c ∷ cs) same =
 -- .. and it has no bad escape
 pub no_bad : (front rest t : List ℕ) → file_text front ++ rest ≡ file_text t → is_bad_escape rest ≡ true → ⊥
 no_bad [] rest [] same bad = true≢false (sym (ap is_bad_escape (sym same) ∙ bad))
-no_bad [] rest (c ∷ cs) same bad = none_some (c, file_text cs) (sym (byte_at-bad rest bad) ∙ ap byte_at same ∙ byte_at-escaped c (file_text cs))
-no_bad (b ∷ bs) rest [] same bad = none_some (b, file_text bs ++ rest) (sym (ap byte_at same) ∙ cons_read b bs rest)
+no_bad [] rest (c ∷ cs) same bad = none-some (c, file_text cs) (sym (byte_at-bad rest bad) ∙ ap byte_at same ∙ byte_at-escaped c (file_text cs))
+no_bad (b ∷ bs) rest [] same bad = none-some (b, file_text bs ++ rest) (sym (ap byte_at same) ∙ cons_read b bs rest)
 no_bad (b ∷ bs) rest (c ∷ cs) same bad =
-    let is = some_is (b, file_text bs ++ rest) (c, file_text cs) (sym (cons_read b bs rest) ∙ ap byte_at same ∙ byte_at-escaped c (file_text cs)) in
+    let is = same_Some (b, file_text bs ++ rest) (c, file_text cs) (sym (cons_read b bs rest) ∙ ap byte_at same ∙ byte_at-escaped c (file_text cs)) in
     no_bad bs rest cs (ap (λ (p : ℕ × List ℕ). p.1) is) bad
 
 -- two bad escapes that nothing bad stands before are at one place
 one_place : (x a y b : List ℕ) → file_text x ++ a ≡ file_text y ++ b → is_bad_escape a ≡ true → is_bad_escape b ≡ true → length (file_text x) ≡ length (file_text y)
 one_place [] a [] b same bad bad' = refl
-one_place [] a (d ∷ ds) b same bad bad' = absurd (none_some (d, file_text ds ++ b) (sym (byte_at-bad a bad) ∙ ap byte_at same ∙ cons_read d ds b))
-one_place (c ∷ cs) a [] b same bad bad' = absurd (none_some (c, file_text cs ++ a) (sym (byte_at-bad b bad') ∙ ap byte_at (sym same) ∙ cons_read c cs a))
+one_place [] a (d ∷ ds) b same bad bad' = absurd (none-some (d, file_text ds ++ b) (sym (byte_at-bad a bad) ∙ ap byte_at same ∙ cons_read d ds b))
+one_place (c ∷ cs) a [] b same bad bad' = absurd (none-some (c, file_text cs ++ a) (sym (byte_at-bad b bad') ∙ ap byte_at (sym same) ∙ cons_read c cs a))
 one_place (c ∷ cs) a (d ∷ ds) b same bad bad' =
-    let is = some_is (c, file_text cs ++ a) (d, file_text ds ++ b) (sym (cons_read c cs a) ∙ ap byte_at same ∙ cons_read d ds b) in
+    let is = same_Some (c, file_text cs ++ a) (d, file_text ds ++ b) (sym (cons_read c cs a) ∙ ap byte_at same ∙ cons_read d ds b) in
     let first : length (escaped c) ≡ length (escaped d) = ap (λ (p : ℕ × List ℕ). length (escaped p.0)) is in
     let rest : length (file_text cs) ≡ length (file_text ds) = one_place cs a ds b (ap (λ (p : ℕ × List ℕ). p.1) is) bad bad' in
     length-append (escaped c) (file_text cs) ∙ ap (λ n. n + length (file_text cs)) first ∙ ap (λ n. length (escaped d) + n) rest ∙ sym (length-append (escaped d) (file_text ds))

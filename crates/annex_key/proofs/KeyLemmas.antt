@@ -1,11 +1,14 @@
 -- What is read is spelled so, and what is spelled so is read.
-use Rattle.std.proofs.Common.{inl, inr, ◌≡◌, ℕ, ◌≤◌, Bool, true, false, ltb, ◌||◌, List, [], ◌∷◌, ◌++◌, length, Option, Some, None, Result, Ok, Err, refl, sym, ap, subst, ◌∙◌}
-use Rattle.std.proofs.lemmas.Bool.{ltb-false, le-ltb}
+use Rattle.std.proofs.Common.{inl, inr, ◌≡◌, ℕ, ◌≤◌, true, false, ltb, List, [], ◌∷◌, ◌++◌, length, Option, Some, None, Result, Ok, Err, refl, sym, ap, subst, ◌∙◌}
+use Rattle.std.proofs.lemmas.Bool.{ltb-false, le-ltb, or_right}
+use Rattle.annex_base.proofs.Conditions.{if_is}
+use Rattle.annex_base.proofs.Results.{bind_ok, err_ok}
 use Rattle.annex_key.specs.declared.fault.KeyFault.{KeyFault}
 use Rattle.annex_key.specs.declared.fault.KeyFault.TheVariants.{NoDashes, TooLong}
 use Rattle.annex_key.specs.KeyText.{Parts, IsKey, IsKeyText, key_text, dash, size_letter, mtime_letter, field_text, chunk_text}
-use Rattle.annex_key.specs.Reading.{◌>>=◌, begins, comes, has_dashes, backend_at, field_at, chunk_at, name_at, parts_at, key_at}
-use Rattle.annex_key.proofs.Steps.{bind_ok, chosen, ok_is, err_ok}
+use Rattle.annex_base.specs.ResultSteps.{◌>>=◌}
+use Rattle.annex_key.specs.Reading.{begins, comes, has_dashes, backend_at, field_at, chunk_at, name_at, parts_at, key_at}
+use Rattle.annex_key.proofs.Steps.{ok_is}
 use Rattle.annex_key.proofs.ReadingLemmas.{backend_takes, field_takes, chunk_takes, name_takes, backend_again, field_again, chunk_again, name_again}
 
 -- after the backend, after the size, after the time, after the chunk
@@ -62,9 +65,9 @@ parts_take bytes k short e =
 pub key_takes : (bytes : List ℕ) (k : Parts) → key_at bytes ≡ Ok k → IsKey k × (bytes ≡ key_text k)
 unfolding key_at
 key_takes bytes k e =
-    elim (chosen (ltb 1024 (length bytes)) (Err TooLong) _ _ e) [
+    elim (if_is (ltb 1024 (length bytes)) (Err TooLong) _ _ e) [
       | inl long ↦ absurd (err_ok TooLong k long.1)
-      | inr short ↦ elim (chosen (has_dashes bytes) _ (Err NoDashes) _ short.1) [
+      | inr short ↦ elim (if_is (has_dashes bytes) _ (Err NoDashes) _ short.1) [
         | inl has ↦ parts_take bytes k (ltb-false 1024 (length bytes) short.0) has.1
         | inr left ↦ absurd (err_ok NoDashes k left.1)
       ]
@@ -99,13 +102,9 @@ parts_again k is =
     ∙ ap (λ (r : Result (Option (ℕ × ℕ) × List ℕ) KeyFault). r >>= from_chunk total k.backend k.size k.mtime) f
     ∙ ap (λ (r : Result (List ℕ) KeyFault). r >>= named k.backend k.size k.mtime k.chunk) g
 
-or_true : (a b : Bool) → b ≡ true → (a || b) ≡ true
-or_true true b is = refl
-or_true false b is = is
-
 pub has_dashes-append : (front rest : List ℕ) → has_dashes rest ≡ true → has_dashes (front ++ rest) ≡ true
 has_dashes-append [] rest has = has
-has_dashes-append (b ∷ bs) rest has = or_true _ _ (has_dashes-append bs rest has)
+has_dashes-append (b ∷ bs) rest has = or_right _ _ (has_dashes-append bs rest has)
 
 pub key_again : (k : Parts) → IsKey k → key_at (key_text k) ≡ Ok k
 unfolding key_at

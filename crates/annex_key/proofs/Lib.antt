@@ -12,3 +12,5 @@ pub mod FileKeyLemmas
 pub mod ChunkLemmas
 pub mod TreeLemmas
 pub mod TreeLaws
+pub mod IndexLemmas
+pub mod IndexedLemmas

@@ -8,11 +8,15 @@ use Rattle.std.proofs.lemmas.Bool.Decides.{nat_tests}
 use Rattle.std.proofs.lemmas.Str.{utf8_valid_len-IsUtf8, IsUtf8-between, IsCharBoundary-start, IsCharBoundary-before_ascii}
 use Rattle.std.proofs.lemmas.List.{get_or-take}
 use Rattle.std.proofs.lemmas.List.Sums.{fails_before_first, passes_at_first, position_or_len_is}
+use Rattle.annex_base.proofs.Conditions.{if_is}
+use Rattle.annex_base.proofs.Results.{err_ok}
 use Rattle.annex_key.specs.declared.fault.KeyFault.TheVariants.{EmptyName, BadName}
-use Rattle.annex_key.specs.KeyText.{IsName, newline}
+use Rattle.annex_base.specs.Lines.{newline}
+use Rattle.annex_key.specs.KeyText.{IsName}
 use Rattle.annex_key.specs.Faults.{IsNameUpTo}
-use Rattle.annex_key.specs.Reading.{is_newline, name_front, checked_name}
-use Rattle.annex_key.proofs.Steps.{chosen, ok_is, err_ok}
+use Rattle.annex_base.specs.Lines.{is_newline}
+use Rattle.annex_key.specs.Reading.{name_front, checked_name}
+use Rattle.annex_key.proofs.Steps.{ok_is}
 use Rattle.annex_key.proofs.Utf8Lemmas.{utf8_valid_len-cases}
 
 at_newline : (b : ℕ) → is_newline b ≡ true → b ≡ newline
@@ -32,9 +36,9 @@ whole_front name whole =
 pub checked_is : (total : ℕ) (name x : List ℕ) → checked_name total name ≡ Ok x → (name ≡ x) × (0 < length x) × IsName x
 unfolding checked_name
 checked_is total name x e =
-    elim (chosen (eqb (length name) 0) (Err EmptyName) _ _ e) [
+    elim (if_is (eqb (length name) 0) (Err EmptyName) _ _ e) [
       | inl empty ↦ absurd (err_ok EmptyName x empty.1)
-      | inr some ↦ elim (chosen (ltb (name_front name) (length name)) (Err (BadName (total - length name + name_front name))) (Ok name) _ some.1) [
+      | inr some ↦ elim (if_is (ltb (name_front name) (length name)) (Err (BadName (total - length name + name_front name))) (Ok name) _ some.1) [
         | inl bad ↦ absurd (err_ok (BadName (total - length name + name_front name)) x bad.1)
         | inr good ↦
             let whole : length name ≤ name_front name = ltb-false (name_front name) (length name) good.0 in

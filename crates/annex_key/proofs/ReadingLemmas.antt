@@ -3,10 +3,13 @@ use Rattle.std.proofs.Common.{inl, inr, ◌≡◌, ℕ, ◌+◌, ◌-◌, ◌<�
 use Rattle.std.specs.Fmt.{decimal}
 use Rattle.annex_base.specs.Decimal.{number_of}
 use Rattle.annex_base.proofs.DecimalLemmas.{number_is, number_some}
+use Rattle.annex_base.proofs.Conditions.{if_is}
+use Rattle.annex_base.proofs.Results.{bind_ok, err_ok, guard_ok}
 use Rattle.annex_key.specs.declared.fault.KeyFault.TheVariants.{BadBackend, BadField}
 use Rattle.annex_key.specs.KeyText.{is_backend, dash, chunk_size_letter, chunk_letter, field_text, chunk_text, IsName}
-use Rattle.annex_key.specs.Reading.{◌>>=◌, begins, comes, has_dashes, word_of, after_word, backend_at, number_at, field_at, must_at, chunk_at, name_at}
-use Rattle.annex_key.proofs.Steps.{bind_ok, guard_ok, chosen, ok_is, err_ok, option_ok, comes_is}
+use Rattle.annex_base.specs.ResultSteps.{◌>>=◌}
+use Rattle.annex_key.specs.Reading.{begins, comes, has_dashes, word_of, after_word, backend_at, number_at, field_at, must_at, chunk_at, name_at}
+use Rattle.annex_key.proofs.Steps.{ok_is, option_ok, comes_is}
 use Rattle.annex_key.proofs.WordLemmas.{word_and_rest, word_again, decimal_no_dash, backend_no_dash, IsLive, live_after_word}
 use Rattle.annex_key.proofs.NameLemmas.{checked_is, checked_again}
 
@@ -64,7 +67,7 @@ IsSmall o = IfSome o (λ n. n < 2 ^ 64)
 pub field_takes : (letter total : ℕ) (bytes : List ℕ) (x : Option ℕ × List ℕ) → field_at letter total bytes ≡ Ok x → (bytes ≡ field_text letter x.0 ++ x.1) × IsSmall x.0
 unfolding field_at
 field_takes letter total bytes x e =
-    elim (chosen (comes letter bytes) _ _ _ e) [
+    elim (if_is (comes letter bytes) _ _ _ e) [
       | inl took ↦
           let b = bind_ok (number_at total (drop 2 bytes)) (λ n. Ok (Some n.0, n.1)) x took.1 in
           let t = number_takes total (drop 2 bytes) b.0 b.1 in
@@ -88,7 +91,7 @@ field_again letter total (Some n) rest small follows other =
 pub must_takes : (letter total : ℕ) (bytes : List ℕ) (x : ℕ × List ℕ) → must_at letter total bytes ≡ Ok x → (bytes ≡ field_text letter (Some x.0) ++ x.1) × (x.0 < 2 ^ 64)
 unfolding must_at
 must_takes letter total bytes x e =
-    elim (chosen (comes letter bytes) _ (Err (BadField (total - length bytes + 1))) _ e) [
+    elim (if_is (comes letter bytes) _ (Err (BadField (total - length bytes + 1))) _ e) [
       | inl took ↦
           let t = number_takes total (drop 2 bytes) x took.1 in
           (comes_is letter bytes took.0 ∙ ap (λ (w : List ℕ). dash ∷ letter ∷ w) t.0, t.1)
@@ -111,7 +114,7 @@ pub chunk_takes : (total : ℕ) (bytes : List ℕ) (x : Option (ℕ × ℕ) × L
 unfolding chunk_at
 chunk_takes total bytes x e =
     let P : Option (ℕ × ℕ) × List ℕ → Type 0 = λ y. (bytes ≡ chunk_text y.0 ++ y.1) × AreSmall y.0 in
-    elim (chosen (comes chunk_size_letter bytes) _ _ _ e) [
+    elim (if_is (comes chunk_size_letter bytes) _ _ _ e) [
       | inl took ↦
           let a = bind_ok (number_at total (drop 2 bytes)) (λ size. must_at chunk_letter total size.1 >>= λ chunk. Ok (Some (size.0, chunk.0), chunk.1)) x took.1 in
           let b = bind_ok (must_at chunk_letter total a.0.1) (λ chunk. Ok (Some (a.0.0, chunk.0), chunk.1)) x a.2 in
@@ -137,7 +140,7 @@ chunk_again total (Some c) rest small follows other =
 pub name_takes : (total : ℕ) (bytes name : List ℕ) → name_at total bytes ≡ Ok name → (bytes ≡ dash ∷ dash ∷ name) × (0 < length name) × IsName name
 unfolding name_at
 name_takes total bytes name e =
-    elim (chosen (comes dash bytes) _ (Err (BadField (total - length bytes + 1))) _ e) [
+    elim (if_is (comes dash bytes) _ (Err (BadField (total - length bytes + 1))) _ e) [
       | inl took ↦
           let c = checked_is total (drop 2 bytes) name took.1 in
           (comes_is dash bytes took.0 ∙ ap (λ (w : List ℕ). dash ∷ dash ∷ w) c.0, c.1, c.2)

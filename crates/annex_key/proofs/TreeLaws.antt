@@ -1,5 +1,5 @@
 -- What the lists of a tree say: its paths and keys are those that a look-up finds.
-use Rattle.std.proofs.Common.{◌≡◌, ◌≢◌, ◌⊎◌, inl, inr, ◌↔◌, ℕ, Bool, true, false, not, List, [], ◌∷◌, filter, slice_index_or, All, AllPairs, Contains, Some, None, Result, Ok, Err, IfOk, OnOk, refl, sym, ap, subst, ◌∙◌, arith, true≢false}
+use Rattle.std.proofs.Common.{◌≡◌, ◌≢◌, ◌⊎◌, inl, inr, ◌↔◌, ℕ, Bool, true, false, not, List, [], ◌∷◌, filter, slice_index_or, All, AllPairs, Contains, Some, Result, Ok, Err, IfOk, OnOk, refl, sym, ap, subst, ◌∙◌, arith, true≢false}
 use Rattle.std.specs.declared.vec.Vec.{Vec}
 use Rattle.std.specs.declared.alloc.Global.{Global}
 use Rattle.std.specs.declared.cmp.Ordering.{Ordering}
@@ -17,8 +17,12 @@ use Rattle.std.proofs.lemmas.Map.Keys.{sorted_head, sorted_tail}
 use Rattle.std.proofs.lemmas.Map.Text.{is_eq-slice_cmp}
 use Rattle.std.proofs.lemmas.Slice.Eq.{bytes_eq-Decides}
 use Rattle.annex_base.specs.ByteOrder.{text_cmp}
+use Rattle.annex_base.proofs.Conditions.{bytes_eq-true}
+use Rattle.annex_base.proofs.Lists.{filter_no, filter_yes}
+use Rattle.std.proofs.lemmas.Option.{none-some, same_Some}
 use Rattle.annex_key.specs.Tree.{Entries, with_key, key_of, paths_of, each_once, distinct_keys}
-use Rattle.annex_key.specs.TreeView.{seen, path_cmp}
+use Rattle.annex_base.specs.ByteOrder.{path_cmp}
+use Rattle.annex_key.specs.TreeView.{seen}
 use Rattle.annex_key.proofs.TreeLemmas.{Row}
 
 -- ---- elements
@@ -38,9 +42,6 @@ there x y xs c = Contains-append_right (x ∷ []) xs y c
 in_none : (y : List ℕ) → Contains [] y → ⊥
 in_none y c = omega (arith, c.1)
 
-same_bytes : (x y : List ℕ) → bytes_eq x y ≡ true → x ≡ y
-same_bytes x y is = (bytes_eq-Decides x y).0 is
-
 are_bytes : (x y : List ℕ) → x ≡ y → bytes_eq x y ≡ true
 are_bytes x y same = (bytes_eq-Decides x y).1 same
 
@@ -54,7 +55,7 @@ head_apart e es path sorted among =
       | inr apart ↦ apart
       | inl tied ↦
           let below : text_cmp e.0 path ≡ Less = All-contains (λ q. text_cmp e.0 q ≡ Less) (keys_of es) path (All-from_recursion (λ q. text_cmp e.0 q ≡ Less) (keys_of es) (sorted_head text_cmp e.0 (keys_of es) sorted)) among in
-          let same : path ≡ e.0 = same_bytes path e.0 (sym (is_eq-slice_cmp path e.0) ∙ tied) in
+          let same : path ≡ e.0 = bytes_eq-true path e.0 (sym (is_eq-slice_cmp path e.0) ∙ tied) in
           absurd (true≢false (sym (are_bytes e.0 path (sym same)) ∙ sym (is_eq-slice_cmp e.0 path) ∙ ap is_eq below))
     ]
 
@@ -98,24 +99,18 @@ has_path (e ∷ es) key path sorted c =
     elim (cases_Bool (has_key key e)) [
       | inr isnt ↦ in_rest (subst (λ w. Contains w path) (paths_of-no e es key isnt) c)
       | inl is ↦ elim (in_cons e.0 path (paths_of es key) (subst (λ w. Contains w path) (paths_of-yes e es key is) c)) [
-        | inl first ↦ lookup-here e es path (subst (λ q. is_at (text_cmp q) e.0 ≡ true) first (at_itself e.0)) ∙ ap Some (same_bytes e.1 key is)
+        | inl first ↦ lookup-here e es path (subst (λ q. is_at (text_cmp q) e.0 ≡ true) first (at_itself e.0)) ∙ ap Some (bytes_eq-true e.1 key is)
         | inr later ↦ in_rest later
       ]
     ]
 
-some_same : (x y : List ℕ) → Some x ≡ Some y → x ≡ y
-some_same x y h = cc
-
-none_some : (x : List ℕ) → None ≡ Some x → ⊥
-none_some x h = cc
-
 gets_path : (es : Entries) (key path : List ℕ) → key_of es path ≡ Some key → Contains (paths_of es key) path
-gets_path [] key path found = absurd (none_some key found)
+gets_path [] key path found = absurd (none-some key found)
 gets_path (e ∷ es) key path found =
     elim (cases_Bool (is_at (text_cmp path) e.0)) [
       | inl at ↦
-          let key_is : e.1 ≡ key = some_same e.1 key (sym (lookup-here e es path at) ∙ found) in
-          let path_is : path ≡ e.0 = same_bytes path e.0 (sym (is_eq-slice_cmp path e.0) ∙ at) in
+          let key_is : e.1 ≡ key = same_Some e.1 key (sym (lookup-here e es path at) ∙ found) in
+          let path_is : path ≡ e.0 = bytes_eq-true path e.0 (sym (is_eq-slice_cmp path e.0) ∙ at) in
           subst (λ w. Contains w path) (sym (paths_of-yes e es key (are_bytes e.1 key key_is)))
           (subst (λ q. Contains (e.0 ∷ paths_of es key) q) (sym path_is) (here e.0 (paths_of es key)))
       | inr apart ↦
@@ -153,18 +148,12 @@ paths_of-sorted (e ∷ es) key sorted =
 abbrev other : List ℕ → List ℕ → Bool
 other x y = not (bytes_eq y x)
 
-filter-yes : (p : List ℕ → Bool) (y : List ℕ) (ys : List (List ℕ)) → p y ≡ true → filter p (y ∷ ys) ≡ y ∷ filter p ys
-filter-yes p y ys is = rw is refl
-
-filter-no : (p : List ℕ → Bool) (y : List ℕ) (ys : List (List ℕ)) → p y ≡ false → filter p (y ∷ ys) ≡ filter p ys
-filter-no p y ys is = rw is refl
-
 filter_in : (p : List ℕ → Bool) (k : List ℕ) (ys : List (List ℕ)) → Contains (filter p ys) k → Contains ys k × (p k ≡ true)
 filter_in p k [] c = absurd (in_none k c)
 filter_in p k (y ∷ ys) c =
     elim (cases_Bool (p y)) [
-      | inr isnt ↦ let r = filter_in p k ys (subst (λ w. Contains w k) (filter-no p y ys isnt) c) in (there y k ys r.0, r.1)
-      | inl is ↦ elim (in_cons y k (filter p ys) (subst (λ w. Contains w k) (filter-yes p y ys is) c)) [
+      | inr isnt ↦ let r = filter_in p k ys (subst (λ w. Contains w k) (filter_no p y ys isnt) c) in (there y k ys r.0, r.1)
+      | inl is ↦ elim (in_cons y k (filter p ys) (subst (λ w. Contains w k) (filter_yes p y ys is) c)) [
         | inl first ↦ (subst (λ q. Contains (y ∷ ys) q) first (here y ys), ap p (sym first) ∙ is)
         | inr later ↦ let r = filter_in p k ys later in (there y k ys r.0, r.1)
       ]
@@ -173,10 +162,10 @@ filter_in p k (y ∷ ys) c =
 in_filter : (p : List ℕ → Bool) (k : List ℕ) (ys : List (List ℕ)) → Contains ys k → p k ≡ true → Contains (filter p ys) k
 in_filter p k [] c is = absurd (in_none k c)
 in_filter p k (y ∷ ys) c is = elim (in_cons y k ys c) [
-  | inl first ↦ subst (λ w. Contains w k) (sym (filter-yes p y ys (ap p first ∙ is))) (subst (λ q. Contains (y ∷ filter p ys) q) first (here y (filter p ys)))
+  | inl first ↦ subst (λ w. Contains w k) (sym (filter_yes p y ys (ap p first ∙ is))) (subst (λ q. Contains (y ∷ filter p ys) q) first (here y (filter p ys)))
   | inr later ↦ elim (cases_Bool (p y)) [
-    | inl yields ↦ subst (λ w. Contains w k) (sym (filter-yes p y ys yields)) (there y k (filter p ys) (in_filter p k ys later is))
-    | inr drops ↦ subst (λ w. Contains w k) (sym (filter-no p y ys drops)) (in_filter p k ys later is)
+    | inl yields ↦ subst (λ w. Contains w k) (sym (filter_yes p y ys yields)) (there y k (filter p ys) (in_filter p k ys later is))
+    | inr drops ↦ subst (λ w. Contains w k) (sym (filter_no p y ys drops)) (in_filter p k ys later is)
   ]
 ]
 
@@ -192,7 +181,7 @@ in_once [] k c = c
 in_once (x ∷ xs) k c = elim (in_cons x k xs c) [
   | inl first ↦ subst (λ q. Contains (each_once (x ∷ xs)) q) first (here x (filter (other x) (each_once xs)))
   | inr later ↦ elim (cases_Bool (bytes_eq k x)) [
-    | inl is ↦ subst (λ q. Contains (each_once (x ∷ xs)) q) (sym (same_bytes k x is)) (here x (filter (other x) (each_once xs)))
+    | inl is ↦ subst (λ q. Contains (each_once (x ∷ xs)) q) (sym (bytes_eq-true k x is)) (here x (filter (other x) (each_once xs)))
     | inr isnt ↦ there x k (filter (other x) (each_once xs)) (in_filter (other x) k (each_once xs) (in_once xs k later) (ap not isnt))
   ]
 ]
@@ -220,10 +209,10 @@ value_path (e ∷ es) key sorted c = elim (in_cons e.1 key (values_of es) c) [
 ]
 
 path_value : (es : Entries) (key path : List ℕ) → key_of es path ≡ Some key → Contains (values_of es) key
-path_value [] key path found = absurd (none_some key found)
+path_value [] key path found = absurd (none-some key found)
 path_value (e ∷ es) key path found =
     elim (cases_Bool (is_at (text_cmp path) e.0)) [
-      | inl at ↦ subst (λ q. Contains (values_of (e ∷ es)) q) (some_same e.1 key (sym (lookup-here e es path at) ∙ found)) (here e.1 (values_of es))
+      | inl at ↦ subst (λ q. Contains (values_of (e ∷ es)) q) (same_Some e.1 key (sym (lookup-here e es path at) ∙ found)) (here e.1 (values_of es))
       | inr apart ↦ there e.1 key (values_of es) (path_value es key path (sym (lookup-there e es path apart) ∙ found))
     ]
 
@@ -245,10 +234,6 @@ seen-sorted [] sorted = tt
 seen-sorted (e ∷ es) sorted = (below_seen e.0 es sorted.0, seen-sorted es sorted.1)
 
 -- ---- answers
-
-pub on_ok : {A E : Type 0} (P : Type 0) (r : Result A E) → P → OnOk r P
-on_ok P (Ok x) p = p
-on_ok P (Err e) p = tt
 
 pub of_both : {A E : Type 0} (P Q : A → Type 0) (R : Type 0) (r : Result A E) → IfOk r P → OnOk r R → ((v : A) → P v → R → Q v) → IfOk r Q
 of_both P Q R (Ok x) p q f = f x p q
@@ -284,7 +269,7 @@ key_of-with_key_same (e ∷ es) path key =
 
 apart : (q path : List ℕ) → q ≢ path → is_at (text_cmp q) path ≡ false
 apart q path different = elim (cases_Bool (is_at (text_cmp q) path)) [
-  | inl tied ↦ absurd (different (same_bytes q path (sym (is_eq-slice_cmp q path) ∙ tied)))
+  | inl tied ↦ absurd (different (bytes_eq-true q path (sym (is_eq-slice_cmp q path) ∙ tied)))
   | inr isnt ↦ isnt
 ]
 
@@ -295,7 +280,7 @@ key_of-with_key_other (e ∷ es) path key q different =
     by_order (text_cmp path e.0) (λ o. key_of (match_ordering o ((path, key) ∷ e ∷ es) ((e.0, key) ∷ es) (e ∷ with_key es path key)) q ≡ key_of (e ∷ es) q)
     (λ _. lookup-there (path, key) (e ∷ es) q (apart q path different))
     (λ tied.
-    let same : path ≡ e.0 = same_bytes path e.0 (sym (is_eq-slice_cmp path e.0) ∙ ap is_eq tied) in
+    let same : path ≡ e.0 = bytes_eq-true path e.0 (sym (is_eq-slice_cmp path e.0) ∙ ap is_eq tied) in
     let far : is_at (text_cmp q) e.0 ≡ false = apart q e.0 (λ is. different (is ∙ sym same)) in
     lookup-there (e.0, key) es q far ∙ sym (lookup-there e es q far))
     (λ _. elim (cases_Bool (is_at (text_cmp q) e.0)) [

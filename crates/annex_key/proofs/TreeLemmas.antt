@@ -8,14 +8,16 @@ use Rattle.std.specs.List.{list_any}
 use Rattle.std.specs.Map.{lookup, values_of}
 use Rattle.std.proofs.lemmas.List.{append-nil, map-append}
 use Rattle.std.proofs.lemmas.List.Folds.{list_any-append}
-use Rattle.std.proofs.lemmas.Slice.Eq.{bytes_eq-Decides}
 use Rattle.std.specs.BTreeMap.{insert_entry}
 use Rattle.std.proofs.lemmas.Bool.{cases_Bool}
 use Rattle.std.specs.Str.{bytes_eq}
 use Rattle.indexmap.specs.IndexSet.{insert_key}
 use Rattle.annex_base.specs.ByteOrder.{text_cmp}
+use Rattle.annex_base.proofs.Conditions.{bytes_eq-true}
+use Rattle.annex_base.proofs.Lists.{filter_no, filter_yes}
 use Rattle.annex_key.specs.Tree.{with_key, key_of, each_once, distinct_keys}
-use Rattle.annex_key.specs.TreeView.{seen, path_cmp}
+use Rattle.annex_base.specs.ByteOrder.{path_cmp}
+use Rattle.annex_key.specs.TreeView.{seen}
 
 abbrev pub Row : Type 0
 Row = Vec ℕ Global × List ℕ
@@ -78,27 +80,18 @@ outside acc y = not (list_any (bytes_eq y) acc)
 abbrev other : List ℕ → List ℕ → Bool
 other x y = not (bytes_eq y x)
 
-filter-yes : (p : List ℕ → Bool) (y : List ℕ) (ys : List (List ℕ)) → p y ≡ true → filter p (y ∷ ys) ≡ y ∷ filter p ys
-filter-yes p y ys is = rw is refl
-
-filter-no : (p : List ℕ → Bool) (y : List ℕ) (ys : List (List ℕ)) → p y ≡ false → filter p (y ∷ ys) ≡ filter p ys
-filter-no p y ys is = rw is refl
-
-same_bytes : (x y : List ℕ) → bytes_eq x y ≡ true → x ≡ y
-same_bytes x y is = (bytes_eq-Decides x y).0 is
-
 filter-other : (acc : List (List ℕ)) (x : List ℕ) (ys : List (List ℕ)) → list_any (bytes_eq x) acc ≡ true → filter (outside acc) (filter (other x) ys) ≡ filter (outside acc) ys
 filter-other acc x [] within = refl
 filter-other acc x (y ∷ ys) within =
     elim (cases_Bool (bytes_eq y x)) [
       | inl is ↦
           let dropped : other x y ≡ false = rw is refl in
-          let found : list_any (bytes_eq y) acc ≡ true = ap (λ w. list_any (bytes_eq w) acc) (same_bytes y x is) ∙ within in
+          let found : list_any (bytes_eq y) acc ≡ true = ap (λ w. list_any (bytes_eq w) acc) (bytes_eq-true y x is) ∙ within in
           let gone : outside acc y ≡ false = rw found refl in
-          ap (filter (outside acc)) (filter-no (other x) y ys dropped) ∙ filter-other acc x ys within ∙ sym (filter-no (outside acc) y ys gone)
+          ap (filter (outside acc)) (filter_no (other x) y ys dropped) ∙ filter-other acc x ys within ∙ sym (filter_no (outside acc) y ys gone)
       | inr isnt ↦
           let kept : other x y ≡ true = rw isnt refl in
-          ap (filter (outside acc)) (filter-yes (other x) y ys kept) ∙ ap (λ w. cond (outside acc y) (y ∷ w) w) (filter-other acc x ys within)
+          ap (filter (outside acc)) (filter_yes (other x) y ys kept) ∙ ap (λ w. cond (outside acc y) (y ∷ w) w) (filter-other acc x ys within)
     ]
 
 outside-push : (acc : List (List ℕ)) (x y : List ℕ) (b : Bool) → bytes_eq y x ≡ b → outside (acc ++ x ∷ []) y ≡ not (list_any (bytes_eq y) acc || (b || false))
@@ -119,13 +112,13 @@ filter-push acc x (y ∷ ys) =
       | inl is ↦
           let dropped : other x y ≡ false = rw is refl in
           let gone : outside (acc ++ x ∷ []) y ≡ false = outside-push acc x y true is ∙ ap not (or_true (list_any (bytes_eq y) acc)) in
-          filter-no (outside (acc ++ x ∷ [])) y ys gone ∙ filter-push acc x ys ∙ sym (ap (filter (outside acc)) (filter-no (other x) y ys dropped))
+          filter_no (outside (acc ++ x ∷ [])) y ys gone ∙ filter-push acc x ys ∙ sym (ap (filter (outside acc)) (filter_no (other x) y ys dropped))
       | inr isnt ↦
           let kept : other x y ≡ true = rw isnt refl in
           let same : outside (acc ++ x ∷ []) y ≡ outside acc y = outside-push acc x y false isnt ∙ ap not (or_false (list_any (bytes_eq y) acc)) in
           ap (λ b. cond b (y ∷ filter (outside (acc ++ x ∷ [])) ys) (filter (outside (acc ++ x ∷ [])) ys)) same
           ∙ ap (λ w. cond (outside acc y) (y ∷ w) w) (filter-push acc x ys)
-          ∙ sym (ap (filter (outside acc)) (filter-yes (other x) y ys kept))
+          ∙ sym (ap (filter (outside acc)) (filter_yes (other x) y ys kept))
     ]
 
 -- what grows by a list is what was there, and then the rest of the list, each once
@@ -137,14 +130,14 @@ grown_by-is acc (x ∷ xs) =
           let same : grown acc x ≡ acc = rw within refl in
           let gone : outside acc x ≡ false = rw within refl in
           ap (λ w. grown_by w xs) same ∙ grown_by-is acc xs
-          ∙ ap (λ (w : List (List ℕ)). acc ++ w) (sym (filter-other acc x (each_once xs) within) ∙ sym (filter-no (outside acc) x (filter (other x) (each_once xs)) gone))
+          ∙ ap (λ (w : List (List ℕ)). acc ++ w) (sym (filter-other acc x (each_once xs) within) ∙ sym (filter_no (outside acc) x (filter (other x) (each_once xs)) gone))
       | inr new ↦
           let more : grown acc x ≡ acc ++ x ∷ [] = rw new refl in
           let kept : outside acc x ≡ true = rw new refl in
           ap (λ w. grown_by w xs) more ∙ grown_by-is (acc ++ x ∷ []) xs
           ∙ append_assoc acc (x ∷ []) (filter (outside (acc ++ x ∷ [])) (each_once xs))
           ∙ ap (λ (w : List (List ℕ)). acc ++ (x ∷ w)) (filter-push acc x (each_once xs))
-          ∙ ap (λ (w : List (List ℕ)). acc ++ w) (sym (filter-yes (outside acc) x (filter (other x) (each_once xs)) kept))
+          ∙ ap (λ (w : List (List ℕ)). acc ++ w) (sym (filter_yes (outside acc) x (filter (other x) (each_once xs)) kept))
     ]
 
 filter_all : (ys : List (List ℕ)) → filter (outside []) ys ≡ ys

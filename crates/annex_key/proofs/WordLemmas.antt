@@ -5,12 +5,12 @@ use Rattle.std.specs.Fmt.{decimal}
 use Rattle.std.specs.Str.Parse.{digits_value}
 use Rattle.std.proofs.lemmas.Str.Parse.{IsNumeralModel, numerals_by_value}
 use Rattle.std.proofs.lemmas.Fmt.{digits_decimal}
-use Rattle.std.proofs.lemmas.Bool.{eqb-true, cases_Bool}
+use Rattle.std.proofs.lemmas.Bool.{eqb-true, cases_Bool, and_parts}
 use Rattle.std.proofs.lemmas.Bool.Decides.{nat_tests}
 use Rattle.std.proofs.lemmas.List.{take-append-drop, take_at, drop_at}
+use Rattle.annex_base.proofs.Lists.{list_all_weaker}
 use Rattle.annex_key.specs.KeyText.{is_backend, is_backend_byte, is_upper, dash}
 use Rattle.annex_key.specs.Reading.{begins, has_dashes, is_dash, word_of, after_word}
-use Rattle.annex_key.proofs.Steps.{both_true, list_all_weaker}
 
 abbrev no_dash : ℕ → Bool
 no_dash b = not (is_dash b)
@@ -19,7 +19,7 @@ no_dash b = not (is_dash b)
 prefix_of : (p : ℕ → Bool) (front : List ℕ) (b : ℕ) (rest : List ℕ) → list_all p front ≡ true → p b ≡ false → prefix_len p (front ++ b ∷ rest) ≡ length front
 prefix_of p [] b rest all stops = rw stops refl
 prefix_of p (x ∷ xs) b rest all stops =
-    let both = both_true (p x) (list_all p xs) all in rw (both.0, prefix_of p xs b rest both.1 stops) (omega arith)
+    let both = and_parts (p x) (list_all p xs) all in rw (both.0, prefix_of p xs b rest both.1 stops) (omega arith)
 
 pub word_and_rest : (bytes : List ℕ) → bytes ≡ word_of bytes ++ after_word bytes
 word_and_rest bytes = sym (take-append-drop (prefix_len no_dash bytes) bytes)
@@ -56,8 +56,8 @@ upper_is_backend_byte b is = rw is refl
 pub backend_no_dash : (backend : List ℕ) → is_backend backend ≡ true → list_all no_dash backend ≡ true
 backend_no_dash [] is = absurd cc
 backend_no_dash (b ∷ bs) is =
-    let outer = both_true (is_upper b && list_all is_backend_byte bs) (leb (length bs) 31) is in
-    let inner = both_true (is_upper b) (list_all is_backend_byte bs) outer.0 in
+    let outer = and_parts (is_upper b && list_all is_backend_byte bs) (leb (length bs) 31) is in
+    let inner = and_parts (is_upper b) (list_all is_backend_byte bs) outer.0 in
     rw (backend_byte_no_dash b (upper_is_backend_byte b inner.0), list_all_weaker is_backend_byte no_dash backend_byte_no_dash bs inner.1) refl
 
 -- ---- two dashes are found in what is left

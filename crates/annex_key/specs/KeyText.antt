@@ -1,9 +1,10 @@
 -- What a key is, and its one text (git-annex internals: keys; the order of the fields, the limits and the ban on
 -- leading zeros are the project's own).
-use Rattle.std.specs.Prelude.{◌≡◌, ℕ, ◌<◌, ◌≤◌, ◌^◌, ◌==◌, Bool, false, nat_le, ◌&&◌, ◌||◌, IsTrue, List, [], ◌∷◌, ◌++◌, length, Option, Some, None, IfSome, Contains, codes}
+use Rattle.std.specs.Prelude.{◌≡◌, ℕ, ◌<◌, ◌≤◌, ◌^◌, ◌==◌, Bool, false, nat_le, ◌&&◌, ◌||◌, IsTrue, List, [], ◌∷◌, ◌++◌, length, Option, Some, None, IfSome, codes}
 use Rattle.std.specs.List.{list_all, list_any}
 use Rattle.std.specs.Str.{IsUtf8, bytes_eq}
 use Rattle.std.specs.Fmt.{decimal}
+use Rattle.annex_base.specs.Lines.{IsOneLine}
 
 -- a key's parts; a chunk's are its size and its number
 pub record Parts : Type 0 where
@@ -13,12 +14,9 @@ pub record Parts : Type 0 where
   pub chunk : Option (ℕ × ℕ)
   pub name : List ℕ
 
--- the bytes `-`, newline and `_`
+-- the bytes `-` and `_`
 abbrev pub dash : ℕ
 dash = 45
-
-abbrev pub newline : ℕ
-newline = 10
 
 abbrev pub underscore : ℕ
 underscore = 95
@@ -66,7 +64,7 @@ key_text k = k.backend ++ (field_text size_letter k.size ++ (field_text mtime_le
 -- UTF-8 without a newline
 pub record IsName (name : List ℕ) : Type 0 where
   pub utf8 : IsUtf8 name
-  pub one_line : ¬ Contains name newline
+  pub one_line : IsOneLine name
 
 -- the parts of a key
 pub record IsKey (k : Parts) : Type 0 where

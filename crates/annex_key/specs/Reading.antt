@@ -6,14 +6,11 @@ use Rattle.std.specs.List.{before_first, position_or_len}
 use Rattle.std.specs.Option.{option_map}
 use Rattle.std.specs.Str.Lossy.{utf8_valid_len}
 use Rattle.annex_base.specs.Decimal.{number_of}
+use Rattle.annex_base.specs.Lines.{is_newline}
+use Rattle.annex_base.specs.ResultSteps.{◌>>=◌}
 use Rattle.annex_key.specs.declared.fault.KeyFault.{KeyFault}
 use Rattle.annex_key.specs.declared.fault.KeyFault.TheVariants.{NoDashes, BadBackend, BadField, EmptyName, TooLong, BadName}
-use Rattle.annex_key.specs.KeyText.{Parts, is_backend, dash, newline, size_letter, mtime_letter, chunk_size_letter, chunk_letter}
-
-infixl 10 ◌>>=◌
-abbrev pub ◌>>=◌ : {A B : Type 0} → Result A KeyFault → (A → Result B KeyFault) → Result B KeyFault
-(Ok x) >>= f = f x
-(Err e) >>= f = Err e
+use Rattle.annex_key.specs.KeyText.{Parts, is_backend, dash, size_letter, mtime_letter, chunk_size_letter, chunk_letter}
 
 -- what a call returned, seen by view, is what reading gives
 abbrev pub Reads : {X Y : Type 0} → (X → Y) → Result X KeyFault → Result Y KeyFault → Type 0
@@ -32,9 +29,6 @@ has_dashes (b ∷ bs) = ((b == dash) && begins dash bs) || has_dashes bs
 
 abbrev pub is_dash : ℕ → Bool
 is_dash b = b == dash
-
-abbrev pub is_newline : ℕ → Bool
-is_newline b = b == newline
 
 -- what stands before the first dash, and from it on
 abbrev pub word_of : List ℕ → List ℕ

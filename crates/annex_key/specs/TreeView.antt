@@ -1,13 +1,39 @@
--- A map's entries without where their paths lie in memory.
-use Rattle.std.specs.Prelude.{ℕ, List, map}
+-- What the two maps of a tree say: its entries without where their paths lie in memory, and the paths of each key; for private contracts.
+use Rattle.std.specs.Prelude.{◌≡◌, ℕ, Bool, false, not, ◌&&◌, List, map, Option, Some, None}
+use Rattle.std.specs.List.Sorted.{IsStrictlySortedBy}
+use Rattle.std.specs.Map.{keys_of}
+use Rattle.std.specs.Str.{bytes_eq}
+use Rattle.std.specs.BTreeMap as tree
+use Rattle.std.specs.BTreeSet as sorted
+use Rattle.std.specs.BTreeMap.{BTreeMap}
+use Rattle.std.specs.BTreeSet.{BTreeSet}
 use Rattle.std.specs.declared.vec.Vec.{Vec}
 use Rattle.std.specs.declared.alloc.Global.{Global}
-use Rattle.std.specs.declared.cmp.Ordering.{Ordering}
 use Rattle.annex_base.specs.ByteOrder.{text_cmp}
-
--- the order of the map's paths
-abbrev pub path_cmp : Vec ℕ Global → Vec ℕ Global → Ordering
-path_cmp x y = text_cmp x.items y.items
+use Rattle.annex_key.specs.Tree.{Entries, key_of}
 
 abbrev pub seen : List (Vec ℕ Global × List ℕ) → List (List ℕ × List ℕ)
 seen entries = map (λ e. (e.0.items, e.1)) entries
+
+-- whether the path is among those that were found
+abbrev pub has : Option (BTreeSet (List ℕ)) → List ℕ → Bool
+has None path = false
+has (Some paths) path = sorted.contains text_cmp paths path
+
+-- whether the key's paths have this one
+abbrev pub has_path : BTreeMap (List ℕ) (BTreeSet (List ℕ)) → List ℕ → List ℕ → Bool
+has_path index key path = has (tree.get text_cmp index key) path
+
+abbrev pub is_key : Option (List ℕ) → List ℕ → Bool
+is_key None key = false
+is_key (Some k) key = bytes_eq k key
+
+-- a tree in order of its paths, and an index that has each path of each key, and no other
+pub record IsIndexed (tree : Entries) (index : BTreeMap (List ℕ) (BTreeSet (List ℕ))) : Type 0 where
+  pub sorted : IsStrictlySortedBy text_cmp (keys_of tree)
+  pub paths : (key path : List ℕ) → has_path index key path ≡ is_key (key_of tree path) key
+
+-- whether this key was the path's, and is no more
+abbrev pub was_left : Option (List ℕ) → List ℕ → List ℕ → Bool
+was_left None now key = false
+was_left (Some old) now key = not (bytes_eq old now) && bytes_eq old key

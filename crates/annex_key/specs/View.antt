@@ -3,7 +3,8 @@ use Rattle.std.specs.Prelude.{◌≡◌, ℕ, List, Option, Some, None, Result, 
 use Rattle.annex_key.specs.declared.fault.KeyFault.{KeyFault}
 use Rattle.annex_key.specs.declared.fault.KeyFault.TheVariants.{NoMemory}
 use Rattle.annex_key.specs.KeyText.{Parts, key_text, without_chunk}
-use Rattle.annex_key.specs.Reading.{◌>>=◌, key_at, word_of}
+use Rattle.annex_base.specs.ResultSteps.{◌>>=◌}
+use Rattle.annex_key.specs.Reading.{key_at, word_of}
 
 -- the size of what was read, or the fault
 abbrev pub size_in : Result Parts KeyFault → Result (Option ℕ) KeyFault

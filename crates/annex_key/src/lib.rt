@@ -4,6 +4,7 @@
 mod crossing;
 mod escape;
 mod fault;
+mod index;
 mod key;
 mod laws;
 mod reading;

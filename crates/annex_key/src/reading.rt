@@ -2,7 +2,8 @@ ghost use Rattle.std.specs.Prelude.{◌≡◌, ◌≤◌, length, IfOk};
 ghost use Rattle.std.specs.List.{list_all, position_or_len};
 ghost use Rattle.std.specs.Str.Lossy.{utf8_valid_len};
 ghost use Rattle.annex_key.specs.KeyText.{is_backend, is_backend_byte};
-ghost use Rattle.annex_key.specs.Reading.{Reads, is_dash, is_newline, has_dashes, word_of, after_word, backend_at, number_at, comes, field_at, must_at, chunk_at, name_front, checked_name, name_at, key_at, parts_at, around_chunk};
+ghost use Rattle.annex_base.specs.Lines.{is_newline};
+ghost use Rattle.annex_key.specs.Reading.{Reads, is_dash, has_dashes, word_of, after_word, backend_at, number_at, comes, field_at, must_at, chunk_at, name_front, checked_name, name_at, key_at, parts_at, around_chunk};
 ghost use Rattle.annex_key.specs.View.{size_in, size_or_fault};
 
 use crate::fault::KeyFault;

@@ -1,12 +1,12 @@
-ghost use Rattle.std.specs.Prelude.{◌≡◌, ◌≢◌, ◌↔◌, List, ℕ, [], ◌∷◌, ◌++◌, map, Contains, AllPairs, Some, IfOk, OnOk, OnErr};
+ghost use Rattle.std.specs.Prelude.{◌≡◌, ◌≢◌, ◌↔◌, List, ℕ, [], ◌∷◌, ◌++◌, map, Contains, AllPairs, Some, None, IfOk, OnOk, OnErr};
 ghost use Rattle.std.specs.List.Sorted.{IsStrictlySortedBy};
-ghost use Rattle.std.specs.BTreeMap.{insert_entry};
 ghost use Rattle.std.specs.Map.{keys_of};
 ghost use Rattle.std.specs.Option.{option_copied};
 ghost use Rattle.annex_base.specs.ByteOrder.{text_cmp};
 ghost use Rattle.annex_key.specs.Tree.{with_key, key_of, paths_of, distinct_keys};
-ghost use Rattle.annex_key.specs.TreeView.{seen, path_cmp};
+ghost use Rattle.annex_key.specs.TreeView.{seen, IsIndexed};
 
+use crate::index::{PathIndex, add_path, leave_key, paths_of, take_path};
 use crate::key::Key;
 use annex_base::{NoMemory, Text};
 use indexmap::IndexSet;
@@ -19,15 +19,19 @@ use std::marker::Model;
 #[derive(Debug, Drop)]
 pub struct Tree {
     keys: BTreeMap<Vec<u8>, Key>,
+    // The same the other way round.
+    paths: PathIndex,
 }
 
 impl Model for Tree {
     ghost use Rattle.std.specs.Prelude.{List, ℕ};
-    ghost use Rattle.annex_key.specs.TreeView.{seen};
+    ghost use Rattle.annex_key.specs.TreeView.{seen, IsIndexed};
 
     ghost Value = { List (List ℕ × List ℕ) };
 
     ghost view = { λ t. seen t.keys.entries };
+
+    ghost invariant = { λ t. IsIndexed (seen t.keys.entries) t.paths };
 }
 
 impl Tree {
@@ -37,6 +41,7 @@ impl Tree {
     {
         Ok(Tree {
             keys: BTreeMap::new(alloc),
+            paths: BTreeMap::new(alloc),
         })
     }
 
@@ -47,10 +52,7 @@ impl Tree {
         ensures others { OnOk result ((other : List ℕ) → other ≢ path.now → key_of self.new other ≡ key_of self.old other) }
         ensures err { OnErr result (self.new ≡ self.old) }
     {
-        let path = Vec::from_slice(alloc, path)?;
-        let copy = key.copy()?;
-        put(&mut self.keys, path, copy)?;
-        Ok(())
+        put(&mut self.keys, &mut self.paths, alloc, path, key)
     }
 
     /// The key of the path.
@@ -66,7 +68,7 @@ impl Tree {
         ensures order { IfOk result (λ v. IsStrictlySortedBy text_cmp v.items) }
         ensures each { IfOk result (λ v. (path : List ℕ) → Contains v.items path ↔ (key_of self.now path ≡ Some key.now)) }
     {
-        paths_in(alloc, &self.keys, key)
+        paths_of(&self.paths, alloc, key)
     }
 
     /// Each key once, in order of its first path in byte order.
@@ -79,38 +81,48 @@ impl Tree {
     }
 }
 
-fn put(keys: &mut BTreeMap<Vec<u8>, Key>, path: Vec<u8>, key: Key) -> Result<(), NoMemory>
-    ensures ok { OnOk result (keys.new.entries ≡ insert_entry path_cmp keys.old.entries path key) }
-    ensures err { OnErr result (keys.new.entries ≡ keys.old.entries) }
-{
-    keys.insert(path, key)?;
-    Ok(())
-}
-
-fn add_path(
-    paths: &mut Vec<Text>,
+fn put(
+    keys: &mut BTreeMap<Vec<u8>, Key>,
+    paths: &mut PathIndex,
     alloc: Global,
     path: &[u8],
-    other: &Key,
     key: &Key,
 ) -> Result<(), NoMemory>
-    ensures { OnOk result (paths.new.items ≡ paths.old.items ++ paths_of ((path.now, other.now) ∷ []) key.now) }
+    requires { IsIndexed (seen keys.old.entries) paths.old }
+    ensures ok { OnOk result (seen keys.new.entries ≡ with_key (seen keys.old.entries) path.now key.now) }
+    ensures err { OnErr result (seen keys.new.entries ≡ seen keys.old.entries) }
+    ensures indexed { IsIndexed (seen keys.new.entries) paths.new }
 {
-    if other == key {
-        paths.push(Text::new(alloc, path)?)?;
+    let text = Text::new(alloc, path)?;
+    let row = Vec::from_slice(alloc, path)?;
+    let copy = key.copy()?;
+    let added = text.clone()?;
+    add_path(paths, alloc, key.copy()?, added)?;
+    match replace(keys, row, copy) {
+        Ok(old) => {
+            leave_key(paths, old.as_ref(), key, &text);
+            Ok(())
+        }
+        Err(NoMemory) => {
+            take_path(paths, key, &text);
+            Err(NoMemory)
+        }
     }
-    Ok(())
 }
 
-fn paths_in(alloc: Global, keys: &BTreeMap<Vec<u8>, Key>, key: &Key) -> Result<Vec<Text>, NoMemory>
-    ensures value { IfOk result (λ v. v.items ≡ paths_of (seen keys.now.entries) key.now) }
-    ensures ordered { OnOk result (IsStrictlySortedBy text_cmp (keys_of (seen keys.now.entries))) }
+// What stood there before.
+fn replace(
+    keys: &mut BTreeMap<Vec<u8>, Key>,
+    path: Vec<u8>,
+    key: Key,
+) -> Result<Option<Key>, NoMemory>
+    ensures ok { OnOk result (seen keys.new.entries ≡ with_key (seen keys.old.entries) path.items key) }
+    ensures old { IfOk result (λ old. old ≡ key_of (seen keys.old.entries) path.items) }
+    ensures err { OnErr result (seen keys.new.entries ≡ seen keys.old.entries) }
+    ensures none { OnErr result (key_of (seen keys.old.entries) path.items ≡ None) }
+    ensures sorted { IsStrictlySortedBy text_cmp (keys_of (seen keys.new.entries)) }
 {
-    let mut paths = Vec::new(alloc);
-    for (path, other) in keys.iter() {
-        add_path(&mut paths, alloc, path, other, key)?;
-    }
-    Ok(paths)
+    Ok(keys.insert(path, key)?)
 }
 
 fn copies(alloc: Global, keys: &[&Key]) -> Result<Vec<Key>, NoMemory>

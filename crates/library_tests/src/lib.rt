@@ -13,3 +13,19 @@ mod drop_proof_tests;
 mod hash_dirs_tests;
 #[cfg(test)]
 mod union_merge_tests;
+#[cfg(test)]
+mod log_lines_tests;
+#[cfg(test)]
+mod log_readings_tests;
+#[cfg(test)]
+mod trust_groups_tests;
+#[cfg(test)]
+mod report_text_tests;
+#[cfg(test)]
+mod run_data_tests;
+#[cfg(test)]
+mod script_lang_tests;
+#[cfg(test)]
+mod thin_laws_tests;
+#[cfg(test)]
+mod thin_model_tests;

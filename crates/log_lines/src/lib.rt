@@ -19,8 +19,6 @@ mod repo;
 mod stamping;
 mod stamps;
 mod statement;
-#[cfg(test)]
-mod tests;
 mod texts;
 mod trust;
 mod words;

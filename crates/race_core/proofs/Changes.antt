@@ -23,7 +23,7 @@ use Rattle.run_model.specs.Past.{present, bar, is_of, decided, decided_after, De
 use Rattle.node_model.specs.Rows.{present_after, bar_after, option_is, holds_after, keep_of, same_owner, is_lost_ordered, blocks, is_blocked, restart}
 use Rattle.run_model.specs.Frames.{Sent, sender, is_job}
 use Rattle.run_model.specs.Drops.{Vouch, Lock, Look, look_of, vouch_kind, vouch, vouches, newer, Asker, asker, is_asker, asked_at, tells, told_by, reply}
-use Rattle.run_model.specs.Safety.{Removal, removal, removal_by, local_removal, remote_removal, ordered, sent_order, add_removal}
+use Rattle.run_model.specs.Safety.{Removal, removal, removal_by, barred_removal, local_removal, remote_removal, ordered, sent_order, add_removal}
 use Rattle.annex_base.specs.Lists.{Member}
 use Rattle.race_core.proofs.Flights.{some_inj, occurs_vouch, occurs_vouches, sender_occurs}
 use Rattle.race_core.proofs.Lists.{eqb_refl, or_left, or_right, if_is, and_true, eqb_true, or_true, both, any_map, any_was_map, any_filter, any_was_filter, any_weaker, Member-append, Member-left, Member-right, true_or_false}
@@ -378,6 +378,7 @@ pub record Removes (repos : List RepoView) (e : Entry) (past : List Entry) (key 
   pub repo_is : is_of r e ≡ true
   pub kind_is : e.kind ≡ Gone (by_job j) key
   pub decided_is : decided past r j ≡ Some d
+  pub key_is : d.key ≡ key
   pub is : x ≡ local_removal repos past r j d
 
 -- the entry is the removal of a remote drop
@@ -387,42 +388,46 @@ pub record Obeys (repos : List RepoView) (e : Entry) (past : List Entry) (key : 
   pub slot : ℕ
   pub s : Sent
   pub j : ℕ
-  pub target : ℕ
   pub deadline : Option ℕ
   pub need : Need
   pub repo_is : is_of r e ≡ true
   pub kind_is : e.kind ≡ Gone (Peer a slot) key
   pub sent_is : sender past r e.taken ≡ Some s
-  pub order_is : s.entry.kind ≡ Order j target deadline need key
+  pub from_a : is_of a s.entry ≡ true
+  pub order_is : s.entry.kind ≡ Order j r deadline need key
   pub is : x ≡ remote_removal repos past r a j need s
 
 abbrev pub LocalKind : List RepoView → List Entry → List ℕ → Option ℕ → EntryKind → Removal → Type 0
 LocalKind repos past key repo kind x =
-    (r : ℕ) × ((j : ℕ) × ((d : Decision) × ((repo ≡ Some r) × (kind ≡ Gone (by_job j) key) × (decided past r j ≡ Some d) × (x ≡ local_removal repos past r j d))))
+    (r : ℕ) × ((j : ℕ) × ((d : Decision) × ((repo ≡ Some r) × (kind ≡ Gone (by_job j) key) × (decided past r j ≡ Some d) × (d.key ≡ key) × (x ≡ local_removal repos past r j d))))
 
 abbrev pub RemoteKind : List RepoView → List Entry → List ℕ → Option ℕ → Option FrameView → EntryKind → Removal → Type 0
 RemoteKind repos past key repo taken kind x =
-    (r a slot : ℕ) × ((s : Sent) × ((j target : ℕ) × ((deadline : Option ℕ) × ((need : Need) ×
-    ((repo ≡ Some r) × (kind ≡ Gone (Peer a slot) key) × (sender past r taken ≡ Some s) × (s.entry.kind ≡ Order j target deadline need key) × (x ≡ remote_removal repos past r a j need s))))))
+    (r a slot : ℕ) × ((s : Sent) × ((j : ℕ) × ((deadline : Option ℕ) × ((need : Need) ×
+    ((repo ≡ Some r) × (kind ≡ Gone (Peer a slot) key) × (sender past r taken ≡ Some s) × (is_of a s.entry ≡ true) × (s.entry.kind ≡ Order j r deadline need key) × (x ≡ remote_removal repos past r a j need s))))))
 
 ordered-kind : (repos : List RepoView) (past : List Entry) (key : List ℕ) (r a : ℕ) (s : Sent) (kind : EntryKind) (x : Removal) → ordered repos past key r a s kind ≡ Some x
-    → (j target : ℕ) × ((deadline : Option ℕ) × ((need : Need) × ((kind ≡ Order j target deadline need key) × (x ≡ remote_removal repos past r a j need s))))
-ordered-kind repos past key r a s (Order j target deadline need k) x h = elim (if_is (bytes_eq k key) (Some (remote_removal repos past r a j need s)) None (Some x) h) [
-  | inl t ↦ (j, target, (deadline, (need, (ap (λ y. Order j target deadline need y) ((bytes_decides k key).0 t.0), some_inj _ _ (sym t.1)))))
+    → (j : ℕ) × ((deadline : Option ℕ) × ((need : Need) × ((kind ≡ Order j r deadline need key) × (x ≡ remote_removal repos past r a j need s))))
+ordered-kind repos past key r a s (Order j target deadline need k) x h = elim (if_is ((target == r) && bytes_eq k key) (Some (remote_removal repos past r a j need s)) None (Some x) h) [
+  | inl t ↦ let w = and_true (target == r) (bytes_eq k key) t.0 in
+      (j, (deadline, (need, (ap (λ y. Order j y deadline need k) (eqb_true target r w.0) ∙ ap (λ y. Order j r deadline need y) ((bytes_decides k key).0 w.1), some_inj _ _ (sym t.1)))))
   | inr t ↦ cc
 ]
 ordered-kind repos past key r a s _ x h = cc
 
 removal-kind : (repos : List RepoView) (past : List Entry) (key : List ℕ) (repo : Option ℕ) (taken : Option FrameView) (kind : EntryKind) (x : Removal) → removal_by repos past key repo taken kind ≡ Some x
     → LocalKind repos past key repo kind x ⊎ RemoteKind repos past key repo taken kind x
-removal-kind repos past key (Some r) taken (Gone (by_job j) k) x h = elim (if_is (bytes_eq k key) (option_map (local_removal repos past r j) (decided past r j)) None (Some x) h) [
+removal-kind repos past key (Some r) taken (Gone (by_job j) k) x h = elim (if_is (bytes_eq k key) (barred_removal repos past key r j (decided past r j)) None (Some x) h) [
   | inl t ↦ inl (go (decided past r j) refl t.1 ((bytes_decides k key).0 t.0))
   | inr t ↦ cc
 ]
   where
-    go : (o : Option Decision) → decided past r j ≡ o → option_map (local_removal repos past r j) o ≡ Some x → k ≡ key → LocalKind repos past key (Some r) (Gone (by_job j) k) x
+    go : (o : Option Decision) → decided past r j ≡ o → barred_removal repos past key r j o ≡ Some x → k ≡ key → LocalKind repos past key (Some r) (Gone (by_job j) k) x
     go None e f same = cc
-    go (Some d) e f same = (r, (j, (d, (refl, ap (λ y. Gone (by_job j) y) same, e, cc))))
+    go (Some d) e f same = elim (if_is (bytes_eq d.key key) (Some (local_removal repos past r j d)) None (Some x) f) [
+      | inl t ↦ (r, (j, (d, (refl, ap (λ y. Gone (by_job j) y) same, e, (bytes_decides d.key key).0 t.0, some_inj _ _ (sym t.1)))))
+      | inr t ↦ cc
+    ]
 removal-kind repos past key (Some r) taken (Gone (Peer p slot) k) x h = elim (if_is (bytes_eq k key) (sent_order repos past key r p (sender past r taken)) None (Some x) h) [
   | inl t ↦ inr (go (sender past r taken) refl t.1 ((bytes_decides k key).0 t.0))
   | inr t ↦ cc
@@ -430,39 +435,42 @@ removal-kind repos past key (Some r) taken (Gone (Peer p slot) k) x h = elim (if
   where
     go : (o : Option Sent) → sender past r taken ≡ o → sent_order repos past key r p o ≡ Some x → k ≡ key → RemoteKind repos past key (Some r) taken (Gone (Peer p slot) k) x
     go None e f same = cc
-    go (Some s) e f same = let w = ordered-kind repos past key r p s s.entry.kind x f in
-        (r, p, slot, (s, (w.0, w.1, (w.2.0, (w.2.1.0, (refl, ap (λ y. Gone (Peer p slot) y) same, e, w.2.1.1.0, w.2.1.1.1))))))
+    go (Some s) e f same = elim (if_is (is_of p s.entry) (ordered repos past key r p s s.entry.kind) None (Some x) f) [
+      | inl t ↦ let w = ordered-kind repos past key r p s s.entry.kind x t.1 in
+          (r, p, slot, (s, (w.0, (w.1.0, (w.1.1.0, (refl, ap (λ y. Gone (Peer p slot) y) same, e, t.0, w.1.1.1.0, w.1.1.1.1))))))
+      | inr t ↦ cc
+    ]
 removal-kind repos past key repo taken kind x h = cc
 
 pub removal_was : (repos : List RepoView) (e : Entry) (past : List Entry) (key : List ℕ) (x : Removal) → removal repos past key e ≡ Some x → Removes repos e past key x ⊎ Obeys repos e past key x
 removal_was repos e past key x h = elim (removal-kind repos past key e.repo e.taken e.kind x h) [
   | inl w ↦ let is : is_of w.0 e ≡ true = is_some e.repo w.0 w.1.1.1.0 in
-      inl (record { r = w.0; j = w.1.0; d = w.1.1.0; repo_is = is; kind_is = w.1.1.1.1; decided_is = w.1.1.1.2; is = w.1.1.1.3 })
-  | inr w ↦ let is : is_of w.0 e ≡ true = is_some e.repo w.0 w.3.1.2.1.1.0 in
+      inl (record { r = w.0; j = w.1.0; d = w.1.1.0; repo_is = is; kind_is = w.1.1.1.1; decided_is = w.1.1.1.2; key_is = w.1.1.1.3; is = w.1.1.1.4 })
+  | inr w ↦ let is : is_of w.0 e ≡ true = is_some e.repo w.0 w.3.1.1.1.1.0 in
       inr (record {
         r = w.0;
         a = w.1;
         slot = w.2;
         s = w.3.0;
         j = w.3.1.0;
-        target = w.3.1.1;
-        deadline = w.3.1.2.0;
-        need = w.3.1.2.1.0;
+        deadline = w.3.1.1.0;
+        need = w.3.1.1.1.0;
         repo_is = is;
-        kind_is = w.3.1.2.1.1.1;
-        sent_is = w.3.1.2.1.1.2;
-        order_is = w.3.1.2.1.1.3;
-        is = w.3.1.2.1.1.4;
+        kind_is = w.3.1.1.1.1.1;
+        sent_is = w.3.1.1.1.1.2;
+        from_a = w.3.1.1.1.1.3;
+        order_is = w.3.1.1.1.1.4;
+        is = w.3.1.1.1.1.5;
       })
 ]
 
-pub removal_is : (repos : List RepoView) (e : Entry) (past : List Entry) (r j : ℕ) (key : List ℕ) (d : Decision) → is_of r e ≡ true → e.kind ≡ Gone (by_job j) key → decided past r j ≡ Some d
+pub removal_is : (repos : List RepoView) (e : Entry) (past : List Entry) (r j : ℕ) (key : List ℕ) (d : Decision) → is_of r e ≡ true → e.kind ≡ Gone (by_job j) key → decided past r j ≡ Some d → d.key ≡ key
     → removal repos past key e ≡ Some (local_removal repos past r j d)
-removal_is repos e past r j key d is kind h = rw (repo_of e r is, kind, bytes_refl key, h) refl
+removal_is repos e past r j key d is kind h same = rw (repo_of e r is, kind, bytes_refl key, h, same, bytes_refl key) refl
 
-pub order_is : (repos : List RepoView) (e : Entry) (past : List Entry) (r a slot j target : ℕ) (deadline : Option ℕ) (need : Need) (key : List ℕ) (s : Sent) → is_of r e ≡ true → e.kind ≡ Gone (Peer a slot) key
-    → sender past r e.taken ≡ Some s → s.entry.kind ≡ Order j target deadline need key → removal repos past key e ≡ Some (remote_removal repos past r a j need s)
-order_is repos e past r a slot j target deadline need key s is kind h k = rw (repo_of e r is, kind, bytes_refl key, h, k, bytes_refl key) refl
+pub order_is : (repos : List RepoView) (e : Entry) (past : List Entry) (r a slot j : ℕ) (deadline : Option ℕ) (need : Need) (key : List ℕ) (s : Sent) → is_of r e ≡ true → e.kind ≡ Gone (Peer a slot) key
+    → sender past r e.taken ≡ Some s → is_of a s.entry ≡ true → s.entry.kind ≡ Order j r deadline need key → removal repos past key e ≡ Some (remote_removal repos past r a j need s)
+order_is repos e past r a slot j deadline need key s is kind h from k = rw (repo_of e r is, kind, bytes_refl key, h, from, k, eqb_refl r, bytes_refl key) refl
 
 -- ---- vouches
 

@@ -117,7 +117,7 @@ module _ (run : Run) (place : ℕ) (e : Entry) (h : IsRun run) (at : slice_get r
       let judge : Judge = record { repo = t.a; job = o.j; past = it.before } in
       let enough : is_enough Remote o.need (evidence Remote run.repos it.before t.a o.j t.r o.need) ≡ true = ap (is_enough Remote o.need) (evidence_known Remote run.repos it.before t.a o.j t.r o.need before) ∙ o.found.enough in
       let y : Removal = remote_removal run.repos (past_at run place) t.r t.a o.j o.need (sent_of it) in
-      let y_is : removal run.repos (past_at run place) key e ≡ Some y = order_is run.repos e (past_at run place) t.r t.a t.slot o.j t.r ob.deadline o.need key (sent_of it) t.repo_is t.kind_is from o.kind_is in
+      let y_is : removal run.repos (past_at run place) key e ≡ Some y = order_is run.repos e (past_at run place) t.r t.a t.slot o.j ob.deadline o.need key (sent_of it) t.repo_is t.kind_is from o.repo_is o.kind_is in
       let there : Dropped run.repos (past_at run place) key e y judge = record {
         r = t.r;
         repo_is = t.repo_is;

@@ -92,11 +92,11 @@ later_still repos past e law r place key lt old = record { later = later; copy =
         let at : o.0 ≡ w.d = cc in
         let lt' : place < w.d.place = rw at at o.2 in
         let first : is_later place (local_removal repos past r j w.d) ≡ true = grind (arith, nat_tests) in
-        rw (removal_is repos e past r j key w.d is kind w.decided_is) (or_left _ (list_any (is_later place) (removals repos past key)) first)
+        rw (removal_is repos e past r j key w.d is kind w.decided_is w.key_is) (or_left _ (list_any (is_later place) (removals repos past key)) first)
     gone (Peer a slot) is kind =
         let w = law.obeys r a slot key is kind in
         let first : is_later place (remote_removal repos past r a w.j w.need w.s) ≡ true = grind (arith, nat_tests) in
-        rw (order_is repos e past r a slot w.j w.target w.deadline w.need key w.s is kind w.sent_is w.kind_is) (or_left _ (list_any (is_later place) (removals repos past key)) first)
+        rw (order_is repos e past r a slot w.j w.deadline w.need key w.s is kind w.sent_is w.from_a w.kind_is) (or_left _ (list_any (is_later place) (removals repos past key)) first)
 
     copy : (present past r key ≡ true) ⊎ (list_any (is_later place) (removals repos past key) ≡ true) → (present (e ∷ past) r key ≡ true) ⊎ (list_any (is_later place) (removals repos (e ∷ past) key) ≡ true)
     copy (inl s) = elim (present_stays e past r key s) [ inl k ↦ inl k | inr t ↦ inr (gone t.by t.repo_is t.kind_is) ]
@@ -318,8 +318,8 @@ pub obeyed : (repos : List RepoView) (past : List Entry) (e : Entry) → Lawful 
     → (w : FoundRemote repos past e t.r t.a key) × (x ≡ remote_removal repos past t.r t.a w.j w.need w.s)
 obeyed repos past e law key x t =
     let w = law.obeys t.r t.a t.slot key t.repo_is t.kind_is in
-    let a : removal repos past key e ≡ Some (remote_removal repos past t.r t.a w.j w.need w.s) = order_is repos e past t.r t.a t.slot w.j w.target w.deadline w.need key w.s t.repo_is t.kind_is w.sent_is w.kind_is in
-    let b : removal repos past key e ≡ Some (remote_removal repos past t.r t.a t.j t.need t.s) = order_is repos e past t.r t.a t.slot t.j t.target t.deadline t.need key t.s t.repo_is t.kind_is t.sent_is t.order_is in
+    let a : removal repos past key e ≡ Some (remote_removal repos past t.r t.a w.j w.need w.s) = order_is repos e past t.r t.a t.slot w.j w.deadline w.need key w.s t.repo_is t.kind_is w.sent_is w.from_a w.kind_is in
+    let b : removal repos past key e ≡ Some (remote_removal repos past t.r t.a t.j t.need t.s) = order_is repos e past t.r t.a t.slot t.j t.deadline t.need key t.s t.repo_is t.kind_is t.sent_is t.from_a t.order_is in
     let c : Some (remote_removal repos past t.r t.a t.j t.need t.s) ≡ Some (remote_removal repos past t.r t.a w.j w.need w.s) = sym b ∙ a in
     (w, t.is ∙ some_inj _ _ c)
 

@@ -36,7 +36,7 @@ need_of_removal run key place r j x h w is =
     let past = messages_at run place h in
     let m = ((meets_at run place w.entry h w.entry_is).own r w.repo_is).removes j key w.kind_is in
     let b = barred run.repos (past_at run place) r j key past m.barred in
-    let there = removal_is run.repos w.entry (past_at run place) r j key b.d w.repo_is w.kind_is b.decided_is in
+    let there = removal_is run.repos w.entry (past_at run place) r j key b.d w.repo_is w.kind_is b.decided_is b.key_is in
     ap (λ (y : Removal). y.need) (some_inj _ _ (sym is ∙ there)) ∙ need_is_read run.repos (past_at run place) r j b.d past b.decided_is
 
 -- ---- evidence, in any run

@@ -34,7 +34,8 @@ use Rattle.union_merge.specs.Branch.{Files, lines_at}
 use Rattle.hash_dirs.specs.LogPath.{location_path}
 use Rattle.trust_groups.specs.Settings.{settings}
 use Rattle.run_data.specs.Repos.{id_of}
-use Rattle.thin_model.specs.Logs.{branch, file_path}
+use Rattle.run_data.specs.Files.{file_path}
+use Rattle.thin_model.specs.Logs.{branch}
 use Rattle.thin_model.specs.Past.{begun_job, present}
 use Rattle.thin_model.specs.Safety.{past_at}
 use Rattle.script_lang.specs.declared.command.Command.{Command}
@@ -264,7 +265,18 @@ shown run place (commands.ShowLog r file) = log_text run r (file_path file) (lin
 shown run place (commands.ShowLogs r) = flat_map (λ f. log_text run r f.0 f.1) (branch_at run place r)
 shown run place (commands.ShowNumbers r) = numbers_text run r (settings_at run place r)
 shown run place (commands.ShowLevel r target) = trust_text run r target (settings_at run place r)
-shown run place _ = []
+shown run place (commands.Repo name id offset) = []
+shown run place (commands.Have r key content) = []
+shown run place (commands.Numcopies r n) = []
+shown run place (commands.Mincopies r n) = []
+shown run place (commands.Trust r target level) = []
+shown run place (commands.Describe r target text) = []
+shown run place (commands.Group r target groups) = []
+shown run place (commands.Log r file line) = []
+shown run place (commands.Run r job) = []
+shown run place (commands.Merge r other) = []
+shown run place (commands.Compact r) = []
+shown run place (commands.Wait milliseconds) = []
 
 -- the report from a place on: for each line of the script what ended while it was done, and what it shows then
 abbrev pub report_from : Run → ℕ → List Command → List ℕ → List ℕ

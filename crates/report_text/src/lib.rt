@@ -16,6 +16,3 @@ mod walk;
 mod words;
 
 pub use run_report::report;
-
-#[cfg(test)]
-mod tests;

@@ -1,10 +1,11 @@
+//! What lines show of the files of a branch.
 ghost use Rattle.std.specs.Prelude.{◌≡◌, ◌++◌, OnOk};
 ghost use Rattle.std.specs.List.{flat_map};
 ghost use Rattle.union_merge.specs.Branch.{lines_at};
 ghost use Rattle.union_merge.specs.LineSet.{text_of};
 ghost use Rattle.hash_dirs.specs.LogPath.{location_path};
 ghost use Rattle.trust_groups.specs.Settings.{claims};
-ghost use Rattle.thin_model.specs.Logs.{file_path};
+ghost use Rattle.run_data.specs.Files.{file_path};
 ghost use Rattle.report_text.specs.Report.{lines_text, log_text, location_text, claims_text};
 
 use crate::named::{named, put_joined};
@@ -14,7 +15,6 @@ use annex_key::Key;
 use hash_dirs::location_path;
 use run_data::{LogFile, Run};
 use std::alloc::AllocError;
-use thin_model::file_path;
 use trust_groups::{Levels, claims_of};
 use union_merge::{Branch, LineSet};
 
@@ -97,7 +97,7 @@ pub(crate) fn put_file(
 ) -> Result<(), NoMemory>
     ensures { OnOk result (out.new.items ≡ out.old.items ++ log_text run.now repo (file_path file.now) (lines_at branch.now (file_path file.now))) }
 {
-    let path = file_path(*out.allocator(), file)?;
+    let path = file.path(*out.allocator())?;
     put_log(out, run, repo, path.bytes(), lines_of(branch, path.bytes()))?;
     Ok(())
 }

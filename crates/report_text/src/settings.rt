@@ -1,6 +1,6 @@
 ghost use Rattle.std.specs.Prelude.{◌≡◌, ◌++◌, ◌<◌, length, IfOk, OnOk};
 ghost use Rattle.union_merge.specs.Branch.{lines_at};
-ghost use Rattle.trust_groups.specs.Settings.{level, settings};
+ghost use Rattle.trust_groups.specs.Settings.{settings};
 ghost use Rattle.run_data.specs.Repos.{id_of};
 ghost use Rattle.report_text.specs.Report.{level_text, numbers_text, trust_text};
 
@@ -9,7 +9,7 @@ use crate::words::put_name;
 use annex_base::{Level, NoMemory, RepoId, put_number};
 use run_data::{RepoView, Run};
 use std::alloc::Global;
-use trust_groups::{Levels, groups_of, mincopies_of, numcopies_of};
+use trust_groups::{groups_of, level_of, mincopies_of, numcopies_of};
 use union_merge::Branch;
 
 /// Adds the numbers of copies that the branch sets.
@@ -50,13 +50,6 @@ fn id_of(repos: &[RepoView], repo: u32) -> RepoId
     ensures { result ≡ id_of repos.now repo }
 {
     repos[repo as usize].id
-}
-
-fn level_of(alloc: Global, branch: &Branch, id: RepoId) -> Result<Level, NoMemory>
-    ensures { IfOk result (λ l. l ≡ level (lines_at branch.now) id) }
-{
-    let levels = Levels::read(alloc, branch)?;
-    Ok(levels.level(id))
 }
 
 /// Adds how far the branch trusts a repository, and its groups.

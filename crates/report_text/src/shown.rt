@@ -1,3 +1,4 @@
+//! What the lines of a script show.
 ghost use Rattle.std.specs.Prelude.{◌≡◌, ◌++◌, ℕ, List, [], ◌∷◌, OnOk, IfOk, Some, length, filter, codes};
 ghost use Rattle.std.specs.List.{range_with_len};
 ghost use Rattle.run_data.specs.declared.entry.Entry.{Entry};
@@ -77,7 +78,19 @@ fn shown_repo(command: &Command) -> Option<u32>
         | Command::ShowLogs { repo }
         | Command::ShowNumbers { repo }
         | Command::ShowLevel { repo, .. } => Some(*repo),
-        _ => None,
+        Command::Repo { .. }
+        | Command::Have { .. }
+        | Command::Numcopies { .. }
+        | Command::Mincopies { .. }
+        | Command::Trust { .. }
+        | Command::Describe { .. }
+        | Command::Group { .. }
+        | Command::Log { .. }
+        | Command::Run { .. }
+        | Command::Merge { .. }
+        | Command::Compact { .. }
+        | Command::Wait { .. }
+        | Command::ShowPresence { .. } => None,
     }
 }
 
@@ -99,7 +112,19 @@ fn put_branch(
         Command::ShowLogs { repo } => put_files(out, run, *repo, branch)?,
         Command::ShowNumbers { repo } => put_numbers(out, run, *repo, branch)?,
         Command::ShowLevel { repo, target } => put_level(out, run, *repo, *target, branch)?,
-        _ => {}
+        Command::Repo { .. }
+        | Command::Have { .. }
+        | Command::Numcopies { .. }
+        | Command::Mincopies { .. }
+        | Command::Trust { .. }
+        | Command::Describe { .. }
+        | Command::Group { .. }
+        | Command::Log { .. }
+        | Command::Run { .. }
+        | Command::Merge { .. }
+        | Command::Compact { .. }
+        | Command::Wait { .. }
+        | Command::ShowPresence { .. } => {}
     }
     Ok(())
 }

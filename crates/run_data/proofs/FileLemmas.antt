@@ -11,10 +11,10 @@ use Rattle.log_lines.specs.declared.entry.LogKind.{LogKind}
 use Rattle.log_lines.specs.declared.entry.LogKind.TheVariants as kinds
 use Rattle.union_merge.specs.LineSet.{IsLine}
 use Rattle.hash_dirs.specs.LogPath.{location_path}
-use Rattle.trust_groups.specs.Settings.{file_name}
+use Rattle.log_lines.specs.Files.{file_name, kind_named, named_kinds}
 use Rattle.run_data.specs.declared.entry.LogFile.{LogFile}
 use Rattle.run_data.specs.declared.entry.LogFile.TheVariants.{Location, Of, Other}
-use Rattle.run_data.specs.Files.{HasPath, file_by, file_of, file_path, kind_named, kind_of, location_of, log_name, named_kinds}
+use Rattle.run_data.specs.Files.{HasPath, file_by, file_of, file_path, kind_of, location_of, log_name}
 use Rattle.run_data.proofs.PathLemmas.{IsOneLine, no_newline, location_path_is_line, log_name-path, not_slash, no_location}
 
 -- what is read of a file name is a key's, and the other way round

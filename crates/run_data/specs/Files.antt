@@ -8,7 +8,7 @@ use Rattle.log_lines.specs.declared.entry.LogKind.{LogKind}
 use Rattle.log_lines.specs.declared.entry.LogKind.TheVariants as kinds
 use Rattle.union_merge.specs.LineSet.{IsLine}
 use Rattle.hash_dirs.specs.LogPath.{location_path}
-use Rattle.trust_groups.specs.Settings.{file_name}
+use Rattle.log_lines.specs.Files.{file_name, kind_named}
 use Rattle.run_data.specs.declared.entry.LogFile.{LogFile}
 use Rattle.run_data.specs.declared.entry.LogFile.TheVariants.{Location, Of, Other}
 
@@ -33,14 +33,6 @@ HasPath (Of kind) = kind ≢ kinds.Location
 HasPath (Other name) = IsLine name
 
 -- ---- the file of a path
-
--- the kinds of log with a file of their own
-abbrev pub named_kinds : List LogKind
-named_kinds = kinds.Trust ∷ kinds.Uuid ∷ kinds.Group ∷ kinds.Preferred ∷ kinds.Required ∷ kinds.GroupPreferred ∷ kinds.Numcopies ∷ kinds.Mincopies ∷ []
-
--- the kind whose file has this name
-abbrev pub kind_named : List ℕ → Option LogKind
-kind_named path = find (λ kind. bytes_eq (file_name kind) path) named_kinds
 
 abbrev pub is_slash : ℕ → Bool
 is_slash b = b == 47

@@ -4,27 +4,15 @@ ghost use Rattle.std.specs.List.{after_first, position_or_len};
 ghost use Rattle.log_lines.specs.declared.entry.LogKind.{LogKind};
 ghost use Rattle.log_lines.specs.declared.entry.LogKind.TheVariants as kinds;
 ghost use Rattle.union_merge.specs.LineSet.{IsLine};
-ghost use Rattle.trust_groups.specs.Settings.{file_name};
-ghost use Rattle.run_data.specs.Files.{HasPath, file_of, file_path, is_slash, kind_named, kind_of, location_at, log_name};
+ghost use Rattle.log_lines.specs.Files.{file_name, kind_named};
+ghost use Rattle.run_data.specs.Files.{HasPath, file_of, file_path, is_slash, kind_of, location_at, log_name};
 
 use crate::entry::LogFile;
 use annex_base::{NoMemory, Text};
 use annex_key::{Key, KeyFault};
+use hash_dirs::location_path;
 use log_lines::LogKind;
 use std::alloc::Global;
-use trust_groups::file_name;
-use hash_dirs::location_path;
-
-const NAMED_KINDS: [LogKind; 8] = [
-    LogKind::Trust,
-    LogKind::Uuid,
-    LogKind::Group,
-    LogKind::Preferred,
-    LogKind::Required,
-    LogKind::GroupPreferred,
-    LogKind::Numcopies,
-    LogKind::Mincopies,
-];
 
 impl LogFile {
     /// Where the file stands in a branch (git-annex internals: branch files, location tracking).
@@ -34,7 +22,7 @@ impl LogFile {
     {
         match self {
             LogFile::Location(key) => location_path(alloc, key),
-            LogFile::Of(kind) => Text::new(alloc, file_name(*kind)),
+            LogFile::Of(kind) => Text::new(alloc, kind.file_name()),
             LogFile::Other(name) => Ok(name.clone()?),
         }
     }
@@ -68,16 +56,7 @@ pub fn kind_named(name: &[u8]) -> Option<LogKind>
     ensures found { IfSome result (λ kind. (kind ≢ kinds.Location) × (file_name kind ≡ name.now)) }
     ensures only { (kind : LogKind) → kind ≢ kinds.Location → file_name kind ≡ name.now → result ≡ Some kind }
 {
-    find_named(name)
-}
-
-fn find_named(name: &[u8]) -> Option<LogKind>
-    ensures { result ≡ kind_named name.now }
-{
-    NAMED_KINDS
-        .iter()
-        .copied()
-        .find(|kind| file_name(*kind) == name)
+    LogKind::named(name)
 }
 
 /// The location log of the key whose file has this name, where the path is its; else the file of another name.

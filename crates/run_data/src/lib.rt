@@ -9,11 +9,11 @@ mod row;
 mod run;
 
 pub use entry::{By, Entry, EntryKind, FrameText, FrameView, LogFile};
+pub use files::kind_named;
 pub use job::{
     CandidateCause, Cause, Denial, DropRefusal, Job, JobKind, Outcome, Proof, SourceCause,
     SourceFailure, TransferRefusal,
 };
-pub use files::kind_named;
 pub use laws::files_have_their_paths;
 pub use row::{Hold, HoldView, RowView};
 pub use run::{RepoView, Run, TreeMark};

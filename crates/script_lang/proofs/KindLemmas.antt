@@ -4,8 +4,8 @@ use Rattle.std.specs.Str.{bytes_eq}
 use Rattle.std.proofs.lemmas.Slice.Eq.{bytes_eq-Decides}
 use Rattle.log_lines.specs.declared.entry.LogKind.{LogKind}
 use Rattle.log_lines.specs.declared.entry.LogKind.TheVariants as kinds
-use Rattle.trust_groups.specs.Settings.{file_name}
-use Rattle.run_data.specs.Files.{kind_named}
+use Rattle.log_lines.specs.Files.{file_name}
+use Rattle.log_lines.specs.Files.{kind_named}
 
 differs : (kind : LogKind) → bytes_eq (file_name kind) (codes "location") ≡ false
 differs kinds.Location = refl

@@ -13,7 +13,7 @@ use Rattle.annex_base.proofs.DecimalLemmas.{number_is}
 use Rattle.annex_base.specs.Decimal.{number_of}
 use Rattle.log_lines.specs.declared.entry.LogKind.{LogKind}
 use Rattle.log_lines.specs.declared.entry.LogKind.TheVariants as kinds
-use Rattle.trust_groups.specs.Settings.{file_name}
+use Rattle.log_lines.specs.Files.{file_name}
 use Rattle.run_data.specs.declared.entry.LogFile.{LogFile}
 use Rattle.run_data.specs.declared.entry.LogFile.TheVariants.{Location, Of, Other}
 use Rattle.run_data.specs.declared.job.Job.{Job}

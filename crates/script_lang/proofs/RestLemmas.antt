@@ -5,7 +5,7 @@ use Rattle.std.proofs.lemmas.Bool.{eqb-false, true≢false}
 use Rattle.std.proofs.lemmas.List.Folds.{list_all-map}
 use Rattle.log_lines.specs.LineText.{is_group}
 use Rattle.log_lines.specs.declared.entry.LogKind.{LogKind}
-use Rattle.trust_groups.specs.Settings.{file_name}
+use Rattle.log_lines.specs.Files.{file_name}
 use Rattle.run_data.specs.declared.entry.LogFile.TheVariants.{Location, Of, Other}
 use Rattle.script_lang.specs.declared.command.Command.{Command}
 use Rattle.script_lang.specs.declared.command.Command.TheVariants.{Describe, Group, Log}

@@ -1,5 +1,5 @@
 -- What a line of a script says (own).
-use Rattle.std.specs.Prelude.{◌≡◌, ◌≢◌, ℕ, ◌+◌, ◌<◌, ◌≤◌, ◌^◌, Bool, true, false, nat_le, ◌==◌, ◌&&◌, ◌||◌, List, [], ◌∷◌, ◌++◌, length, Option, Some, None, codes, bytes_eq, slice_get}
+use Rattle.std.specs.Prelude.{◌≡◌, ◌≢◌, ℕ, ◌+◌, ◌<◌, ◌≤◌, ◌^◌, Bool, true, false, nat_le, ◌==◌, ◌&&◌, ◌||◌, List, [], ◌∷◌, ◌++◌, length, map, Option, Some, None, codes, bytes_eq, slice_get}
 use Rattle.std.specs.List.{list_all, list_any}
 use Rattle.std.specs.Fmt.{decimal}
 use Rattle.annex_base.specs.RepoText.{IsId, repo_text}
@@ -7,10 +7,11 @@ use Rattle.annex_base.specs.declared.kinds.Level.{Level}
 use Rattle.annex_base.specs.declared.kinds.Level.TheVariants as levels
 use Rattle.annex_key.specs.KeyText.{IsKeyText, is_digest_backend}
 use Rattle.annex_key.specs.View.{backend_part, size_part}
+use Rattle.log_lines.specs.Files.{file_name}
 use Rattle.log_lines.specs.LineText.{is_group}
 use Rattle.log_lines.specs.declared.entry.LogKind.{LogKind}
 use Rattle.log_lines.specs.declared.entry.LogKind.TheVariants as kinds
-use Rattle.trust_groups.specs.Settings.{file_name}
+use Rattle.log_lines.specs.Files.{file_name}
 use Rattle.run_data.specs.Repos.{fits_size}
 use Rattle.run_data.specs.declared.entry.LogFile.{LogFile}
 use Rattle.run_data.specs.declared.entry.LogFile.TheVariants.{Location, Of, Other}

@@ -3,7 +3,7 @@ ghost use Rattle.std.specs.Prelude.{◌≡◌, ◌<◌, ◌≤◌, ◌^◌, ◌+
 ghost use Rattle.std.specs.Fmt.{decimal};
 ghost use Rattle.std.specs.Str.{bytes_eq};
 ghost use Rattle.std.specs.List.{list_all};
-ghost use Rattle.trust_groups.specs.Settings.{file_name};
+ghost use Rattle.log_lines.specs.Files.{file_name};
 ghost use Rattle.script_lang.specs.Lines.{IsPlainKey, is_content, is_name, is_name_byte, is_written, level_word};
 ghost use Rattle.script_lang.specs.Reading.{Found, Finds};
 

@@ -39,6 +39,3 @@ fn cross_threads() {
     is_send::<Quantity>();
     is_sync::<Quantity>();
 }
-
-#[cfg(test)]
-mod tests;

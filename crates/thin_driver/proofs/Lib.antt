@@ -4,7 +4,6 @@ mod Changes
 mod Deciding
 mod Gathering
 mod Logging
-pub mod Paths
 mod Readings
 mod Scripts
 mod SetUps
@@ -18,6 +17,7 @@ pub mod ThinDropping
 pub mod ThinLines
 pub mod ThinLists
 pub mod ThinLogging
+pub mod ThinMerges
 pub mod ThinPasts
 pub mod ThinPrograms
 pub mod ThinReleasing

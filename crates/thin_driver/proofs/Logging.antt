@@ -9,16 +9,15 @@ use Rattle.log_lines.specs.declared.entry.LogKind.TheVariants as kinds
 use Rattle.log_lines.specs.declared.entry.Topic.{Topic}
 use Rattle.log_lines.specs.declared.entry.Topic.TheVariants as topics
 use Rattle.log_lines.specs.declared.entry.Value.{Value}
-use Rattle.trust_groups.specs.Settings.{file_name}
 use Rattle.run_data.specs.declared.entry.Entry.{Entry}
 use Rattle.run_data.specs.declared.entry.EntryKind.TheVariants.{Log}
 use Rattle.run_data.specs.declared.entry.LogFile.{LogFile}
-use Rattle.run_data.specs.declared.entry.LogFile.TheVariants.{Location, Named}
+use Rattle.run_data.specs.declared.entry.LogFile.TheVariants.{Location, Of}
 use Rattle.run_data.specs.declared.run.RepoView.{RepoView}
 use Rattle.run_data.specs.Repos.{id_of}
 use Rattle.thin_driver.specs.Driver.{added, add_lines, log_some, log_status, set, unknown, written}
 
-any_member : (line : List ℕ) (lines : List (List ℕ)) → list_any (bytes_eq line) lines ≡ true → Member line lines
+pub any_member : (line : List ℕ) (lines : List (List ℕ)) → list_any (bytes_eq line) lines ≡ true → Member line lines
 any_member line [] any = cc
 any_member line (x ∷ xs) any = go (bytes_eq line x) refl any (λ more. any_member line xs more)
   where
@@ -65,10 +64,9 @@ pub log_some_added : (past : List Entry) (r : ℕ) (file : LogFile) (new : List 
 log_some_added past r file [] some = absurd (some refl)
 log_some_added past r file (x ∷ xs) some = refl
 
-pub set_is : (repos : List RepoView) (past : List Entry) (r : ℕ) (kind : LogKind) (topic : Topic) (value : Value) (name line : List ℕ)
-    → name ≡ file_name kind → line ≡ written repos past r (Named name) kind topic value → add_lines past r (Named name) (line ∷ []) ≡ set repos past r kind topic value
-set_is repos past r kind topic value name line n l =
-    ap (λ x. add_lines past r (Named name) (x ∷ [])) l ∙ ap (λ x. add_lines past r (Named x) (written repos past r (Named x) kind topic value ∷ [])) n
+pub set_is : (repos : List RepoView) (past : List Entry) (r : ℕ) (kind : LogKind) (topic : Topic) (value : Value) (line : List ℕ)
+    → line ≡ written repos past r (Of kind) kind topic value → add_lines past r (Of kind) (line ∷ []) ≡ set repos past r kind topic value
+set_is repos past r kind topic value line l = ap (λ x. add_lines past r (Of kind) (x ∷ [])) l
 
 pub log_status_is : (repos : List RepoView) (past : List Entry) (r : ℕ) (key : List ℕ) (status : Value) (k id line : List ℕ) (new : List (List ℕ))
     → k ≡ key → id ≡ id_of repos r → line ≡ written repos past r (Location k) kinds.Location (topics.Repo id) status → new ≡ unknown past r (Location k) (line ∷ [])

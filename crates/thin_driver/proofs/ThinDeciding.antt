@@ -2,6 +2,7 @@
 use Rattle.std.proofs.Common.{◌≡◌, ℕ, ◌<◌, ◌≤◌, Bool, true, false, not, ◌||◌, cond, List, [], ◌∷◌, length, Some, None, ◌⊎◌, inl, inr, refl, sym, ap, ◌∙◌, subst, arith}
 use Rattle.std.specs.Prelude.{if◌then◌else◌, ◌==◌, bytes_eq, filter}
 use Rattle.std.specs.Cmp.Lexicographic.{bytes_decides}
+use Rattle.annex_key.specs.KeyText.{IsKeyText}
 use Rattle.drop_proof.specs.declared.rule.Need.{Need}
 use Rattle.drop_proof.specs.declared.rule.Side.TheVariants.{Local}
 use Rattle.drop_proof.specs.Judging.{is_enough}
@@ -141,9 +142,9 @@ removed repos time past a job need w l e = record {
     kind = Gone (by_job job.number) job.what.key
 
 -- the removal, its log entry and the end, whose proof is the evidence before the removal
-dropped : (repos : List RepoView) (time : ℕ) (past : List Entry) (a : ℕ) (job : Running) (need : Need) → IsDropping repos time past a job need → a < length repos
+dropped : (repos : List RepoView) (time : ℕ) (past : List Entry) (a : ℕ) (job : Running) (need : Need) → IsDropping repos time past a job need → a < length repos → IsKeyText job.what.key
     → is_enough Local need (items repos past a job.number need) ≡ true → IsOver repos time (remove repos need a job.number job.what.key past)
-dropped repos time past a job need w l e =
+dropped repos time past a job need w l is e =
     ended repos time logged a job (Dropped proof) (ending_kept repos time gone a job (Location key) lines removal l may) l refl
     (record { job = job; alone = (ending_kept repos time gone a job (Location key) lines removal l may).alone; number_is = refl; outcome_is = ends })
   where
@@ -169,7 +170,7 @@ dropped repos time past a job need w l e =
     removal = removed repos time past a job need w l e
 
     may : MayLog gone a (Location key) lines
-    may = status_may repos gone a key values.Absent tt
+    may = status_may repos gone a key values.Absent is tt
 
     decided_is : decided gone a job.number ≡ Some w.decision
     decided_is = decided-kept past a kind [] (λ place j was. refl) a job.number ∙ w.decided_is
@@ -225,11 +226,11 @@ lacking repos time past a job need q l e =
       causes_are = refl;
     }
 
-pub decided_over : (repos : List RepoView) (time : ℕ) (past : List Entry) (a : ℕ) (job : Running) (need : Need) → HasAsked repos time past a job need → a < length repos
+pub decided_over : (repos : List RepoView) (time : ℕ) (past : List Entry) (a : ℕ) (job : Running) (need : Need) → HasAsked repos time past a job need → a < length repos → IsKeyText job.what.key
     → IsOver repos time (decide repos need a job.number job.what.key past)
-decided_over repos time past a job need q l = go (is_enough Local need (items repos past a job.number need)) refl
+decided_over repos time past a job need q l is = go (is_enough Local need (items repos past a job.number need)) refl
   where
     go : (b : Bool) → is_enough Local need (items repos past a job.number need) ≡ b
         → IsOver repos time (if b then remove repos need a job.number job.what.key past else refuse repos need a job.number past)
-    go true e = dropped repos time past a job need q.dropping l e
+    go true e = dropped repos time past a job need q.dropping l is e
     go false e = lacking repos time past a job need q l e

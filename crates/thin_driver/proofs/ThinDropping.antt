@@ -1,6 +1,7 @@
 -- A whole drop, from rest to rest.
 use Rattle.std.proofs.Common.{◌≡◌, ℕ, ◌+◌, ◌<◌, ◌≤◌, Bool, true, false, List, [], ◌∷◌, length, Option, Some, None, inl, inr, refl, sym, ap, ◌∙◌, subst, arith, zero-add}
 use Rattle.std.specs.Prelude.{if◌then◌else◌, ◌==◌, bytes_eq}
+use Rattle.annex_key.specs.KeyText.{IsKeyText}
 use Rattle.drop_proof.specs.declared.rule.Need.{Need}
 use Rattle.drop_proof.specs.declared.rule.Side.TheVariants.{Local}
 use Rattle.run_data.specs.declared.run.RepoView.{RepoView}
@@ -145,12 +146,12 @@ bars repos time past a job need w l there is = record {
         later i h = let not_it : (job.number == i) ≡ false = eqb_less job.number i (omega (arith, h, w.counted)) in rw not_it (w.fresh a i h)
 
 -- from its beginning to the release of its holds
-drops : (repos : List RepoView) (time : ℕ) (past : List Entry) (a : ℕ) (job : Running) → HasBegun repos time past a job → a < length repos → present past a job.what.key ≡ true
+drops : (repos : List RepoView) (time : ℕ) (past : List Entry) (a : ℕ) (job : Running) → HasBegun repos time past a job → a < length repos → IsKeyText job.what.key → present past a job.what.key ≡ true
     → IsResting repos time (drop_there repos a job.number job.what.key past)
-drops repos time past a job w l there =
+drops repos time past a job w l is there =
     released repos time (length repos) 0 (decide repos need a job.number key (ask repos need a job.number key cs barred))
     (decided_over repos time (ask repos need a job.number key cs barred) a job need
-    (all_asked repos time need a job cs [] barred (record { dropping = bars repos time past a job need w l there refl; asked = none_asked repos barred a job.number none })) l)
+    (all_asked repos time need a job cs [] barred (record { dropping = bars repos time past a job need w l there refl; asked = none_asked repos barred a job.number none })) l is)
     (zero-add (length repos)) (λ q h. absurd (omega (arith, h)))
   where
     key : List ℕ
@@ -168,9 +169,9 @@ drops repos time past a job w l there =
     none : (r : ℕ) → holds barred r ≡ []
     none r = holds-kept past a (Bar job.number need key) [] (λ hs. refl) r ∙ w.no_hold r
 
-pub dropped_resting : (repos : List RepoView) (time : ℕ) (a : ℕ) (what : Job) (past : List Entry) → IsResting repos time past → a < length repos → IsLocalDrop what
+pub dropped_resting : (repos : List RepoView) (time : ℕ) (a : ℕ) (what : Job) (past : List Entry) → IsResting repos time past → a < length repos → IsLocalDrop what → IsKeyText what.key
     → IsResting repos time (drop_by repos a (begun past a + 1) what past)
-dropped_resting repos time a what past w l local = go (present past a what.key) refl
+dropped_resting repos time a what past w l local is = go (present past a what.key) refl
   where
     job : ℕ
     job = begun past a + 1
@@ -185,5 +186,5 @@ dropped_resting repos time a what past w l local = go (present past a what.key) 
     same = present-kept past a (Begin job what) [] (λ k was. refl) a what.key
 
     go : (b : Bool) → present past a what.key ≡ b → IsResting repos time (if b then drop_there repos a job what.key start else added start a (End job (Refused NotPresent)) [])
-    go true e = drops repos time start a (running job what) begun' l (same ∙ e)
+    go true e = drops repos time start a (running job what) begun' l is (same ∙ e)
     go false e = ends_absent repos time start a (running job what) begun' l (same ∙ e)

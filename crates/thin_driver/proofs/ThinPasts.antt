@@ -10,7 +10,7 @@ use Rattle.thin_model.specs.Thin.{Idle, HasLines, ThinKind, ThinStep, ThinPast}
 use Rattle.thin_driver.specs.Driver.{added, waited, newest_count}
 use Rattle.thin_driver.proofs.ThinLists.{Each-weaker}
 use Rattle.thin_driver.proofs.ThinAdded.{jobs-kept, holds-kept, bar-kept, decided-kept, begun-kept}
-use Rattle.thin_driver.proofs.ThinBranches.{IsFile, HasFiles, files_added}
+use Rattle.thin_driver.proofs.ThinBranches.{HasFiles, files_added}
 
 -- the counts rise by one from 1 on, the newest entry came at this time, and where the counts are small the past is a thin one
 pub record IsGood (repos : List RepoView) (time : ℕ) (past : List Entry) : Type 0 where
@@ -48,7 +48,7 @@ pub good_waited : (repos : List RepoView) (time : ℕ) (past : List Entry) (mill
 good_waited repos time past milliseconds g idle early = record {
   counted = omega (arith, g.counted);
   time_is = ap (λ t. t + milliseconds) g.time_is;
-  has_files = λ q. Each-weaker (IsFile past) (IsFile (waited past milliseconds)) (λ f h. record { set = h.set; known = h.known }) (branch past q) (g.has_files q);
+  has_files = λ q. g.has_files q;
   thin = λ small. (step small, g.thin (omega (arith, small)));
 }
   where

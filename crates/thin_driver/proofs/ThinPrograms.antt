@@ -1,21 +1,16 @@
 -- The driver can run the lines of a program.
 use Rattle.std.proofs.Common.{◌≡◌, ◌≢◌, ℕ, ◌<◌, ◌≤◌, ◌^◌, Bool, true, false, ◌||◌, List, [], ◌∷◌, ◌++◌, length, Some, None, refl, sym, ap, ◌∙◌, subst, arith, append_assoc, length-append}
-use Rattle.std.specs.Prelude.{if◌then◌else◌, bytes_eq}
-use Rattle.std.specs.List.{list_any}
 use Rattle.std.proofs.lemmas.Bool.{true≢false}
 use Rattle.std.proofs.lemmas.List.{length-map}
 use Rattle.annex_base.specs.Lists.{Each}
-use Rattle.log_lines.specs.declared.entry.LogKind.{LogKind}
-use Rattle.log_lines.specs.declared.entry.LogKind.TheVariants as kinds
-use Rattle.trust_groups.specs.Settings.{file_name}
 use Rattle.run_data.specs.declared.run.RepoView.{RepoView}
 use Rattle.run_data.specs.declared.entry.LogFile.{LogFile}
-use Rattle.run_data.specs.declared.entry.LogFile.TheVariants.{Location, Named}
-use Rattle.thin_model.specs.Logs.{kind_of, kind_named, named_kinds}
+use Rattle.run_data.specs.declared.entry.LogFile.TheVariants.{Location, Of, Other}
+use Rattle.run_data.specs.Files.{HasPath, kind_of}
 use Rattle.thin_model.specs.Thin.{IsThinRun}
 use Rattle.script_lang.specs.declared.command.Command.{Command}
 use Rattle.script_lang.specs.declared.command.Command.TheVariants as commands
-use Rattle.script_lang.specs.Lines.{Declared, declared, declared_by, IsLogFile, MayStand}
+use Rattle.script_lang.specs.Lines.{Declared, declared, declared_by, is_written, IsLogFile, MayStand}
 use Rattle.script_lang.specs.Script.{AllStand, HasTexts, IsProgram, IsRawText, is_closed}
 use Rattle.thin_driver.specs.Driver.{view_of, repos_of, run_of, AreShort}
 use Rattle.thin_driver.specs.Standing.{CanRun, IsOneLine}
@@ -24,51 +19,39 @@ use Rattle.thin_driver.proofs.ThinScripts.{thin_lines}
 
 -- ---- files of known kinds
 
-named_some : (ks : List LogKind) (name : List ℕ) → list_any (λ k. bytes_eq (file_name k) name) ks ≡ true → kind_named ks name ≢ None
-named_some [] name h = absurd (true≢false (sym h))
-named_some (k ∷ ks) name h = go (bytes_eq (file_name k) name) h (named_some ks name)
-  where
-    go : (b : Bool) → (b || list_any (λ k. bytes_eq (file_name k) name) ks) ≡ true → (list_any (λ k. bytes_eq (file_name k) name) ks ≡ true → kind_named ks name ≢ None)
-        → (if b then Some k else kind_named ks name) ≢ None
-    go true e more h = cc
-    go false e more h = more e h
-
--- one of five is one of eight
-more_names : (a b c d e x y z : Bool) → (a || (b || (c || (d || (e || false))))) ≡ true → (a || (b || (c || (x || (y || (z || (d || (e || false)))))))) ≡ true
-more_names true b c d e x y z h = refl
-more_names false true c d e x y z h = refl
-more_names false false true d e x y z h = refl
-more_names false false false d e x y z h = after x y z
-  where
-    after : (x y z : Bool) → (x || (y || (z || (d || (e || false))))) ≡ true
-    after true y z = refl
-    after false true z = refl
-    after false false true = refl
-    after false false false = h
-
 file_known : (file : LogFile) → IsLogFile file → kind_of file ≢ None
 file_known (Location key) is e = cc
-file_known (Named name) is e =
-    named_some named_kinds name
-    (more_names (bytes_eq (file_name kinds.Trust) name) (bytes_eq (file_name kinds.Uuid) name) (bytes_eq (file_name kinds.Group) name) (bytes_eq (file_name kinds.Numcopies) name) (bytes_eq (file_name kinds.Mincopies) name)
-    (bytes_eq (file_name kinds.Preferred) name) (bytes_eq (file_name kinds.Required) name) (bytes_eq (file_name kinds.GroupPreferred) name) is) e
+file_known (Of kind) is e = cc
+file_known (Other name) is e = is
+
+file_has_path : (file : LogFile) → IsLogFile file → HasPath file
+file_has_path (Location key) is = is.text
+file_has_path (Of kind) is = λ e. true≢false (sym is ∙ ap is_written e)
+file_has_path (Other name) is = absurd is
 
 -- ---- lines
 
 -- a line that may stand after fewer declarations is one that the driver can run
 one_can : (ds : List Declared) (closed : Bool) (c : Command) (repos : List RepoView) → length ds ≤ length repos → MayStand ds closed c → HasTexts c → CanRun repos c
 one_can ds closed (commands.Repo name id offset) repos l s texts = s.2
-one_can ds closed (commands.Have r key content) repos l s texts = (omega (arith, l, s.0), s.2)
+one_can ds closed (commands.Have r key content) repos l s texts = (omega (arith, l, s.0), s.2, s.1.text)
 one_can ds closed (commands.Numcopies r n) repos l s texts = omega (arith, l, s.0)
 one_can ds closed (commands.Mincopies r n) repos l s texts = omega (arith, l, s.0)
 one_can ds closed (commands.Trust r target level) repos l s texts = (omega (arith, l, s.0), omega (arith, l, s.1))
 one_can ds closed (commands.Describe r target text) repos l s texts = (omega (arith, l, s.0), omega (arith, l, s.1), texts.single)
 one_can ds closed (commands.Group r target groups) repos l s texts = (omega (arith, l, s.0), omega (arith, l, s.1), Each-weaker IsRawText IsOneLine (λ g h. h.single) groups texts)
-one_can ds closed (commands.Log r file line) repos l s texts = (omega (arith, l, s.0), file_known file s.1, s.2, texts.single)
+one_can ds closed (commands.Log r file line) repos l s texts = (omega (arith, l, s.0), file_known file s.1, s.2, texts.single, file_has_path file s.1)
 one_can ds closed (commands.Merge r other) repos l s texts = (omega (arith, l, s.0), omega (arith, l, s.1))
 one_can ds closed (commands.Compact r) repos l s texts = omega (arith, l, s)
-one_can ds closed (commands.Run r job) repos l s texts = (omega (arith, l, s.0), s.2)
-one_can ds closed _ repos l s texts = tt
+one_can ds closed (commands.Run r job) repos l s texts = (omega (arith, l, s.0), s.2, s.1.text)
+one_can ds closed (commands.Wait milliseconds) repos l s texts = tt
+one_can ds closed (commands.ShowPresence key) repos l s texts = tt
+one_can ds closed (commands.ShowClaims r key) repos l s texts = tt
+one_can ds closed (commands.ShowLocation r key) repos l s texts = tt
+one_can ds closed (commands.ShowLog r file) repos l s texts = tt
+one_can ds closed (commands.ShowLogs r) repos l s texts = tt
+one_can ds closed (commands.ShowNumbers r) repos l s texts = tt
+one_can ds closed (commands.ShowLevel r target) repos l s texts = tt
 
 -- the repositories of lines after lines
 pub declared-append : (xs ys : List Command) → declared (xs ++ ys) ≡ declared xs ++ declared ys

@@ -1,4 +1,4 @@
--- Files that are walked in order of path, and which file stands at a path.
+-- Files that are walked in order of path.
 use Rattle.std.proofs.Common.{◌≡◌, ℕ, Bool, true, false, List, [], ◌∷◌, length, Option, Some, None, refl, sym, ap, ◌∙◌}
 use Rattle.std.specs.Prelude.{bytes_eq, nat_lt, if◌then◌else◌}
 use Rattle.std.proofs.lemmas.Slice.Eq.{bytes_eq-Decides}
@@ -9,35 +9,12 @@ use Rattle.run_data.specs.declared.entry.Entry.{Entry}
 use Rattle.run_data.specs.declared.entry.EntryKind.{EntryKind}
 use Rattle.run_data.specs.declared.entry.EntryKind.TheVariants.{Log, Compact}
 use Rattle.run_data.specs.declared.entry.LogFile.{LogFile}
-use Rattle.run_data.specs.declared.entry.LogFile.TheVariants.{Named}
-use Rattle.thin_model.specs.Logs.{compact_lines, file_in, file_named, file_path, kept, kind_of, or_older}
+use Rattle.run_data.specs.Files.{file_path, kind_of}
+use Rattle.thin_model.specs.Logs.{compact_lines, kept}
 use Rattle.thin_driver.specs.declared.driver.Driver.{Driver}
 use Rattle.thin_driver.specs.Driver.{added, compact_one}
 use Rattle.thin_driver.specs.State.{KeepsRun, Rests}
 use Rattle.thin_driver.proofs.AskLoop.{KeepsRun-trans}
-
--- ---- the file at a path
-
-path_in : (path : List ℕ) (kind : EntryKind) (file : LogFile) → file_in path kind ≡ Some file → file_path file ≡ path
-path_in path (Log f) file is = go (bytes_eq (file_path f) path) refl is
-  where
-    go : (b : Bool) → bytes_eq (file_path f) path ≡ b → (if b then Some f else None) ≡ Some file → file_path file ≡ path
-    go true e h = let same : f ≡ file = cc in ap file_path (sym same) ∙ (bytes_eq-Decides (file_path f) path).0 e
-    go false e h = cc
-path_in path _ file is = cc
-
-path_or : (path : List ℕ) (o : Option LogFile) (older : LogFile) → ((file : LogFile) → o ≡ Some file → file_path file ≡ path) → file_path older ≡ path → file_path (or_older o older) ≡ path
-path_or path None older here there = there
-path_or path (Some file) older here there = here file refl
-
--- the file that stands at a path has this path
-pub path_named : (past : List Entry) (path : List ℕ) → file_path (file_named past path) ≡ path
-path_named [] path = refl
-path_named (e ∷ past) path = path_or path (file_in path e.kind) (file_named past path) (path_in path e.kind) (path_named past path)
-
--- where it is no location log, the path is its name
-pub named_is : (past : List Entry) (path name : List ℕ) → Named name ≡ file_named past path → Named path ≡ file_named past path
-named_is past path name is = ap (λ p. Named p) (sym (ap file_path is ∙ path_named past path)) ∙ is
 
 -- ---- a walk over files
 

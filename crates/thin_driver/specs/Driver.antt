@@ -16,7 +16,6 @@ use Rattle.log_lines.specs.declared.entry.Value.TheVariants as values
 use Rattle.log_lines.specs.LineText.{line_text}
 use Rattle.log_lines.specs.Newest.{newest_stamp, next_stamp}
 use Rattle.union_merge.specs.Branch.{Files}
-use Rattle.trust_groups.specs.Settings.{file_name}
 use Rattle.run_data.specs.declared.run.Run.{Run}
 use Rattle.run_data.specs.declared.run.RepoView.{RepoView}
 use Rattle.run_data.specs.declared.entry.Entry.{Entry}
@@ -24,13 +23,14 @@ use Rattle.run_data.specs.declared.entry.By.TheVariants.{Script, Job as by_job, 
 use Rattle.run_data.specs.declared.entry.EntryKind.{EntryKind}
 use Rattle.run_data.specs.declared.entry.EntryKind.TheVariants.{Begin, Gain, Share, Release, Check, Bar, Gone, Log, Compact, Wait, End}
 use Rattle.run_data.specs.declared.entry.LogFile.{LogFile}
-use Rattle.run_data.specs.declared.entry.LogFile.TheVariants.{Location, Named}
+use Rattle.run_data.specs.declared.entry.LogFile.TheVariants.{Location, Of}
 use Rattle.run_data.specs.declared.job.Job.{Job}
 use Rattle.run_data.specs.declared.job.Outcome.TheVariants.{Dropped, Refused}
 use Rattle.run_data.specs.declared.job.DropRefusal.TheVariants.{NotPresent, Lacking}
+use Rattle.run_data.specs.Files.{file_of, file_path, kind_of}
 use Rattle.run_data.specs.Repos.{id_of}
 use Rattle.thin_model.specs.Past.{Hold, present, holds, begun, made, now, clock}
-use Rattle.thin_model.specs.Logs.{branch, kept, file_path, file_named, kind_of, compact_lines, need_read}
+use Rattle.thin_model.specs.Logs.{branch, kept, compact_lines, need_read}
 use Rattle.thin_model.specs.Drops.{evidence, candidates, proof_of, causes, waits}
 use Rattle.script_lang.specs.declared.command.Command.{Command}
 use Rattle.script_lang.specs.declared.command.Command.TheVariants as commands
@@ -83,7 +83,7 @@ add_lines past r file lines = log_some past r file (unknown past r file lines)
 
 -- an entry of a file that isn't a location log
 abbrev pub set : List RepoView → List Entry → ℕ → LogKind → Topic → Value → List Entry
-set repos past r kind topic value = let file = Named (file_name kind) in add_lines past r file (written repos past r file kind topic value ∷ [])
+set repos past r kind topic value = let file = Of kind in add_lines past r file (written repos past r file kind topic value ∷ [])
 
 -- the status of r's own content of the key: its log entry stands in any case
 abbrev pub log_status : List RepoView → List Entry → ℕ → List ℕ → Value → List Entry
@@ -94,7 +94,7 @@ log_status repos past r key status =
 -- the lines of these files are added to r's branch, file by file
 abbrev pub add_files : ℕ → Files → List Entry → List Entry
 add_files r [] past = past
-add_files r (f ∷ files) past = add_files r files (add_lines past r (file_named past f.0) f.1)
+add_files r (f ∷ files) past = add_files r files (add_lines past r (file_of f.0) f.1)
 
 -- the file is compacted, where that takes a line away
 abbrev pub compact_one : List Entry → ℕ → LogFile → List Entry
@@ -104,7 +104,7 @@ compact_one past r file =
 
 abbrev pub compact_files : ℕ → Files → List Entry → List Entry
 compact_files r [] past = past
-compact_files r (f ∷ files) past = compact_files r files (compact_one past r (file_named past f.0))
+compact_files r (f ∷ files) past = compact_files r files (compact_one past r (file_of f.0))
 
 -- ---- a local drop
 
@@ -183,7 +183,14 @@ done repos (commands.Merge r other) past = add_files r (branch past other) past
 done repos (commands.Compact r) past = compact_files r (branch past r) past
 done repos (commands.Wait milliseconds) past = waited past milliseconds
 done repos (commands.Run r job) past = drop_by repos r (begun past r + 1) job past
-done repos _ past = past
+done repos (commands.Repo name id offset) past = past
+done repos (commands.ShowPresence key) past = past
+done repos (commands.ShowClaims r key) past = past
+done repos (commands.ShowLocation r key) past = past
+done repos (commands.ShowLog r file) past = past
+done repos (commands.ShowLogs r) past = past
+done repos (commands.ShowNumbers r) past = past
+done repos (commands.ShowLevel r target) past = past
 
 -- the entries of these lines, of which the newest stands first
 abbrev pub entries_of : List RepoView → List Command → List Entry

@@ -4,17 +4,17 @@ ghost use Rattle.std.specs.Prelude.{◌≡◌, ◌<◌, List, [], length, nat_lt
 ghost use Rattle.std.specs.Map.{keys_of};
 ghost use Rattle.log_lines.specs.Newest.{compacted};
 ghost use Rattle.run_data.specs.declared.entry.Entry.{Entry};
-ghost use Rattle.thin_model.specs.Logs.{branch, compact_lines, file_path, kept, kind_of};
+ghost use Rattle.run_data.specs.Files.{file_path, kind_of};
+ghost use Rattle.thin_model.specs.Logs.{branch, compact_lines, kept};
 ghost use Rattle.thin_driver.specs.Driver.{compact_files, compact_one};
 ghost use Rattle.thin_driver.specs.State.{IsAt, KeepsRun, Rests};
 
 use crate::driver::Driver;
 use crate::logs::{file_at, lines_of};
 use annex_base::{Line, NoMemory};
-use log_lines::{LogKind, compact};
+use log_lines::{LogKind, has_outdated};
 use run_data::{EntryKind, LogFile};
 use std::alloc::Global;
-use thin_model::{file_path, kind_of};
 use union_merge::Branch;
 
 impl Driver {
@@ -35,7 +35,7 @@ impl Driver {
         ensures kept { OnOk result (KeepsRun self.old self.new) }
     {
         for (path, _) in files.files() {
-            let file = self.file_named(path)?;
+            let file = LogFile::of_path(self.alloc, path)?;
             self.compact_one(repo, file)?;
         }
         Ok(())
@@ -58,29 +58,19 @@ impl Driver {
         requires { repo < length self.now.run.repos }
         ensures { IfOk result (λ outdated. (past : List Entry) → IsAt self.now past → outdated ≡ nat_lt (length (compact_lines (kind_of file.now) (kept past repo (file_path file.now)))) (length (kept past repo (file_path file.now)))) }
     {
-        let path = file_path(self.alloc, file)?;
+        let path = file.path(self.alloc)?;
         let known = file_at(&self.branches, repo, path.bytes());
-        let outdated = has_outdated(self.alloc, kind_of(file), lines_of(known))?;
+        let outdated = leaves_out(self.alloc, file.kind(), lines_of(known))?;
         Ok(outdated)
     }
 }
 
-fn has_outdated(alloc: Global, kind: Option<LogKind>, lines: &[Line]) -> Result<bool, NoMemory>
+/// Whether compaction leaves out a line; a file that is no log stays as it is.
+fn leaves_out(alloc: Global, kind: Option<LogKind>, lines: &[Line]) -> Result<bool, NoMemory>
     ensures { IfOk result (λ outdated. outdated ≡ nat_lt (length (compact_lines kind lines.now)) (length lines.now)) }
 {
-    let Some(kind) = kind else {
-        return Ok(false);
-    };
-    let left = compact(alloc, kind, copies(alloc, lines)?)?;
-    Ok(left.len() < lines.len())
-}
-
-fn copies(alloc: Global, lines: &[Line]) -> Result<Vec<Line>, NoMemory>
-    ensures { IfOk result (λ copies. copies.items ≡ lines.now) }
-{
-    let mut copies = Vec::new(alloc);
-    for line in lines {
-        copies.push(line.clone()?)?;
+    match kind {
+        Some(kind) => has_outdated(alloc, kind, lines),
+        None => Ok(false),
     }
-    Ok(copies)
 }

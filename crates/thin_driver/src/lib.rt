@@ -15,5 +15,5 @@ mod settings;
 mod stated;
 mod tally;
 
-pub use laws::script_runs_are_thin;
+pub use laws::{merges_leave_unions, script_runs_are_thin};
 pub use script::run_script;

@@ -12,20 +12,20 @@ ghost use Rattle.union_merge.specs.LineSet.{IsLine};
 ghost use Rattle.union_merge.specs.Branch.{or_none};
 ghost use Rattle.run_data.specs.declared.entry.Entry.{Entry};
 ghost use Rattle.run_data.specs.declared.entry.LogFile.{LogFile};
-ghost use Rattle.thin_model.specs.Branches.{HasBranches, HasPath};
-ghost use Rattle.thin_model.specs.Logs.{file_path, kept};
+ghost use Rattle.run_data.specs.Files.{HasPath, file_path};
+ghost use Rattle.thin_model.specs.Branches.{HasBranches};
+ghost use Rattle.thin_model.specs.Logs.{kept};
 ghost use Rattle.thin_driver.specs.Driver.{add_lines, clock_stamp, log_status, set, unknown, written};
 ghost use Rattle.thin_driver.specs.Setting.{CanSet, WritesLine};
 ghost use Rattle.thin_driver.specs.State.{IsAt, KeepsRun, Rests};
 
 use crate::driver::Driver;
-use annex_base::{Items, Line, NoMemory, RepoId, Stamp, Text};
+use annex_base::{Items, Line, NoMemory, RepoId, Stamp};
 use annex_key::Key;
 use log_lines::{LogKind, Topic, Value, newest_of, next_stamp, write_line};
 use run_data::{EntryKind, LogFile};
 use std::alloc::Global;
-use thin_model::{Branches, file_path};
-use trust_groups::file_name;
+use thin_model::Branches;
 use union_merge::LineSet;
 
 /// The script's time 0 in milliseconds since 1970 (own).
@@ -49,7 +49,7 @@ impl Driver {
         ensures set { OnOk result ((past : List Entry) → Rests self.old past → Rests self.new (set self.old.run.repos past repo kind topic value)) }
         ensures kept { KeepsRun self.old self.new }
     {
-        let file = LogFile::Named(Text::new(self.alloc, file_name(kind))?);
+        let file = LogFile::Of(kind);
         let line = self.written(repo, &file, kind, topic, value)?;
         self.add_lines(repo, file, &[line])?;
         Ok(())
@@ -78,6 +78,8 @@ impl Driver {
         ensures holds { self.new.holds ≡ self.old.holds }
         ensures kept { KeepsRun self.old self.new }
     {
+        // The text of a key is in the grammar, so its log has a path.
+        let _ = key.text();
         let file = LogFile::Location(key.clone()?);
         let topic = Topic::Repo(self.id(repo));
         let line = self.written(repo, &file, LogKind::Location, topic, status)?;
@@ -100,7 +102,7 @@ impl Driver {
         ensures line { WritesLine kind topic value → IfOk result (λ line. IsLine line) }
     {
         let clock = self.clock_stamp(repo)?;
-        let path = file_path(self.alloc, file)?;
+        let path = file.path(self.alloc)?;
         let known = file_at(&self.branches, repo, path.bytes());
         let line = line_after(self.alloc, lines_of(known), clock, kind, topic, value)?;
         Ok(line)
@@ -112,7 +114,7 @@ impl Driver {
         ensures exact { IfOk result (λ new. (past : List Entry) → IsAt self.now past → new ≡ unknown past repo file.now lines.now) }
         ensures lines { Each IsLine lines.now → IfOk result (λ new. Each IsLine new) }
     {
-        let path = file_path(self.alloc, file)?;
+        let path = file.path(self.alloc)?;
         let known = file_at(&self.branches, repo, path.bytes());
         let new = lines_without(self.alloc, known, lines)?;
         Ok(new)

@@ -2,14 +2,12 @@
 
 ghost use Rattle.std.specs.Prelude.{◌≡◌, ◌<◌, List, length, IfOk, OnOk};
 ghost use Rattle.run_data.specs.declared.entry.Entry.{Entry};
-ghost use Rattle.union_merge.specs.LineSet.{IsLine};
-ghost use Rattle.thin_model.specs.Branches.{HasPath};
-ghost use Rattle.thin_model.specs.Logs.{branch, file_named};
+ghost use Rattle.thin_model.specs.Logs.{branch};
 ghost use Rattle.thin_driver.specs.Driver.{add_files};
 ghost use Rattle.thin_driver.specs.State.{IsAt, KeepsRun, Rests};
 
 use crate::driver::Driver;
-use annex_base::{NoMemory, Text};
+use annex_base::NoMemory;
 use run_data::LogFile;
 use union_merge::Branch;
 
@@ -38,26 +36,13 @@ impl Driver {
         }
     }
 
-    /// The file that stands at the path.
-    pub fn file_named(&self, path: &[u8]) -> Result<LogFile, NoMemory>
-        ensures exact { IfOk result (λ file. (past : List Entry) → IsAt self.now past → file ≡ file_named past path.now) }
-        ensures path { IsLine path.now → IfOk result HasPath }
-    {
-        let file = self.branches.file(path)?;
-        match file {
-            LogFile::Location(key) => Ok(LogFile::Location(key)),
-            // The name of such a file is its path.
-            LogFile::Named(_) => Ok(LogFile::Named(Text::new(self.alloc, path)?)),
-        }
-    }
-
     fn add_files(&mut self, repo: u32, files: &Branch) -> Result<(), NoMemory>
         requires { repo < length self.old.run.repos }
         ensures added { OnOk result ((past : List Entry) → Rests self.old past → Rests self.new (add_files repo files.now past)) }
         ensures kept { OnOk result (KeepsRun self.old self.new) }
     {
         for (path, lines) in files.files() {
-            let file = self.file_named(path)?;
+            let file = LogFile::of_path(self.alloc, path)?;
             self.add_lines(repo, file, lines.lines())?;
         }
         Ok(())

@@ -7,7 +7,7 @@ ghost use Rattle.script_lang.specs.declared.command.Command.{Command};
 ghost use Rattle.script_lang.specs.Lines.{declared_by};
 ghost use Rattle.script_lang.specs.Script.{IsProgram};
 ghost use Rattle.union_merge.specs.LineSet.{IsLine};
-ghost use Rattle.thin_model.specs.Branches.{HasPath};
+ghost use Rattle.run_data.specs.Files.{HasPath};
 ghost use Rattle.thin_driver.specs.Driver.{add_lines, added, done, have, repos_of, run_of, view_of};
 ghost use Rattle.thin_driver.specs.Standing.{CanRun};
 ghost use Rattle.thin_driver.specs.State.{KeepsParts, KeepsRun, Rests, Stands};

@@ -24,7 +24,7 @@ use Rattle.thin_model.specs.Drops.{Asked, Claimed, Ignored, Lock, Look, Offer, S
 use Rattle.thin_model.specs.Safety.{Removal, add_removal, all_stand, backed, claim, count, is_gone, judged, least_need, local_removal, ordered, owned, removal, removals, smaller, stands, trusts, within}
 use Rattle.log_lines.specs.declared.entry.LogKind.TheVariants as kinds
 use Rattle.hash_dirs.specs.LogPath.{location_path}
-use Rattle.trust_groups.specs.Settings.{file_name}
+use Rattle.log_lines.specs.Files.{file_name}
 use Rattle.thin_laws.specs.declared.gathering.Candidate.{Candidate}
 use Rattle.thin_laws.specs.declared.gathering.Item.{Item}
 use Rattle.thin_laws.specs.declared.reading.Reading.{Reading}

@@ -21,7 +21,8 @@ use Rattle.log_lines.specs.Newest.{newest_of}
 use Rattle.log_lines.specs.Keeping.{Says}
 use Rattle.log_lines.proofs.NewestLemmas.{newest_of_none}
 use Rattle.hash_dirs.specs.LogPath.{location_path}
-use Rattle.trust_groups.specs.Settings.{Lines, claims, file_name, is_present, level, level_in, settings, value_in}
+use Rattle.log_lines.specs.Files.{file_name}
+use Rattle.trust_groups.specs.Settings.{Lines, claims, is_present, level, level_in, settings, value_in}
 use Rattle.trust_groups.specs.Claims.{IsClaimed}
 use Rattle.trust_groups.proofs.ClaimLemmas.{claims_exact}
 use Rattle.run_data.specs.declared.entry.Entry.{Entry}

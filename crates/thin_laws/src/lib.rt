@@ -21,6 +21,3 @@ pub use laws::{
 };
 pub use run_data;
 pub use thin_model;
-
-#[cfg(test)]
-mod tests;

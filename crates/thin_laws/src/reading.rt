@@ -11,7 +11,8 @@ ghost use Rattle.thin_model.specs.Frames.{job_by, job_of};
 ghost use Rattle.thin_model.specs.Logs.{ever, is_step, read_at};
 ghost use Rattle.thin_model.specs.Drops.{key_in};
 ghost use Rattle.hash_dirs.specs.LogPath.{location_path};
-ghost use Rattle.trust_groups.specs.Settings.{file_name, is_present, level_in};
+ghost use Rattle.log_lines.specs.Files.{file_name};
+ghost use Rattle.trust_groups.specs.Settings.{is_present, level_in};
 ghost use Rattle.thin_laws.specs.Steps.{added, is_added, is_step_of, key_by};
 ghost use Rattle.thin_laws.specs.Checked.{level_said, present_said, seen_given, seen_in};
 
@@ -22,7 +23,6 @@ use hash_dirs::{dirs_of, location_path};
 use log_lines::{LogKind, Topic, Value, newest_of};
 use run_data::{By, Entry, EntryKind, RepoView};
 use std::alloc::Global;
-use trust_groups::file_name;
 
 /// How the logs see a repository: as trusted and claimed to have the job's key, as untrusted or dead, or as one that is to
 /// be asked.
@@ -54,7 +54,7 @@ impl Reading {
     {
         let known = before_first_step(entries, repo, job);
         let path = log_path(alloc, begun_key(known, repo, job))?;
-        let trust = added(alloc, known, repo, file_name(LogKind::Trust))?;
+        let trust = added(alloc, known, repo, LogKind::Trust.file_name())?;
         let location = added(alloc, known, repo, path.bytes())?;
         Ok(Reading { trust, location })
     }

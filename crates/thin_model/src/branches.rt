@@ -126,6 +126,3 @@ fn copies(alloc: Global, lines: &[Line]) -> Result<Vec<Line>, NoMemory>
     }
     Ok(copies)
 }
-
-#[cfg(test)]
-mod tests;

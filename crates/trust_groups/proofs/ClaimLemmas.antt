@@ -1,24 +1,24 @@
 -- Which repositories are claimed to have a key, and which are in a group.
-use Rattle.std.proofs.Common.{◌≡◌, ◌≢◌, ◌↔◌, ◌⊎◌, inl, inr, ℕ, ◌≤◌, Bool, true, false, not, ◌&&◌, List, [], ◌∷◌, filter, max, Option, Some, None, refl, sym, ap, subst, ◌∙◌, arith}
+use Rattle.std.proofs.Common.{◌≡◌, ◌≢◌, ◌↔◌, ℕ, ◌≤◌, true, false, not, List, [], ◌∷◌, filter, Option, Some, None, refl, sym, ap, ◌∙◌, arith}
 use Rattle.std.specs.List.Sorted.{IsStrictlySortedBy}
 use Rattle.annex_base.specs.ByteOrder.{text_cmp}
 use Rattle.annex_base.specs.Lists.{Member}
 use Rattle.annex_base.specs.declared.kinds.Level.{Level}
 use Rattle.annex_base.specs.declared.kinds.Level.TheVariants as levels
 use Rattle.log_lines.specs.declared.entry.LogKind.TheVariants as kinds
-use Rattle.log_lines.specs.declared.entry.Topic.{Topic}
 use Rattle.log_lines.specs.declared.entry.Topic.TheVariants as topics
 use Rattle.log_lines.specs.declared.entry.Value.{Value}
 use Rattle.log_lines.specs.declared.entry.Value.TheVariants as values
 use Rattle.log_lines.specs.declared.entry.Entry.{Entry}
-use Rattle.log_lines.specs.Newest.{newest, newest_of, entry_at}
+use Rattle.log_lines.specs.Newest.{newest, entry_at}
 use Rattle.log_lines.proofs.Steps.{both_true}
 use Rattle.log_lines.proofs.OrderLemmas.{other}
 use Rattle.log_lines.proofs.PutLemmas.{IsRising, member_at, at_member}
 use Rattle.log_lines.proofs.NewestLemmas.{newest_rising}
 use Rattle.log_lines.proofs.CompactLemmas.{filter_member, member_filter}
+use Rattle.log_lines.specs.Files.{file_name}
 use Rattle.hash_dirs.specs.LogPath.{location_path}
-use Rattle.trust_groups.specs.Settings.{Lines, file_name, location_entries, value_in, groups_in, number_in, level, groups, is_dead, is_present, repo_of, repos_of, are_dead, is_claim, claims, is_some, has_groups, grouped}
+use Rattle.trust_groups.specs.Settings.{Lines, location_entries, value_in, groups_in, number_in, level, groups, is_dead, is_present, repo_of, are_dead, is_claim, claims, is_some, has_groups, grouped}
 use Rattle.trust_groups.specs.Claims.{IsClaimed}
 use Rattle.trust_groups.specs.Kept.{groups_among, grouped_among}
 use Rattle.trust_groups.proofs.RepoLemmas.{repos_member, member_repos, repos_sorted}

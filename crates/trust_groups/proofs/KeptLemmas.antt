@@ -1,9 +1,8 @@
 -- The claims and grouped repositories of entries, and that they are those of the branch which the entries were read of.
-use Rattle.std.proofs.Common.{◌≡◌, ◌≢◌, ◌↔◌, ◌⊎◌, inl, inr, ℕ, Bool, true, false, not, ◌&&◌, List, [], ◌∷◌, ◌++◌, filter, Option, Some, None, Result, Ok, Err, IfOk, refl, sym, ap, subst, ◌∙◌, append_assoc}
+use Rattle.std.proofs.Common.{◌≡◌, ◌≢◌, ℕ, Bool, not, ◌&&◌, List, [], ◌∷◌, ◌++◌, filter, Option, Some, None, Result, Ok, Err, IfOk, refl, sym, ap, ◌∙◌, append_assoc}
 use Rattle.std.specs.List.Sorted.{IsStrictlySortedBy}
 use Rattle.annex_base.specs.ByteOrder.{text_cmp}
 use Rattle.annex_base.specs.Lists.{Member}
-use Rattle.annex_base.specs.Settings.{Settings}
 use Rattle.annex_base.specs.declared.kinds.Level.{Level}
 use Rattle.annex_base.specs.declared.kinds.Level.TheVariants as levels
 use Rattle.log_lines.specs.declared.entry.LogKind.TheVariants as kinds
@@ -12,11 +11,17 @@ use Rattle.log_lines.specs.declared.entry.Entry.{Entry}
 use Rattle.log_lines.specs.Newest.{newest}
 use Rattle.log_lines.proofs.Steps.{both_true}
 use Rattle.log_lines.proofs.NewerLemmas.{by_test}
-use Rattle.log_lines.proofs.NewestLemmas.{newest_rising}
+use Rattle.log_lines.proofs.PutLemmas.{IsRising}
 use Rattle.log_lines.proofs.CompactLemmas.{filter_member}
+use Rattle.log_lines.specs.Files.{file_name}
 use Rattle.hash_dirs.specs.LogPath.{location_path}
-use Rattle.trust_groups.specs.Settings.{Lines, file_name, level, numcopies, mincopies, is_dead, is_present, repo_of, repos_of, are_dead, is_claim, claims, has_groups, settings}
-use Rattle.trust_groups.specs.Kept.{groups_among, text_among, any_dead, claims_by, claims_among, grouped_among}
+use Rattle.trust_groups.specs.Settings.{Lines, level, is_present, repo_of, repos_of, are_dead, is_claim, claims, has_groups, settings}
+use Rattle.log_lines.specs.declared.entry.LogKind.{LogKind}
+use Rattle.log_lines.specs.Index.{Index}
+use Rattle.trust_groups.specs.Kept.{level_among, groups_among, text_among, number_among, any_dead, claims_by, claims_among, grouped_among}
+use Rattle.trust_groups.specs.Reads.{Indices, IsIndexOf, Reads, entries_at, entries_or_none, index_at, kind_at}
+use Rattle.trust_groups.specs.View.{entries_of, settings_of}
+use Rattle.trust_groups.proofs.PathLemmas.{location_kind}
 use Rattle.trust_groups.proofs.RepoLemmas.{repos_member, repos_sorted}
 use Rattle.trust_groups.proofs.ClaimLemmas.{not_dead}
 
@@ -58,8 +63,8 @@ claims_read lines key level_by file levels is =
 
 -- ---- what is claimed
 
-pub claims_among-sorted : (level : List ℕ → Level) (lines : List (List ℕ)) → IsStrictlySortedBy text_cmp (claims_among level (newest kinds.Location lines))
-claims_among-sorted level lines = repos_sorted (claims_by level) (newest kinds.Location lines) (newest_rising kinds.Location lines)
+pub claims_among-sorted : (level : List ℕ → Level) (es : List Entry) → IsRising es → IsStrictlySortedBy text_cmp (claims_among level es)
+claims_among-sorted level es rising = repos_sorted (claims_by level) es rising
 
 pub claims_among-alive : (level : List ℕ → Level) (es : List Entry) (repo : List ℕ) → Member repo (claims_among level es) → level repo ≢ levels.Dead
 claims_among-alive level es repo among =
@@ -68,44 +73,41 @@ claims_among-alive level es repo among =
     let both = both_true (is_present found.entry.value) (not (any_dead level (repo_of found.entry.topic))) stands.1 in
     not_dead (level repo) (ap (λ t. not (any_dead level (repo_of t))) (sym found.topic) ∙ both.1)
 
--- ---- the settings of a branch
+-- ---- settings that have read lines
 
--- what is kept is of the branch with these lines
-pub record IsKeptOf (lines : Lines) (level_by : List ℕ → Level) (least most : ℕ) (gs ds ps rs qs : List Entry) (kept : Lines) : Type 0 where
-  pub level : level_by ≡ level lines
-  pub numcopies : least ≡ numcopies lines
-  pub mincopies : most ≡ mincopies lines
-  pub groups : gs ≡ newest kinds.Group (lines (file_name kinds.Group))
-  pub descriptions : ds ≡ newest kinds.Uuid (lines (file_name kinds.Uuid))
-  pub preferred : ps ≡ newest kinds.Preferred (lines (file_name kinds.Preferred))
-  pub required : rs ≡ newest kinds.Required (lines (file_name kinds.Required))
-  pub group_preferred : qs ≡ newest kinds.GroupPreferred (lines (file_name kinds.GroupPreferred))
-  pub files : kept ≡ lines
+entries_read : (o : Option Index) (kind : LogKind) (lines : List (List ℕ)) → IsIndexOf o kind lines → entries_or_none o ≡ newest kind lines
+entries_read None kind lines is = sym is
+entries_read (Some index) kind lines is = ap (λ (i : Index). i.entries) is
 
-abbrev pub settings_with : (List ℕ → Level) → ℕ → ℕ → List Entry → List Entry → List Entry → List Entry → List Entry → Lines → Settings
-settings_with level_by least most gs ds ps rs qs kept = record {
-  level = level_by;
-  numcopies = least;
-  mincopies = most;
-  groups = groups_among gs;
-  description = λ repo. text_among ds (topics.Repo repo);
-  preferred = λ repo. text_among ps (topics.Repo repo);
-  required = λ repo. text_among rs (topics.Repo repo);
-  group_preferred = λ group. text_among qs (topics.Group group);
-  grouped = grouped_among gs;
-  claims = λ key. claims_among level_by (newest kinds.Location (kept (location_path key)));
-}
+file_read : (es : Indices) (lines : Lines) → Reads es lines → (path : List ℕ) → entries_at es path ≡ newest (kind_at path) (lines path)
+file_read es lines reads path = entries_read (index_at es path) (kind_at path) (lines path) (reads path)
 
-pub settings_are : (lines : Lines) (level_by : List ℕ → Level) (least most : ℕ) (gs ds ps rs qs : List Entry) (kept : Lines) → IsKeptOf lines level_by least most gs ds ps rs qs kept → settings_with level_by least most gs ds ps rs qs kept ≡ settings lines
-settings_are lines level_by least most gs ds ps rs qs kept is = λ i. record {
-  level = is.level i;
-  numcopies = is.numcopies i;
-  mincopies = is.mincopies i;
-  groups = groups_among (is.groups i);
-  description = λ repo. text_among (is.descriptions i) (topics.Repo repo);
-  preferred = λ repo. text_among (is.preferred i) (topics.Repo repo);
-  required = λ repo. text_among (is.required i) (topics.Repo repo);
-  group_preferred = λ group. text_among (is.group_preferred i) (topics.Group group);
-  grouped = grouped_among (is.groups i);
-  claims = λ key. claims_read lines key level_by (kept (location_path key)) is.level (ap (λ (k : Lines). k (location_path key)) is.files) i;
-}
+log_read : (es : Indices) (lines : Lines) → Reads es lines → (key : List ℕ) → entries_at es (location_path key) ≡ newest kinds.Location (lines (location_path key))
+log_read es lines reads key = file_read es lines reads (location_path key) ∙ ap (λ kind. newest kind (lines (location_path key))) (location_kind key)
+
+claims_of_read : (lines : Lines) (key : List ℕ) (level_by : List ℕ → Level) (es : List Entry) → level_by ≡ level lines → es ≡ newest kinds.Location (lines (location_path key)) → claims_among level_by es ≡ claims lines key
+claims_of_read lines key level_by es levels is = ap (λ l. claims_among l es) levels ∙ ap (claims_among (level lines)) is ∙ claims_are lines key
+
+pub settings_read : (es : Indices) (lines : Lines) → Reads es lines → settings_of es ≡ settings lines
+settings_read es lines reads =
+    let trust : entries_of es kinds.Trust ≡ newest kinds.Trust (lines (file_name kinds.Trust)) = file_read es lines reads (file_name kinds.Trust) in
+    let numcopies : entries_of es kinds.Numcopies ≡ newest kinds.Numcopies (lines (file_name kinds.Numcopies)) = file_read es lines reads (file_name kinds.Numcopies) in
+    let mincopies : entries_of es kinds.Mincopies ≡ newest kinds.Mincopies (lines (file_name kinds.Mincopies)) = file_read es lines reads (file_name kinds.Mincopies) in
+    let groups : entries_of es kinds.Group ≡ newest kinds.Group (lines (file_name kinds.Group)) = file_read es lines reads (file_name kinds.Group) in
+    let descriptions : entries_of es kinds.Uuid ≡ newest kinds.Uuid (lines (file_name kinds.Uuid)) = file_read es lines reads (file_name kinds.Uuid) in
+    let preferred : entries_of es kinds.Preferred ≡ newest kinds.Preferred (lines (file_name kinds.Preferred)) = file_read es lines reads (file_name kinds.Preferred) in
+    let required : entries_of es kinds.Required ≡ newest kinds.Required (lines (file_name kinds.Required)) = file_read es lines reads (file_name kinds.Required) in
+    let group_preferred : entries_of es kinds.GroupPreferred ≡ newest kinds.GroupPreferred (lines (file_name kinds.GroupPreferred)) = file_read es lines reads (file_name kinds.GroupPreferred) in
+    let levels : level_among (entries_of es kinds.Trust) ≡ level lines = ap level_among trust in
+    λ i. record {
+      level = levels i;
+      numcopies = number_among (numcopies i);
+      mincopies = number_among (mincopies i);
+      groups = groups_among (groups i);
+      description = λ repo. text_among (descriptions i) (topics.Repo repo);
+      preferred = λ repo. text_among (preferred i) (topics.Repo repo);
+      required = λ repo. text_among (required i) (topics.Repo repo);
+      group_preferred = λ group. text_among (group_preferred i) (topics.Group group);
+      grouped = grouped_among (groups i);
+      claims = λ key. claims_of_read lines key (level_among (entries_of es kinds.Trust)) (entries_at es (location_path key)) levels (log_read es lines reads key) i;
+    }

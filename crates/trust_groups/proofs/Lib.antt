@@ -1,6 +1,8 @@
 pub mod ClaimLemmas
+pub mod IndexLemmas
 pub mod KeptLemmas
 pub mod MergeLemmas
+pub mod PathLemmas
+pub mod ReadsLemmas
 pub mod RepoLemmas
 pub mod SameLemmas
-pub mod SearchLemmas

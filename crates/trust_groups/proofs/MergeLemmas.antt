@@ -1,9 +1,9 @@
 -- What merges, compactions and a branch's own lines keep.
-use Rattle.std.proofs.Common.{◌≡◌, ◌≢◌, ◌⊎◌, inl, inr, ℕ, List, [], ◌∷◌, ◌++◌, refl, sym, ap, subst, ◌∙◌}
+use Rattle.std.proofs.Common.{◌≡◌, ◌≢◌, inl, inr, ℕ, List, [], ◌∷◌, ◌++◌, refl, sym, ap, subst, bytes_eq}
 use Rattle.annex_base.specs.Lists.{Member, Each}
 use Rattle.log_lines.specs.declared.entry.LogKind.{LogKind}
 use Rattle.log_lines.specs.declared.entry.LogKind.TheVariants as kinds
-use Rattle.log_lines.specs.Newest.{compacted}
+use Rattle.log_lines.specs.Newest.{newest}
 use Rattle.log_lines.specs.Keeping.{SameLines, Keeps}
 use Rattle.log_lines.specs.Keeping.Keeps.{Empty, Add, Merge, Arrange, Compact}
 use Rattle.log_lines.proofs.CompactLemmas.{member_append, append_first, append_second}
@@ -11,9 +11,14 @@ use Rattle.union_merge.specs.LineSet.{union}
 use Rattle.union_merge.specs.Branch.{Files, IsBranch, lines_at, merged_branch, merged_branches}
 use Rattle.union_merge.proofs.SetLemmas.{Member-union, union-left, union-right}
 use Rattle.union_merge.proofs.MergeLemmas.{lines_at-merged_branch, merged_branches-order}
+use Rattle.log_lines.specs.Files.{file_name}
 use Rattle.hash_dirs.specs.LogPath.{location_path}
-use Rattle.trust_groups.specs.Settings.{Lines, file_name, settings}
-use Rattle.trust_groups.specs.Alike.{KeepsFiles, MayCompact, CompactsFiles}
+use Rattle.trust_groups.specs.Settings.{Lines, settings}
+use Rattle.trust_groups.specs.Alike.{SameFiles, KeepsFiles, MayCompact, CompactsFiles, IsNoLog}
+use Rattle.trust_groups.specs.Reads.{lines_with}
+use Rattle.trust_groups.proofs.SameLemmas.{settings-same}
+use Rattle.std.proofs.lemmas.Slice.Eq.{bytes_eq-Decides}
+use Rattle.log_lines.proofs.NewerLemmas.{by_test}
 
 own_lines : (kind : LogKind) (lines : List (List ℕ)) → Keeps kind lines lines
 own_lines kind lines = Add [] [] lines Empty
@@ -33,6 +38,27 @@ compacted_files old new ever compacts keeps = record {
   files = λ kind other. still_kept kind (old (file_name kind)) (new (file_name kind)) (ever (file_name kind)) (compacts.files kind other) (keeps.files kind other);
   locations = λ key. still_kept kinds.Location (old (location_path key)) (new (location_path key)) (ever (location_path key)) (compacts.locations key) (keeps.locations key);
 }
+
+added_lines : (kind : LogKind) (kept ever new : Lines) (path line q : List ℕ) → Keeps kind (kept q) (ever q) → SameFiles (lines_with kept path line) new → Keeps kind (new q) (lines_with ever path line q)
+added_lines kind kept ever new path line q keeps same =
+    Arrange (lines_with kept path line q) (lines_with ever path line q) (new q) (same q)
+    (by_test (bytes_eq path q) (λ t. rw t (Add (kept q) (ever q) (line ∷ []) keeps)) (λ t. rw t keeps))
+
+pub added_files : (kept ever new : Lines) (path line : List ℕ) → KeepsFiles kept ever → SameFiles (lines_with kept path line) new → KeepsFiles new (lines_with ever path line)
+added_files kept ever new path line keeps same = record {
+  files = λ kind other. added_lines kind kept ever new path line (file_name kind) (keeps.files kind other) same;
+  locations = λ key. added_lines kinds.Location kept ever new path line (location_path key) (keeps.locations key) same;
+}
+
+elsewhere : (lines : Lines) (path line q : List ℕ) → path ≢ q → lines_with lines path line q ≡ lines q
+elsewhere lines path line q apart = by_test (bytes_eq path q) (λ t. absurd (apart ((bytes_eq-Decides path q).0 t))) (λ t. rw t refl)
+
+-- a line of a file that is no log
+pub other_file : (lines : Lines) (path line : List ℕ) → IsNoLog path → settings (lines_with lines path line) ≡ settings lines
+other_file lines path line none = settings-same (lines_with lines path line) lines (record {
+  files = λ kind other. ap (newest kind) (elsewhere lines path line (file_name kind) (none.files kind other));
+  locations = λ key. ap (newest kinds.Location) (elsewhere lines path line (location_path key) (none.locations key));
+})
 
 both_lines : (xs ys : List (List ℕ)) → SameLines (xs ++ ys) (union xs ys)
 both_lines xs ys line = (

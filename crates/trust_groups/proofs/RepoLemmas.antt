@@ -1,5 +1,5 @@
 -- The repositories that entries speak of: which they are, and that they stand in order.
-use Rattle.std.proofs.Common.{◌≡◌, ◌⊎◌, inl, inr, ℕ, Bool, true, false, List, [], ◌∷◌, ◌++◌, filter, refl, sym, ap, subst, ◌∙◌}
+use Rattle.std.proofs.Common.{◌≡◌, inl, inr, ℕ, Bool, List, [], ◌∷◌, ◌++◌, filter, refl, sym, ap, subst, ◌∙◌}
 use Rattle.std.specs.declared.cmp.Ordering.TheVariants.{Less}
 use Rattle.std.specs.List.{AllByRecursion}
 use Rattle.std.specs.List.Sorted.{IsStrictlySortedBy}
@@ -68,7 +68,7 @@ sorted_more (topics.Repo id) repos below sorted = (below id refl, sorted)
 sorted_more (topics.Group name) repos below sorted = sorted
 sorted_more topics.Whole repos below sorted = sorted
 
-none_sorted : IsStrictlySortedBy text_cmp []
+pub none_sorted : IsStrictlySortedBy text_cmp []
 unfolding IsStrictlySortedBy
 none_sorted = tt
 

@@ -1,17 +1,15 @@
 -- Branches whose files read alike have the same settings.
-use Rattle.std.proofs.Common.{◌≡◌, ◌≢◌, ◌⊎◌, inl, inr, ℕ, Bool, not, ◌&&◌, List, [], ◌∷◌, filter, Option, Some, None, refl, sym, ap, ◌∙◌}
-use Rattle.annex_base.specs.Settings.{Settings}
+use Rattle.std.proofs.Common.{◌≡◌, ◌≢◌, inl, inr, ℕ, not, ◌&&◌, List, [], ◌∷◌, filter, refl, sym, ap, ◌∙◌}
 use Rattle.log_lines.specs.declared.entry.LogKind.{LogKind}
 use Rattle.log_lines.specs.declared.entry.LogKind.TheVariants as kinds
-use Rattle.log_lines.specs.declared.entry.Entry.{Entry}
 use Rattle.log_lines.specs.declared.entry.Topic.{Topic}
 use Rattle.log_lines.specs.declared.entry.Topic.TheVariants as topics
-use Rattle.log_lines.specs.Newest.{newest, newest_of, entry_at, ReadAlike, compacted}
-use Rattle.log_lines.specs.Keeping.{SameLines}
+use Rattle.log_lines.specs.Newest.{newest, entry_at, ReadAlike}
 use Rattle.log_lines.proofs.NewestLemmas.{alike_by_members}
 use Rattle.log_lines.proofs.CompactLemmas.{compacted_alike, kept_alike}
+use Rattle.log_lines.specs.Files.{file_name}
 use Rattle.hash_dirs.specs.LogPath.{location_path}
-use Rattle.trust_groups.specs.Settings.{Lines, file_name, location_entries, entry_in, value_in, level_in, text_in, groups_in, number_in, level, numcopies, mincopies, groups, description, preferred, required, group_preferred, is_dead, is_present, repo_of, repos_of, are_dead, is_claim, claims, has_groups, grouped, settings}
+use Rattle.trust_groups.specs.Settings.{Lines, location_entries, entry_in, value_in, level_in, text_in, groups_in, number_in, level, is_dead, is_present, repo_of, repos_of, are_dead, is_claim, claims, has_groups, settings}
 use Rattle.trust_groups.specs.Alike.{SameFiles, SameReading, KeepsFiles, MayCompact, CompactsFiles}
 
 -- two files of a kind whose newest entries are the same

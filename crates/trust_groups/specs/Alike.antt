@@ -1,12 +1,12 @@
 -- When two branches say the same (git-annex internals: branch files; compaction is the project's own).
 use Rattle.std.specs.Prelude.{◌≡◌, ◌≢◌, ◌⊎◌, ℕ, List}
-use Rattle.annex_base.specs.Lists.{Member}
 use Rattle.log_lines.specs.declared.entry.LogKind.{LogKind}
 use Rattle.log_lines.specs.declared.entry.LogKind.TheVariants as kinds
 use Rattle.log_lines.specs.Newest.{ReadAlike, compacted}
 use Rattle.log_lines.specs.Keeping.{SameLines, Keeps}
+use Rattle.log_lines.specs.Files.{file_name}
 use Rattle.hash_dirs.specs.LogPath.{location_path}
-use Rattle.trust_groups.specs.Settings.{Lines, file_name}
+use Rattle.trust_groups.specs.Settings.{Lines}
 
 -- each file has the same lines in both, in any order and any number
 abbrev pub SameFiles : Lines → Lines → Type 0
@@ -30,3 +30,8 @@ MayCompact kind old new = (new ≡ old) ⊎ (new ≡ compacted kind old)
 pub record CompactsFiles (old new : Lines) : Type 0 where
   pub files : (kind : LogKind) → kind ≢ kinds.Location → MayCompact kind (old (file_name kind)) (new (file_name kind))
   pub locations : (key : List ℕ) → MayCompact kinds.Location (old (location_path key)) (new (location_path key))
+
+-- no log of any kind stands at this path
+pub record IsNoLog (path : List ℕ) : Type 0 where
+  pub files : (kind : LogKind) → kind ≢ kinds.Location → path ≢ file_name kind
+  pub locations : (key : List ℕ) → path ≢ location_path key

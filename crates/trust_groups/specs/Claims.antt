@@ -1,6 +1,6 @@
 -- Which repositories are claimed to have a key, and which are in a group, said of each repository by itself (git-annex
 -- internals: location log; git-annex-dead, git-annex-group).
-use Rattle.std.specs.Prelude.{◌≡◌, ◌≢◌, ℕ, List, Option, Some}
+use Rattle.std.specs.Prelude.{◌≡◌, ◌≢◌, ℕ, List, Some}
 use Rattle.annex_base.specs.declared.kinds.Level.TheVariants as levels
 use Rattle.log_lines.specs.declared.entry.LogKind.TheVariants as kinds
 use Rattle.log_lines.specs.declared.entry.Topic.TheVariants as topics

@@ -1,16 +1,11 @@
 -- What is read of a branch, of the newest entries of its files.
-use Rattle.std.specs.Prelude.{ℕ, Bool, false, not, ◌&&◌, List, [], ◌∷◌, filter, map}
-use Rattle.std.specs.List.Sorted.{IsStrictlySortedBy}
+use Rattle.std.specs.Prelude.{ℕ, Bool, false, not, ◌&&◌, List, [], ◌∷◌, filter}
 use Rattle.annex_base.specs.declared.kinds.Level.{Level}
 use Rattle.log_lines.specs.declared.entry.Entry.{Entry}
 use Rattle.log_lines.specs.declared.entry.Topic.{Topic}
 use Rattle.log_lines.specs.declared.entry.Topic.TheVariants as topics
-use Rattle.log_lines.specs.Newest.{topic_cmp, entry_at}
-use Rattle.trust_groups.specs.Settings.{value_in, level_in, text_in, groups_in, is_dead, is_present, repo_of, repos_of, has_groups}
-
--- the topics rise
-abbrev pub InOrder : List Entry → Type 0
-InOrder es = IsStrictlySortedBy topic_cmp (map (λ e. e.topic) es)
+use Rattle.log_lines.specs.Newest.{entry_at}
+use Rattle.trust_groups.specs.Settings.{value_in, level_in, text_in, groups_in, number_in, is_dead, is_present, repo_of, repos_of, has_groups}
 
 abbrev pub level_among : List Entry → List ℕ → Level
 level_among es repo = level_in (value_in (entry_at es (topics.Repo repo)))
@@ -20,6 +15,9 @@ groups_among es repo = groups_in (value_in (entry_at es (topics.Repo repo)))
 
 abbrev pub text_among : List Entry → Topic → List ℕ
 text_among es topic = text_in (value_in (entry_at es topic))
+
+abbrev pub number_among : List Entry → ℕ
+number_among es = number_in (value_in (entry_at es topics.Whole))
 
 abbrev pub any_dead : (List ℕ → Level) → List (List ℕ) → Bool
 any_dead level [] = false

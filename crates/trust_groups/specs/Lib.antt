@@ -1,5 +1,6 @@
 pub mod Alike
 pub mod Claims
 pub mod Kept
+pub mod Reads
 pub mod Settings
 pub mod View

@@ -1,7 +1,7 @@
 -- What the lines of a branch set (git-annex trust, git-annex-group, git-annex-describe, git-annex-numcopies,
 -- git-annex-mincopies, git-annex-preferred-content; git-annex internals: location log. That 0 reads as 1, and that X isn't
 -- present, is the project's own).
-use Rattle.std.specs.Prelude.{ℕ, Bool, true, false, not, ◌&&◌, List, [], ◌∷◌, filter, flat_map, max, Option, Some, None, codes}
+use Rattle.std.specs.Prelude.{ℕ, Bool, true, false, not, ◌&&◌, List, [], ◌∷◌, filter, flat_map, max, Option, Some, None}
 use Rattle.annex_base.specs.Settings.{Settings}
 use Rattle.annex_base.specs.declared.kinds.Level.{Level}
 use Rattle.annex_base.specs.declared.kinds.Level.TheVariants as levels
@@ -13,6 +13,7 @@ use Rattle.log_lines.specs.declared.entry.Topic.{Topic}
 use Rattle.log_lines.specs.declared.entry.Topic.TheVariants as topics
 use Rattle.log_lines.specs.declared.entry.Value.{Value}
 use Rattle.log_lines.specs.declared.entry.Value.TheVariants as values
+use Rattle.log_lines.specs.Files.{file_name}
 use Rattle.log_lines.specs.Newest.{newest, newest_of}
 
 -- the lines of each file of a branch, by its path
@@ -21,19 +22,7 @@ Lines = List ℕ → List (List ℕ)
 
 -- ---- files
 
--- the name of each file that isn't a location log
-abbrev pub file_name : LogKind → List ℕ
-file_name kinds.Location = []
-file_name kinds.Trust = codes "trust.log"
-file_name kinds.Uuid = codes "uuid.log"
-file_name kinds.Group = codes "group.log"
-file_name kinds.Preferred = codes "preferred-content.log"
-file_name kinds.Required = codes "required-content.log"
-file_name kinds.GroupPreferred = codes "group-preferred-content.log"
-file_name kinds.Numcopies = codes "numcopies.log"
-file_name kinds.Mincopies = codes "mincopies.log"
-
--- the newest entry of a topic in such a file
+-- the newest entry of a topic in the file of a kind that isn't a location log
 abbrev pub entry_in : LogKind → Lines → Topic → Option Entry
 entry_in kind lines topic = newest_of kind (lines (file_name kind)) topic
 

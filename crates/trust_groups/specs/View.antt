@@ -2,30 +2,35 @@
 use Rattle.std.specs.Prelude.{ℕ, List}
 use Rattle.annex_base.specs.Settings.{Settings}
 use Rattle.annex_base.specs.declared.kinds.Level.{Level}
+use Rattle.log_lines.specs.declared.entry.Entry.{Entry}
+use Rattle.log_lines.specs.declared.entry.LogKind.{LogKind}
 use Rattle.log_lines.specs.declared.entry.LogKind.TheVariants as kinds
 use Rattle.log_lines.specs.declared.entry.Topic.TheVariants as topics
-use Rattle.log_lines.specs.Newest.{newest}
-use Rattle.union_merge.specs.Branch.{lines_at}
+use Rattle.log_lines.specs.Files.{file_name}
 use Rattle.trust_groups.specs.declared.levels.Levels.{Levels}
-use Rattle.trust_groups.specs.declared.settings.Settings.{Settings as Read}
 use Rattle.hash_dirs.specs.LogPath.{location_path}
-use Rattle.trust_groups.specs.Kept.{level_among, groups_among, text_among, claims_among, grouped_among}
+use Rattle.trust_groups.specs.Kept.{level_among, groups_among, text_among, number_among, claims_among, grouped_among}
+use Rattle.trust_groups.specs.Reads.{Indices, entries_at}
 
 -- the level of each repository
 abbrev pub level_of : Levels → List ℕ → Level
-level_of levels = level_among levels.entries
+level_of levels = level_among levels.index.entries
+
+-- the newest entries of the file of this kind, which is no location log
+abbrev pub entries_of : Indices → LogKind → List Entry
+entries_of indices kind = entries_at indices (file_name kind)
 
 -- the settings
-abbrev pub settings_of : Read → Settings
-settings_of s = record {
-  level = level_of s.levels;
-  numcopies = s.numcopies;
-  mincopies = s.mincopies;
-  groups = groups_among s.groups;
-  description = λ repo. text_among s.descriptions (topics.Repo repo);
-  preferred = λ repo. text_among s.preferred (topics.Repo repo);
-  required = λ repo. text_among s.required (topics.Repo repo);
-  group_preferred = λ group. text_among s.group_preferred (topics.Group group);
-  grouped = grouped_among s.groups;
-  claims = λ key. claims_among (level_of s.levels) (newest kinds.Location (lines_at s.files (location_path key)));
+abbrev pub settings_of : Indices → Settings
+settings_of indices = record {
+  level = level_among (entries_of indices kinds.Trust);
+  numcopies = number_among (entries_of indices kinds.Numcopies);
+  mincopies = number_among (entries_of indices kinds.Mincopies);
+  groups = groups_among (entries_of indices kinds.Group);
+  description = λ repo. text_among (entries_of indices kinds.Uuid) (topics.Repo repo);
+  preferred = λ repo. text_among (entries_of indices kinds.Preferred) (topics.Repo repo);
+  required = λ repo. text_among (entries_of indices kinds.Required) (topics.Repo repo);
+  group_preferred = λ group. text_among (entries_of indices kinds.GroupPreferred) (topics.Group group);
+  grouped = grouped_among (entries_of indices kinds.Group);
+  claims = λ key. claims_among (level_among (entries_of indices kinds.Trust)) (entries_at indices (location_path key));
 }

@@ -1,10 +1,12 @@
+//! How many copies a branch asks for, read alone.
+
 ghost use Rattle.std.specs.Prelude.{◌≡◌, ◌≤◌, IfOk};
 ghost use Rattle.std.specs.Option.{option_copied};
 ghost use Rattle.log_lines.specs.declared.entry.Topic.TheVariants as topics;
 ghost use Rattle.union_merge.specs.Branch.{lines_at};
 ghost use Rattle.trust_groups.specs.Settings.{entry_in, value_in, number_in, numcopies, mincopies};
 
-use crate::files::{file_name, lines_of};
+use crate::files::lines_of;
 use crate::values::number_in;
 use annex_base::NoMemory;
 use log_lines::{Entry, LogKind, Topic, Value, newest_of};
@@ -24,7 +26,7 @@ fn copies_of(alloc: Global, kind: LogKind, branch: &Branch) -> Result<u32, NoMem
     ensures value { IfOk result (λ n. n ≡ number_in (value_in (entry_in kind (lines_at branch.now) topics.Whole))) }
     ensures some { IfOk result (λ n. 1 ≤ n) }
 {
-    let lines = lines_of(branch, file_name(kind));
+    let lines = lines_of(branch, kind.file_name());
     let entry = newest_of(alloc, kind, lines, &Topic::Whole)?;
     Ok(number_in(value_in(entry.as_ref())))
 }

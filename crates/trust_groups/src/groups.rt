@@ -1,23 +1,43 @@
-ghost use Rattle.std.specs.Prelude.{◌≡◌, ◌++◌, [], ◌∷◌, IfOk, OnOk, Some};
-ghost use Rattle.union_merge.specs.Branch.{lines_at};
-ghost use Rattle.trust_groups.specs.Settings.{groups_in, groups, has_groups};
-ghost use Rattle.trust_groups.specs.Kept.{grouped_among};
+//! The groups and the level of one repository, and which repositories are grouped.
 
-use crate::files::{file_name, lines_of};
-use crate::values::groups_in;
-use annex_base::{NoMemory, RepoId};
-use log_lines::{Entry, GroupList, LogKind, Topic, Value, newest_of};
+ghost use Rattle.std.specs.Prelude.{◌≡◌, ◌≢◌, ◌↔◌, ◌++◌, [], ◌∷◌, ℕ, List, IfOk, OnOk, Some};
+ghost use Rattle.std.specs.List.Sorted.{IsStrictlySortedBy};
+ghost use Rattle.annex_base.specs.ByteOrder.{text_cmp};
+ghost use Rattle.annex_base.specs.Lists.{Member};
+ghost use Rattle.union_merge.specs.Branch.{lines_at};
+ghost use Rattle.log_lines.specs.Index.{entries_in, entry_with};
+ghost use Rattle.std.specs.Option.{option_copied};
+ghost use Rattle.trust_groups.specs.Reads.{entries_or_none};
+ghost use Rattle.trust_groups.specs.Settings.{level, groups_in, groups, is_some};
+ghost use Rattle.trust_groups.specs.Kept.{groups_among, grouped_among};
+
+use crate::files::lines_of;
+use crate::values::{groups_in, level_in};
+use annex_base::{Level, NoMemory, RepoId};
+use log_lines::{GroupList, LogKind, Newest, Statement, Topic, Value, newest_of};
 use std::alloc::Global;
+use std::collections::btree_map::Iter;
 use union_merge::Branch;
 
 /// The groups that a repository is in, in the order of their line, none where none are set (git-annex-group).
 pub fn groups_of(alloc: Global, branch: &Branch, repo: RepoId) -> Result<GroupList, NoMemory>
     ensures { IfOk result (λ g. g ≡ groups (lines_at branch.now) repo) }
 {
-    let lines = lines_of(branch, file_name(LogKind::Group));
+    let lines = lines_of(branch, LogKind::Group.file_name());
     match newest_of(alloc, LogKind::Group, lines, &Topic::Repo(repo))? {
         Some(entry) => Ok(list_in(alloc, entry.value)),
         None => Ok(GroupList::new(alloc)),
+    }
+}
+
+/// How far a repository is trusted, semitrusted where no level is set (git-annex trust).
+pub fn level_of(alloc: Global, branch: &Branch, repo: RepoId) -> Result<Level, NoMemory>
+    ensures { IfOk result (λ l. l ≡ level (lines_at branch.now) repo) }
+{
+    let lines = lines_of(branch, LogKind::Trust.file_name());
+    match newest_of(alloc, LogKind::Trust, lines, &Topic::Repo(repo))? {
+        Some(entry) => Ok(level_in(Some(&entry.value))),
+        None => Ok(Level::Semitrusted),
     }
 }
 
@@ -30,30 +50,54 @@ fn list_in(alloc: Global, value: Value) -> GroupList
     }
 }
 
-fn has_groups(entry: &Entry) -> bool
-    ensures { result ≡ has_groups entry.now }
+fn has_groups(value: &Value) -> bool
+    ensures { result ≡ is_some (groups_in (Some value.now)) }
 {
-    !groups_in(Some(&entry.value)).is_empty()
+    !groups_in(Some(value)).is_empty()
 }
 
-fn add_grouped(repos: &mut Vec<RepoId>, entry: &Entry) -> Result<(), NoMemory>
-    ensures { OnOk result (repos.new.items ≡ repos.old.items ++ grouped_among (entry.now ∷ [])) }
+fn add_grouped(
+    repos: &mut Vec<RepoId>,
+    topic: &Topic,
+    statement: &Statement,
+) -> Result<(), NoMemory>
+    ensures { OnOk result (repos.new.items ≡ repos.old.items ++ grouped_among (entry_with topic.now statement.now ∷ [])) }
 {
-    if let Topic::Repo(repo) = &entry.topic {
-        if has_groups(entry) {
+    if let Topic::Repo(repo) = topic {
+        if has_groups(&statement.value) {
             repos.push(*repo)?;
         }
     }
     Ok(())
 }
 
-/// The repositories of the entries with a group.
-pub(crate) fn grouped_in(alloc: Global, entries: &[Entry]) -> Result<Vec<RepoId>, NoMemory>
-    ensures { IfOk result (λ v. v.items ≡ grouped_among entries.now) }
+fn grouped_by(alloc: Global, entries: Iter<'_, Topic, Statement>) -> Result<Vec<RepoId>, NoMemory>
+    ensures { IfOk result (λ v. v.items ≡ grouped_among (entries_in entries.entry)) }
 {
     let mut repos = Vec::new(alloc);
-    for entry in entries {
-        add_grouped(&mut repos, entry)?;
+    for (topic, statement) in entries {
+        add_grouped(&mut repos, topic, statement)?;
     }
     Ok(repos)
+}
+
+fn grouped_among(alloc: Global, index: &Newest) -> Result<Vec<RepoId>, NoMemory>
+    ensures value { IfOk result (λ v. v.items ≡ grouped_among index.now.entries) }
+    ensures sorted { IfOk result (λ v. IsStrictlySortedBy text_cmp v.items) }
+    ensures each { IfOk result (λ v. (repo : List ℕ) → Member repo v.items ↔ (groups_among index.now.entries repo ≢ [])) }
+{
+    let entries = index.entries();
+    grouped_by(alloc, entries)
+}
+
+/// The repositories of the entries with a group, by the index of group.log.
+pub(crate) fn grouped_in(alloc: Global, index: Option<&Newest>) -> Result<Vec<RepoId>, NoMemory>
+    ensures value { IfOk result (λ v. v.items ≡ grouped_among (entries_or_none (option_copied index.entry))) }
+    ensures sorted { IfOk result (λ v. IsStrictlySortedBy text_cmp v.items) }
+    ensures each { IfOk result (λ v. (repo : List ℕ) → Member repo v.items ↔ (groups_among (entries_or_none (option_copied index.entry)) repo ≢ [])) }
+{
+    match index {
+        Some(index) => grouped_among(alloc, index),
+        None => Ok(Vec::new(alloc)),
+    }
 }

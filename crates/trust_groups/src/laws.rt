@@ -5,7 +5,9 @@ ghost use Rattle.annex_base.specs.ByteOrder.{text_cmp};
 ghost use Rattle.annex_base.specs.Lists.{Member, Each};
 ghost use Rattle.union_merge.specs.Branch.{Files, IsBranch, lines_at, merged_branch, merged_branches};
 ghost use Rattle.trust_groups.specs.Settings.{Lines, settings, claims, grouped, groups, numcopies, mincopies};
-ghost use Rattle.trust_groups.specs.Alike.{SameFiles, SameReading, KeepsFiles, CompactsFiles};
+ghost use Rattle.trust_groups.specs.Alike.{SameFiles, SameReading, KeepsFiles, CompactsFiles, IsNoLog};
+ghost use Rattle.trust_groups.specs.Reads.{Indices, Reads, lines_with};
+ghost use Rattle.trust_groups.specs.View.{settings_of};
 ghost use Rattle.trust_groups.specs.Claims.{IsClaimed};
 
 /// Branches whose log files read alike have the same settings: so those with the same lines, in any order and any number,
@@ -17,15 +19,25 @@ pub fn equal_lines_read_alike()
     ensures kept { (kept ever : Lines) → KeepsFiles kept ever → settings kept ≡ settings ever }
 {}
 
-/// A branch keeps the lines that are in it, still after some of its files are compacted, and after a merge it keeps the lines
+/// A branch keeps the lines that are in it, also those that are added to one of its files, still after some of its files are compacted, and after a merge it keeps the lines
 /// that either branch kept. So whichever branches are merged, in whatever order and however often, and whatever is compacted
 /// in between, what is read in the end is what all lines together say (git-annex internals: branch files; compaction is
 /// the project's own).
 pub fn merges_read_alike()
     ensures own { (x : Lines) → KeepsFiles x x }
     ensures compacted { (old new ever : Lines) → CompactsFiles old new → KeepsFiles old ever → KeepsFiles new ever }
+    ensures added { (kept ever new : Lines) (path line : List ℕ) → KeepsFiles kept ever → SameFiles (lines_with kept path line) new → KeepsFiles new (lines_with ever path line) }
     ensures merged { (xs ys : Files) (ever others : Lines) → IsBranch xs → IsBranch ys → KeepsFiles (lines_at xs) ever → KeepsFiles (lines_at ys) others → KeepsFiles (lines_at (merged_branch xs ys)) (λ path. ever path ++ others path) }
     ensures order { (start : Files) (xs ys : List Files) → IsBranch start → Each IsBranch xs → Each IsBranch ys → ((b : Files) → Member b xs ↔ Member b ys) → settings (lines_at (merged_branches start xs)) ≡ settings (lines_at (merged_branches start ys)) }
+{}
+
+/// Settings that have read lines are those of these lines. So settings that have read every line that was ever added to a
+/// branch or to one that was merged into it, in any order and however often, are the branch's own, whatever was compacted in
+/// between; and a line of a file that is no log changes none (own).
+pub fn settings_are_those_of_the_lines_read()
+    ensures read { (indices : Indices) (lines : Lines) → Reads indices lines → settings_of indices ≡ settings lines }
+    ensures kept { (indices : Indices) (read kept ever : Lines) → Reads indices read → SameFiles read ever → KeepsFiles kept ever → (settings_of indices ≡ settings kept) × (settings_of indices ≡ settings ever) }
+    ensures other { (lines : Lines) (path line : List ℕ) → IsNoLog path → settings (lines_with lines path line) ≡ settings lines }
 {}
 
 /// A repository is claimed to have a key exactly where its newest status is 1 and it isn't dead (git-annex internals:

@@ -4,9 +4,9 @@
 mod claims;
 mod copies;
 mod crossing;
-mod entries;
 mod files;
 mod groups;
+mod indices;
 mod laws;
 mod levels;
 mod settings;
@@ -14,14 +14,10 @@ mod values;
 
 pub use claims::claims_of;
 pub use copies::{mincopies_of, numcopies_of};
-pub use files::file_name;
-pub use groups::groups_of;
+pub use groups::{groups_of, level_of};
 pub use laws::{
     claims_are_exact, equal_lines_read_alike, grouped_are_exact, merges_read_alike,
-    some_copies_are_wanted,
+    settings_are_those_of_the_lines_read, some_copies_are_wanted,
 };
 pub use levels::Levels;
 pub use settings::Settings;
-
-#[cfg(test)]
-mod tests;

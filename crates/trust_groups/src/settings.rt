@@ -1,69 +1,106 @@
-ghost use Rattle.std.specs.Prelude.{◌≡◌, ◌≢◌, ◌↔◌, ◌≤◌, [], ℕ, List, IfOk};
+//! Settings: what a repository knows from the lines that it has, kept while lines are added.
+
+ghost use Rattle.std.specs.Prelude.{◌≡◌, ◌≢◌, ◌↔◌, ◌≤◌, [], ℕ, List, IfOk, OnOk, OnErr};
 ghost use Rattle.std.specs.List.Sorted.{IsStrictlySortedBy};
+ghost use Rattle.std.specs.Option.{option_copied};
 ghost use Rattle.annex_base.specs.ByteOrder.{text_cmp};
 ghost use Rattle.annex_base.specs.Lists.{Member};
 ghost use Rattle.annex_base.specs.declared.kinds.Level.TheVariants as trust;
+ghost use Rattle.log_lines.specs.Files.{file_name};
 ghost use Rattle.union_merge.specs.Branch.{lines_at};
-ghost use Rattle.trust_groups.specs.Settings.{settings};
+ghost use Rattle.trust_groups.specs.Settings.{Lines, settings};
+ghost use Rattle.trust_groups.specs.Alike.{IsNoLog};
+ghost use Rattle.trust_groups.specs.Reads.{Reads, index_at, lines_with, seen};
+ghost use Rattle.trust_groups.specs.View.{settings_of};
 
-use crate::claims::claims_of;
-use crate::copies::{mincopies_of, numcopies_of};
-use crate::entries::Entries;
+use crate::claims::claims_in;
 use crate::groups::grouped_in;
-use crate::levels::Levels;
-use crate::values::{groups_in, text_in};
-use annex_base::{Level, NoMemory, RepoId, Text};
+use crate::indices::{add_file, add_line};
+use crate::levels::level_among;
+use crate::values::{groups_in, number_in, text_in, value_of, value_of_group};
+use annex_base::{Level, Line, NoMemory, RepoId, Text};
 use annex_key::Key;
-use log_lines::LogKind;
+use hash_dirs::location_path;
+use log_lines::{LogKind, Newest, Topic};
 use std::alloc::Global;
+use std::collections::BTreeMap;
+use std::marker::Model;
 use union_merge::Branch;
 
 /// What a repository knows from its branch: how far each repository is trusted, how many copies are wanted, groups,
 /// descriptions, expressions of wanted content, and which repositories are claimed to have a key (git-annex trust,
 /// git-annex-group, git-annex-describe, git-annex-numcopies, git-annex-mincopies, git-annex-preferred-content, git-annex
-/// internals: location log). Nothing set is the level semitrusted, one copy, no groups, or an empty text.
+/// internals: location log). Nothing set is the level semitrusted, one copy, no groups, or an empty text. They are kept as
+/// an index of the newest entries of each file: contracts see the indices by path.
 #[derive(Debug, Drop)]
 pub struct Settings {
     alloc: Global,
-    levels: Levels,
-    numcopies: u32,
-    mincopies: u32,
-    groups: Entries,
-    descriptions: Entries,
-    preferred: Entries,
-    required: Entries,
-    group_preferred: Entries,
-    files: Branch,
-    ghost some_numcopies: { 1 ≤ numcopies },
-    ghost some_mincopies: { 1 ≤ mincopies },
+    files: BTreeMap<Vec<u8>, Newest>,
+}
+
+impl Model for Settings {
+    ghost use Rattle.std.specs.Prelude.{List, ℕ};
+    ghost use Rattle.log_lines.specs.Index.{Index};
+    ghost use Rattle.trust_groups.specs.Alike.{IsNoLog};
+    ghost use Rattle.trust_groups.specs.Reads.{seen};
+
+    ghost Value = { List (List ℕ × Index) };
+
+    ghost view = { λ s. seen s.files.entries };
 }
 
 impl Settings {
-    ghost use Rattle.trust_groups.specs.View.{settings_of};
+    /// The settings of no lines.
+    pub fn new(alloc: Global) -> Settings
+        ensures { Reads result (λ path. []) }
+    {
+        Settings {
+            alloc,
+            files: BTreeMap::new(alloc),
+        }
+    }
 
     /// Reads a branch.
     pub fn read(alloc: Global, branch: &Branch) -> Result<Settings, NoMemory>
-        ensures { IfOk result (λ s. settings_of s ≡ settings (lines_at branch.now)) }
+        ensures reads { IfOk result (λ s. Reads s (lines_at branch.now)) }
+        ensures exact { IfOk result (λ s. settings_of s ≡ settings (lines_at branch.now)) }
     {
-        Ok(Settings {
-            alloc,
-            levels: Levels::read(alloc, branch)?,
-            numcopies: numcopies_of(alloc, branch)?,
-            mincopies: mincopies_of(alloc, branch)?,
-            groups: Entries::read(alloc, LogKind::Group, branch)?,
-            descriptions: Entries::read(alloc, LogKind::Uuid, branch)?,
-            preferred: Entries::read(alloc, LogKind::Preferred, branch)?,
-            required: Entries::read(alloc, LogKind::Required, branch)?,
-            group_preferred: Entries::read(alloc, LogKind::GroupPreferred, branch)?,
-            files: branch.clone()?,
-        })
+        let mut files = BTreeMap::new(alloc);
+        for (path, lines) in branch.files() {
+            add_file(&mut files, alloc, path, lines.lines())?;
+        }
+        Ok(Settings { alloc, files })
+    }
+
+    /// Adds a line of the file of this path. A line of a file that is no log, or that is outside the file's grammar, changes
+    /// nothing. The cost grows with the logarithms of the numbers of files and of topics.
+    pub fn add(&mut self, path: &[u8], line: &Line) -> Result<(), NoMemory>
+        ensures reads { OnOk result ((lines : Lines) → Reads self.old lines → Reads self.new (lines_with lines path.now line.now)) }
+        ensures settings { OnOk result ((lines : Lines) → Reads self.old lines → settings_of self.new ≡ settings (lines_with lines path.now line.now)) }
+        ensures other { OnOk result ((lines : Lines) → Reads self.old lines → IsNoLog path.now → settings_of self.new ≡ settings_of self.old) }
+        ensures err { OnErr result (self.new ≡ self.old) }
+    {
+        add_line(&mut self.files, self.alloc, path, line)
+    }
+
+    /// The index of a file's newest entries.
+    fn file(&self, path: &[u8]) -> Option<&Newest>
+        ensures { option_copied result ≡ index_at self.now path.now }
+    {
+        self.files.get(path)
+    }
+
+    fn log(&self, kind: LogKind) -> Option<&Newest>
+        ensures { option_copied result ≡ index_at self.now (file_name kind) }
+    {
+        self.file(kind.file_name())
     }
 
     /// How far a repository is trusted (git-annex trust).
     pub fn level(&self, repo: RepoId) -> Level
         ensures { result ≡ (settings_of self.now).level repo }
     {
-        self.levels.level(repo)
+        level_among(self.log(LogKind::Trust), repo)
     }
 
     /// How many copies of a content are to be preserved (git-annex-numcopies).
@@ -71,7 +108,7 @@ impl Settings {
         ensures value { result ≡ (settings_of self.now).numcopies }
         ensures some { 1 ≤ result }
     {
-        self.numcopies
+        number_in(value_of(self.log(LogKind::Numcopies), &Topic::Whole))
     }
 
     /// How many copies are never to be gone below (git-annex-mincopies).
@@ -79,52 +116,58 @@ impl Settings {
         ensures value { result ≡ (settings_of self.now).mincopies }
         ensures some { 1 ≤ result }
     {
-        self.mincopies
+        number_in(value_of(self.log(LogKind::Mincopies), &Topic::Whole))
     }
 
     /// The groups that a repository is in, in the order of their line (git-annex-group).
     pub fn groups(&self, repo: RepoId) -> &[Text]
         ensures { result.now ≡ (settings_of self.now).groups repo }
     {
-        groups_in(self.groups.of_repo(repo))
+        groups_in(value_of(self.log(LogKind::Group), &Topic::Repo(repo)))
     }
 
     /// A repository's description (git-annex-describe).
     pub fn description(&self, repo: RepoId) -> &[u8]
         ensures { result.now ≡ (settings_of self.now).description repo }
     {
-        text_in(self.descriptions.of_repo(repo))
+        text_in(value_of(self.log(LogKind::Uuid), &Topic::Repo(repo)))
     }
 
     /// The expression of the content that a repository prefers (git-annex-preferred-content).
     pub fn preferred(&self, repo: RepoId) -> &[u8]
         ensures { result.now ≡ (settings_of self.now).preferred repo }
     {
-        text_in(self.preferred.of_repo(repo))
+        text_in(value_of(self.log(LogKind::Preferred), &Topic::Repo(repo)))
     }
 
     /// The expression of the content that a repository requires (git-annex-required).
     pub fn required(&self, repo: RepoId) -> &[u8]
         ensures { result.now ≡ (settings_of self.now).required repo }
     {
-        text_in(self.required.of_repo(repo))
+        text_in(value_of(self.log(LogKind::Required), &Topic::Repo(repo)))
     }
 
     /// The expression of the content that the repositories of a group prefer (git-annex-groupwanted).
     pub fn group_preferred(&self, group: &[u8]) -> &[u8]
         ensures { result.now ≡ (settings_of self.now).group_preferred group.now }
     {
-        text_in(self.group_preferred.of_group(group))
+        text_in(value_of_group(self.log(LogKind::GroupPreferred), group))
     }
 
     /// The repositories that are claimed to have a key, each once, in order of identifier: those whose newest status is
-    /// `1`, but for dead ones (git-annex internals: location log; git-annex-dead).
+    /// `1`, but for dead ones (git-annex internals: location log; git-annex-dead). It costs the entries of the key's own
+    /// log.
     pub fn claims(&self, key: &Key) -> Result<Vec<RepoId>, NoMemory>
         ensures value { IfOk result (λ v. v.items ≡ (settings_of self.now).claims key.now) }
         ensures sorted { IfOk result (λ v. IsStrictlySortedBy text_cmp v.items) }
         ensures alive { IfOk result (λ v. (repo : List ℕ) → Member repo v.items → (settings_of self.now).level repo ≢ trust.Dead) }
     {
-        claims_of(self.alloc, &self.files, &self.levels, key)
+        let path = location_path(self.alloc, key)?;
+        claims_in(
+            self.alloc,
+            self.log(LogKind::Trust),
+            self.file(path.bytes()),
+        )
     }
 
     /// The repositories that are in at least one group, each once, in order of identifier (git-annex-group).
@@ -133,6 +176,6 @@ impl Settings {
         ensures sorted { IfOk result (λ v. IsStrictlySortedBy text_cmp v.items) }
         ensures each { IfOk result (λ v. (repo : List ℕ) → Member repo v.items ↔ ((settings_of self.now).groups repo ≢ [])) }
     {
-        grouped_in(self.alloc, self.groups.as_slice())
+        grouped_in(self.alloc, self.log(LogKind::Group))
     }
 }

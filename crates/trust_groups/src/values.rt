@@ -1,9 +1,43 @@
+//! Values of entries, and what stands where none is set.
+
 ghost use Rattle.std.specs.Prelude.{◌≡◌, ◌≤◌};
-ghost use Rattle.std.specs.Option.{option_copied};
-ghost use Rattle.trust_groups.specs.Settings.{level_in, text_in, groups_in, number_in};
+ghost use Rattle.std.specs.Option.{option_copied, option_map};
+ghost use Rattle.log_lines.specs.Newest.{entry_at};
+ghost use Rattle.log_lines.specs.declared.entry.Topic.TheVariants as topics;
+ghost use Rattle.trust_groups.specs.Reads.{entries_or_none};
+ghost use Rattle.trust_groups.specs.Settings.{value_in, level_in, text_in, groups_in, number_in};
 
 use annex_base::{Level, Text};
-use log_lines::Value;
+use log_lines::{Newest, Statement, Topic, Value};
+
+fn value_in(statement: Option<&Statement>) -> Option<&Value>
+    ensures { option_copied result ≡ option_map (λ s. s.value) (option_copied statement.entry) }
+{
+    match statement {
+        Some(statement) => Some(&statement.value),
+        None => None,
+    }
+}
+
+/// What the newest entry of the topic says, in the index of a log file that may be there.
+pub(crate) fn value_of<'a>(index: Option<&'a Newest>, topic: &Topic) -> Option<&'a Value>
+    ensures { option_copied result ≡ value_in (entry_at (entries_or_none (option_copied index.entry)) topic.now) }
+{
+    match index {
+        Some(index) => value_in(index.entry(topic)),
+        None => None,
+    }
+}
+
+/// What the newest entry of the group says.
+pub(crate) fn value_of_group<'a>(index: Option<&'a Newest>, group: &[u8]) -> Option<&'a Value>
+    ensures { option_copied result ≡ value_in (entry_at (entries_or_none (option_copied index.entry)) (topics.Group group.now)) }
+{
+    match index {
+        Some(index) => value_in(index.group(group)),
+        None => None,
+    }
+}
 
 /// The level of a repository of which the trust log says this.
 pub(crate) fn level_in(value: Option<&Value>) -> Level

@@ -10,8 +10,8 @@ ok_then : {A E : Type 0} (r : Result A E) (P Q : A → Type 0) → ((a : A) → 
 ok_then (Ok a) P Q f h = f a h
 ok_then (Err e) P Q f h = tt
 
-pub returns-in-Err-BadLine : goal.returns-in-Err-BadLine
-returns-in-Err-BadLine c =
+pub returns-in-Err-BadLine-clause-due : goal.returns-in-Err-BadLine-clause-due
+returns-in-Err-BadLine-clause-due c =
     let bad = c.in-Err-BadLine.ensures.bad c.in-Err-BadLine.line c.in-Err-BadLine.byte (ap Err c.in-Err-BadLine.field-0-is) in
     ok_then c.complaint_due.result _ (λ d. IsDue c.args.bytes.now d.status d.text.items)
     (λ d is. subst (λ s. IsDue c.args.bytes.now s d.text.items) (sym is.0) (record {
@@ -22,8 +22,8 @@ returns-in-Err-BadLine c =
     }))
     c.complaint_due.ensures
 
-pub returns-in-Err-TooMuch : goal.returns-in-Err-TooMuch
-returns-in-Err-TooMuch c =
+pub returns-in-Err-TooMuch-clause-due : goal.returns-in-Err-TooMuch-clause-due
+returns-in-Err-TooMuch-clause-due c =
     let fault = c.in-Err-TooMuch in
     let said = ap (λ name. codes "limit " ++ name ++ codes " " ++ decimal c.limit.result ++ codes "\n") c.name.ensures
     ∙ ap (λ number. codes "limit " ++ quantity_name fault.quantity ++ codes " " ++ decimal number ++ codes "\n") c.limit.ensures in

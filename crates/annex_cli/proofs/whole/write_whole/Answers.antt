@@ -10,5 +10,5 @@ loop-at-preserved g c = record {
       ∙ ap (λ o. append_known o (take c.in_ok-at.field-0 c.split_at.result.1.now)) c.loop-at.invariant.taken
       ∙ ap (λ (rest : List ℕ). append_known (append_known (g.K.Sink.taken c.args.sink.now) (take c.loop-at.at c.args.text.now)) (take c.in_ok-at.field-0 rest)) c.split_at.ensures.back
       ∙ append_known-front (g.K.Sink.taken c.args.sink.now) c.args.text.now c.loop-at.at c.in_ok-at.field-0;
-  later = omega (arith, c.loop-at.invariant.later, c.write.ensures.cause.later);
+  kept = c.in_ok-at.ensures.cause.kept ∙ c.loop-at.invariant.kept;
 }

@@ -3,7 +3,7 @@ use Rattle.std.specs.List.{position_or_len}
 use Rattle.std.specs.Str.Lossy.{utf8_valid_len}
 use Rattle.std.proofs.lemmas.List.Sums.{prefix_len-le-length}
 use Rattle.std.proofs.lemmas.Str.{utf8_valid_len-IsUtf8}
-use Rattle.annex_key.specs.Reading.{is_newline}
+use Rattle.annex_base.specs.Lines.{is_newline}
 use Rattle.annex_key.proofs.reading.name_front.Goals as goal
 
 pub returns-in-Ok : goal.returns-in-Ok

@@ -2,8 +2,9 @@ use Rattle.std.proofs.Common.{◌≡◌, ◌∙◌, IfOk, map, subst, ap}
 use Rattle.std.specs.Map.{values_of}
 use Rattle.std.specs.Map.Iter.{deref}
 use Rattle.std.proofs.lemmas.Map.Iter.{rest_more, rest_all}
+use Rattle.annex_base.proofs.Results.{OnOk-always}
 use Rattle.annex_key.proofs.TreeLemmas.{found_none, found_more, found_all, bare}
-use Rattle.annex_key.proofs.TreeLaws.{on_ok, seen-sorted}
+use Rattle.annex_key.proofs.TreeLaws.{seen-sorted}
 use Rattle.annex_key.proofs.tree.distinct_in.Goals as goal
 
 pub loop-key-init : goal.loop-key-init
@@ -23,4 +24,4 @@ returns-clause-value c =
     c.copies.ensures
 
 pub returns-clause-ordered : goal.returns-clause-ordered
-returns-clause-ordered c = on_ok _ c.copies.result (seen-sorted c.args.keys.now.entries c.values-key-items.ensures.ordered)
+returns-clause-ordered c = OnOk-always _ c.copies.result (seen-sorted c.args.keys.now.entries c.values-key-items.ensures.ordered)

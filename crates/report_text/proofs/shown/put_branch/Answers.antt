@@ -7,7 +7,7 @@ use Rattle.std.specs.List.{flat_map}
 use Rattle.union_merge.specs.Branch.{Files, lines_at}
 use Rattle.hash_dirs.specs.LogPath.{location_path}
 use Rattle.trust_groups.specs.Settings.{claims, settings}
-use Rattle.thin_model.specs.Logs.{file_path}
+use Rattle.run_data.specs.Files.{file_path}
 use Rattle.report_text.specs.Report.{branch_at, shown, claims_text, location_text, log_text, numbers_text, trust_text}
 use Rattle.report_text.specs.Walk.{shown_repo}
 use Rattle.report_text.proofs.shown.put_branch.Goals as goal

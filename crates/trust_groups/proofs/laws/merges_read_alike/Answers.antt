@@ -1,4 +1,4 @@
-use Rattle.trust_groups.proofs.MergeLemmas.{own_files, compacted_files, merged_files, any_order}
+use Rattle.trust_groups.proofs.MergeLemmas.{own_files, added_files, compacted_files, merged_files, any_order}
 use Rattle.trust_groups.proofs.laws.merges_read_alike.Goals as goal
 
 pub returns-clause-own : goal.returns-clause-own
@@ -6,6 +6,9 @@ returns-clause-own c = own_files
 
 pub returns-clause-compacted : goal.returns-clause-compacted
 returns-clause-compacted c = compacted_files
+
+pub returns-clause-added : goal.returns-clause-added
+returns-clause-added c = added_files
 
 pub returns-clause-merged : goal.returns-clause-merged
 returns-clause-merged c = merged_files

@@ -1,23 +1,21 @@
 use Rattle.std.proofs.Common.{ap, ◌∙◌}
-use Rattle.annex_key.specs.TreeView.{seen}
-use Rattle.annex_key.proofs.TreeLemmas.{set_is}
-use Rattle.annex_key.specs.Tree.{key_of}
+use Rattle.std.proofs.lemmas.Result.{on_ok_weaker}
+use Rattle.annex_key.specs.Tree.{with_key, key_of}
 use Rattle.annex_key.proofs.TreeLaws.{key_of-with_key_same, key_of-with_key_other}
 use Rattle.annex_key.proofs.tree.Tree.set.Goals as goal
 
-pub returns-clause-ok : goal.returns-clause-ok
-returns-clause-ok c =
-    set_is c.args.self.now (seen c.put.new.keys.entries) c.self.inside.keys.entries c.in_ok-path.path c.in_ok-copy.copy c.args.path.now c.args.key.now
-    (ap seen c.in_ok-put.ensures.ok) c.self.view_is c.in_ok-path.ensures.items c.in_ok-copy.ensures
-
 pub returns-clause-here : goal.returns-clause-here
 returns-clause-here c =
-    let is = set_is c.args.self.now (seen c.put.new.keys.entries) c.self.inside.keys.entries c.in_ok-path.path c.in_ok-copy.copy c.args.path.now c.args.key.now
-    (ap seen c.in_ok-put.ensures.ok) c.self.view_is c.in_ok-path.ensures.items c.in_ok-copy.ensures in
-    ap (λ t. key_of t c.args.path.now) is ∙ key_of-with_key_same c.args.self.now c.args.path.now c.args.key.now
+    let path = c.args.path.now in
+    let key = c.args.key.now in
+    on_ok_weaker c.put.result
+    (λ is. ap (λ t. key_of t path) (is ∙ ap (λ t. with_key t path key) c.self.view_is) ∙ key_of-with_key_same c.args.self.now path key)
+    c.put.ensures.ok
 
 pub returns-clause-others : goal.returns-clause-others
-returns-clause-others c = λ other different.
-    let is = set_is c.args.self.now (seen c.put.new.keys.entries) c.self.inside.keys.entries c.in_ok-path.path c.in_ok-copy.copy c.args.path.now c.args.key.now
-    (ap seen c.in_ok-put.ensures.ok) c.self.view_is c.in_ok-path.ensures.items c.in_ok-copy.ensures in
-    ap (λ t. key_of t other) is ∙ key_of-with_key_other c.args.self.now c.args.path.now c.args.key.now other different
+returns-clause-others c =
+    let path = c.args.path.now in
+    let key = c.args.key.now in
+    on_ok_weaker c.put.result
+    (λ is other different. ap (λ t. key_of t other) (is ∙ ap (λ t. with_key t path key) c.self.view_is) ∙ key_of-with_key_other c.args.self.now path key other different)
+    c.put.ensures.ok

@@ -4,11 +4,10 @@ use Rattle.annex_base.proofs.Lists.{Contains-from_Member}
 use Rattle.thin_driver.specs.Driver.{done, have}
 use Rattle.thin_driver.specs.Standing.{CanRun}
 use Rattle.thin_driver.specs.State.{Rests}
-use Rattle.thin_driver.proofs.Paths.{known_path}
 use Rattle.thin_driver.proofs.driver.Driver.apply.Goals as goal
 
 pub write_raw-requires-clause-path : goal.write_raw-requires-clause-path
-write_raw-requires-clause-path c = let can = subst (λ (x : Command). CanRun c.args.self.now.run.repos x) c.in-Log.is c.requires in known_path c.in-Log.file can.1
+write_raw-requires-clause-path c = let can = subst (λ (x : Command). CanRun c.args.self.now.run.repos x) c.in-Log.is c.requires in can.4
 
 pub write_raw-requires-clause-line : goal.write_raw-requires-clause-line
 write_raw-requires-clause-line c =

@@ -9,6 +9,6 @@ add_lines-requires-clause-lines c = (c.in_ok-line.ensures.line c.requires.can.li
 pub returns-clause-set : goal.returns-clause-set
 returns-clause-set c past rests =
     subst (λ p. Rests c.add_lines.new.self p)
-    (set_is c.args.self.now.run.repos past c.args.repo c.args.kind c.args.topic c.args.value c.in_ok-new.field-0 c.in_ok-line.line
-    (c.in_ok-new.ensures ∙ c.file_name.ensures) (c.in_ok-line.ensures.exact past rests.at))
+    (set_is c.args.self.now.run.repos past c.args.repo c.args.kind c.args.topic c.args.value c.in_ok-line.line
+    (c.in_ok-line.ensures.exact past rests.at))
     (c.in_ok-add_lines.ensures.added past rests)

@@ -3,7 +3,6 @@ use Rattle.log_lines.specs.declared.entry.LogKind.TheVariants as kinds
 use Rattle.log_lines.specs.declared.entry.Topic.TheVariants as topics
 use Rattle.log_lines.specs.declared.entry.Value.TheVariants as values
 use Rattle.log_lines.proofs.FormLemmas.{single_all}
-use Rattle.trust_groups.specs.Settings.{file_name}
 use Rattle.thin_driver.specs.Standing.{IsOneLine}
 use Rattle.thin_driver.proofs.ThinLines.{line_is, written_line}
 use Rattle.thin_driver.specs.Driver.{set}
@@ -12,7 +11,7 @@ use Rattle.thin_driver.proofs.driver.Driver.set_description.Goals as goal
 
 pub set-requires-clause-can : goal.set-requires-clause-can
 set-requires-clause-can c = record {
-  path = line_is (file_name kinds.Uuid) refl (λ e. cc);
+  named = λ e. cc;
   line = λ time. written_line kinds.Uuid (topics.Repo c.id.result) time (values.Text c.in_ok-text.text) tt
       (single_all c.in_ok-text.text (subst (λ (t : List ℕ). IsOneLine t) (sym c.in_ok-text.ensures.cases) c.requires.line));
 }

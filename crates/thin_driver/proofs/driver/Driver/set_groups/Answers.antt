@@ -4,7 +4,6 @@ use Rattle.log_lines.specs.declared.entry.LogKind.TheVariants as kinds
 use Rattle.log_lines.specs.declared.entry.Topic.TheVariants as topics
 use Rattle.log_lines.specs.declared.entry.Value.TheVariants as values
 use Rattle.log_lines.proofs.FormLemmas.{single_all}
-use Rattle.trust_groups.specs.Settings.{file_name}
 use Rattle.thin_driver.specs.Standing.{IsOneLine}
 use Rattle.thin_driver.proofs.Gathering.{Each-weaker}
 use Rattle.thin_driver.proofs.ThinLines.{IsSingle, line_is, written_line}
@@ -14,7 +13,7 @@ use Rattle.thin_driver.proofs.driver.Driver.set_groups.Goals as goal
 
 pub set-requires-clause-can : goal.set-requires-clause-can
 set-requires-clause-can c = record {
-  path = line_is (file_name kinds.Group) refl (λ e. cc);
+  named = λ e. cc;
   line = λ time. written_line kinds.Group (topics.Repo c.id.result) time (values.Groups c.in_ok-groups.groups) tt
       (Each-weaker IsOneLine IsSingle c.in_ok-groups.groups (λ g h. single_all g h) (subst (λ (gs : List (List ℕ)). Each IsOneLine gs) (sym c.in_ok-groups.ensures.cases) c.requires.lines));
 }

@@ -2,7 +2,6 @@ use Rattle.std.proofs.Common.{List, ℕ, refl, subst}
 use Rattle.log_lines.specs.declared.entry.LogKind.TheVariants as kinds
 use Rattle.log_lines.specs.declared.entry.Topic.TheVariants as topics
 use Rattle.log_lines.specs.declared.entry.Value.TheVariants as values
-use Rattle.trust_groups.specs.Settings.{file_name}
 use Rattle.thin_driver.proofs.ThinLines.{line_is, written_line}
 use Rattle.thin_driver.specs.Driver.{set}
 use Rattle.thin_driver.specs.State.{Rests}
@@ -10,7 +9,7 @@ use Rattle.thin_driver.proofs.driver.Driver.set_level.Goals as goal
 
 pub set-requires-clause-can : goal.set-requires-clause-can
 set-requires-clause-can c = record {
-  path = line_is (file_name kinds.Trust) refl (λ e. cc);
+  named = λ e. cc;
   line = λ time. written_line kinds.Trust (topics.Repo c.id.result) time (values.Level c.args.level) tt tt;
 }
 

@@ -1,7 +1,8 @@
 use Rattle.std.proofs.Common.{Some, length, ◌∙◌, ap}
 use Rattle.log_lines.specs.LineText.{line_text}
 use Rattle.log_lines.specs.Newest.{newest_stamp, next_stamp}
-use Rattle.thin_model.specs.Logs.{file_path, kept}
+use Rattle.run_data.specs.Files.{file_path}
+use Rattle.thin_model.specs.Logs.{kept}
 use Rattle.thin_driver.proofs.driver.Driver.written.Goals as goal
 
 pub returns-clause-exact : goal.returns-clause-exact

@@ -1,21 +1,36 @@
+use Rattle.std.proofs.Common.{[], ap, ◌∙◌}
 use Rattle.union_merge.specs.Branch.{lines_at}
-use Rattle.std.proofs.Common.{ap}
-use Rattle.trust_groups.specs.View.{level_of}
-use Rattle.trust_groups.proofs.KeptLemmas.{settings_are}
+use Rattle.union_merge.specs.FileView as view
+use Rattle.trust_groups.specs.Reads.{lines_and, seen}
+use Rattle.trust_groups.proofs.KeptLemmas.{settings_read}
+use Rattle.trust_groups.proofs.ReadsLemmas.{from_start, from_step, from_end, reads_none, reads_same}
 use Rattle.trust_groups.proofs.settings.Settings.read.Goals as goal
 
-pub returns : goal.returns
-returns c =
-    settings_are (lines_at c.args.branch.now) (level_of c.in_ok-read.field-0) c.in_ok-numcopies_of.field-0 c.in_ok-mincopies_of.field-0
-    c.in_ok-read-2.field-0 c.in_ok-read-3.field-0 c.in_ok-read-4.field-0 c.in_ok-read-5.field-0 c.in_ok-read-6.field-0 (lines_at c.in_ok-clone.field-0)
-    (record {
-      level = c.in_ok-read.ensures;
-      numcopies = c.in_ok-numcopies_of.ensures.value;
-      mincopies = c.in_ok-mincopies_of.ensures.value;
-      groups = c.in_ok-read-2.ensures;
-      descriptions = c.in_ok-read-3.ensures;
-      preferred = c.in_ok-read-4.ensures;
-      required = c.in_ok-read-5.ensures;
-      group_preferred = c.in_ok-read-6.ensures;
-      files = ap lines_at c.in_ok-clone.ensures.cases;
-    })
+pub loop-path-init : goal.loop-path-init
+loop-path-init c = (
+  λ path. [],
+  reads_none c.new-files.result.entries c.new-files.ensures.empty,
+  from_start c.args.branch.now c.into_iter-path-iterator.result (ap view.files_of c.into_iter-path-iterator.ensures.into_iter_gives ∙ c.files-path-items.ensures.value) c.files-path-items.ensures.branch,
+)
+
+pub loop-path-preserved : goal.loop-path-preserved
+loop-path-preserved c =
+    let so_far = c.loop-path.invariant in (
+      lines_and so_far.0 c.deref.result.now c.lines.result.now,
+      c.in_ok-add_file.ensures so_far.0 so_far.1,
+      from_step so_far.0 (lines_at c.args.branch.now) c.loop-path.path-iterator c.next.new.self (c.in-Some.path.now, c.in-Some.lines.now) c.deref.result.now c.lines.result.now
+          c.in-Some.ensures.steps c.deref.ensures.value c.lines.ensures.value so_far.2,
+    )
+
+pub returns-clause-reads : goal.returns-clause-reads
+returns-clause-reads c =
+    let so_far = c.loop-path.invariant in
+    reads_same (seen c.loop-path.files.entries) so_far.0 (lines_at c.args.branch.now)
+    (from_end so_far.0 (lines_at c.args.branch.now) c.loop-path.path-iterator c.in-None.ensures.steps.0 so_far.2) so_far.1
+
+pub returns-clause-exact : goal.returns-clause-exact
+returns-clause-exact c =
+    let so_far = c.loop-path.invariant in
+    settings_read (seen c.loop-path.files.entries) (lines_at c.args.branch.now)
+    (reads_same (seen c.loop-path.files.entries) so_far.0 (lines_at c.args.branch.now)
+    (from_end so_far.0 (lines_at c.args.branch.now) c.loop-path.path-iterator c.in-None.ensures.steps.0 so_far.2) so_far.1)

@@ -1,6 +1,0 @@
-use Rattle.annex_base.specs.Lists.{Each}
-use Rattle.report_text.specs.Walk.{IsLogged}
-use Rattle.report_text.proofs.tests.logged_run.Given as goal
-
-abbrev pub invariant-loop-repo : goal.invariant-loop-repo
-invariant-loop-repo l = Each IsLogged l.entries.items

@@ -1,0 +1,5 @@
+use Rattle.thin_driver.proofs.ThinMerges.{merged_union}
+use Rattle.thin_driver.proofs.laws.merges_leave_unions.Goals as goal
+
+pub returns : goal.returns
+returns c = merged_union

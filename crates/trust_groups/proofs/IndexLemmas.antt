@@ -1,0 +1,94 @@
+-- Indices by path: what is found after one is changed or added.
+use Rattle.std.proofs.Common.{◌≡◌, ℕ, true, false, cond, List, [], ◌∷◌, Some, Result, Ok, Err, OnErr, refl, sym, ap, ◌∙◌}
+use Rattle.std.specs.declared.vec.Vec.{Vec}
+use Rattle.std.specs.declared.alloc.Global.{Global}
+use Rattle.std.specs.declared.cmp.Ordering.TheVariants.{Less, Equal, Greater}
+use Rattle.std.specs.Ordering.{match_ordering, is_eq}
+use Rattle.std.specs.Map.{lookup, set_value}
+use Rattle.std.specs.BTreeMap.{is_at, insert_entry}
+use Rattle.std.proofs.lemmas.Cmp.{nat_list_cmp_total, tied_itself}
+use Rattle.std.proofs.lemmas.Map.Steps.{set_value_same}
+use Rattle.std.proofs.lemmas.Map.Text.{is_eq-slice_cmp}
+use Rattle.std.proofs.lemmas.Slice.Eq.{bytes_eq-Decides}
+use Rattle.annex_base.specs.ByteOrder.{text_cmp}
+use Rattle.log_lines.specs.Index.{Index}
+use Rattle.log_lines.proofs.Steps.{none_some, false_by}
+use Rattle.log_lines.proofs.NewerLemmas.{by_test}
+use Rattle.log_lines.proofs.PutLemmas.{by_order}
+use Rattle.annex_base.specs.ByteOrder.{path_cmp}
+use Rattle.trust_groups.specs.Reads.{Indices, index_at, indices_with, seen}
+
+abbrev Row : Type 0
+Row = Vec ℕ Global × Index
+
+pub seen-insert_entry : (es : List Row) (path : Vec ℕ Global) (index : Index) → seen (insert_entry path_cmp es path index) ≡ insert_entry text_cmp (seen es) path.items index
+seen-insert_entry [] path index = refl
+seen-insert_entry (e ∷ es) path index =
+    elim (text_cmp path.items e.0.items) as (λ o. seen (match_ordering o ((path, index) ∷ e ∷ es) ((e.0, index) ∷ es) (e ∷ insert_entry path_cmp es path index)) ≡ match_ordering o ((path.items, index) ∷ seen (e ∷ es)) ((e.0.items, index) ∷ seen es) ((e.0.items, e.1) ∷ insert_entry text_cmp (seen es) path.items index)) [
+      | Less ↦ refl
+      | Equal ↦ refl
+      | Greater ↦ ap (λ (w : Indices). (e.0.items, e.1) ∷ w) (seen-insert_entry es path index)
+    ]
+
+pub lookup-seen : (es : List Row) (path : List ℕ) → lookup (λ k. is_eq (text_cmp path k.items)) es ≡ index_at (seen es) path
+lookup-seen [] path = refl
+lookup-seen (e ∷ es) path =
+    elim (is_eq (text_cmp path e.0.items)) as (λ b. cond b (Some e.1) (lookup (λ k. is_eq (text_cmp path k.items)) es) ≡ cond b (Some e.1) (index_at (seen es) path)) [
+      | true ↦ refl
+      | false ↦ lookup-seen es path
+    ]
+
+pub seen-set_value : (es : List Row) (path : List ℕ) (index : Index) → seen (set_value (λ k. is_eq (text_cmp path k.items)) es index) ≡ set_value (is_at (text_cmp path)) (seen es) index
+seen-set_value [] path index = refl
+seen-set_value (e ∷ es) path index =
+    elim (is_eq (text_cmp path e.0.items)) as (λ b. seen (cond b ((e.0, index) ∷ es) (e ∷ set_value (λ k. is_eq (text_cmp path k.items)) es index)) ≡ cond b ((e.0.items, index) ∷ seen es) ((e.0.items, e.1) ∷ set_value (is_at (text_cmp path)) (seen es) index)) [
+      | true ↦ refl
+      | false ↦ ap (λ (w : Indices). (e.0.items, e.1) ∷ w) (seen-set_value es path index)
+    ]
+
+-- ---- what is found at a path
+
+same_path : (x y : List ℕ) → is_eq (text_cmp x y) ≡ true → x ≡ y
+same_path x y h = (bytes_eq-Decides x y).0 (sym (is_eq-slice_cmp x y) ∙ h)
+
+own_path : (x : List ℕ) → is_eq (text_cmp x x) ≡ true
+own_path x = ap is_eq (tied_itself nat_list_cmp_total x)
+
+apart : (x y z : List ℕ) → (x ≡ y → ⊥) → is_eq (text_cmp x z) ≡ true → is_eq (text_cmp y z) ≡ false
+apart x y z other h = false_by (is_eq (text_cmp y z)) (λ t. other (same_path x z h ∙ sym (same_path y z t)))
+
+pub set_own : (es : Indices) (path : List ℕ) (old index : Index) → index_at es path ≡ Some old → index_at (indices_with es path index) path ≡ Some index
+set_own [] path old index h = absurd (none_some old h)
+set_own (e ∷ es) path old index h =
+    by_test (is_eq (text_cmp path e.0)) (λ t. rw (t, t) refl) (λ t. rw (t, t) (set_own es path old index (rw t at h)))
+
+pub set_other : (es : Indices) (path other : List ℕ) (index : Index) → (path ≡ other → ⊥) → index_at (indices_with es path index) other ≡ index_at es other
+set_other [] path other index apart_from = refl
+set_other (e ∷ es) path other index apart_from =
+    by_test (is_eq (text_cmp path e.0))
+    (λ t. let no = apart path other e.0 apart_from t in rw (t, no) refl)
+    (λ t. by_test (is_eq (text_cmp other e.0)) (λ s. rw (t, s) refl) (λ s. rw (t, s) (set_other es path other index apart_from)))
+
+pub put_own : (es : Indices) (path : List ℕ) (index : Index) → index_at (insert_entry text_cmp es path index) path ≡ Some index
+put_own [] path index = let own = own_path path in rw own refl
+put_own (e ∷ es) path index =
+    let own = own_path path in
+    by_order (text_cmp path e.0)
+    (λ o. rw (o, own) refl)
+    (λ o. rw (o, o) refl)
+    (λ o. rw (o, o) (put_own es path index))
+
+pub put_other : (es : Indices) (path other : List ℕ) (index : Index) → (path ≡ other → ⊥) → index_at (insert_entry text_cmp es path index) other ≡ index_at es other
+put_other [] path other index apart_from = let no = apart path other path apart_from (own_path path) in rw no refl
+put_other (e ∷ es) path other index apart_from =
+    let no = apart path other path apart_from (own_path path) in
+    by_order (text_cmp path e.0)
+    (λ o. rw (o, no) refl)
+    (λ o. let tied = apart path other e.0 apart_from (ap is_eq o) in rw (o, tied) refl)
+    (λ o. by_test (is_eq (text_cmp other e.0)) (λ s. rw (o, s) refl) (λ s. rw (o, s) (put_other es path other index apart_from)))
+
+-- what the map is where the index that was lent is as it was
+pub lent_same : {T E : Type 0} (r : Result T E) (old new : List Row) (path : List ℕ) (was is : Index) → new ≡ set_value (λ k. is_eq (text_cmp path k.items)) old is → Some was ≡ lookup (λ k. is_eq (text_cmp path k.items)) old → is ≡ was → OnErr r (seen new ≡ seen old)
+lent_same (Ok v) old new path was is set found same = tt
+lent_same (Err e) old new path was is set found same =
+    ap seen (set ∙ ap (set_value (λ k. is_eq (text_cmp path k.items)) old) same ∙ set_value_same (λ k. is_eq (text_cmp path k.items)) old was (sym found))
