@@ -1,7 +1,7 @@
 -- What an entry changes: the value after it is the value before, or the entry is of a stated kind.
 use Rattle.node_model.specs.Clocks.{hold_time, ClockSet}
 use Rattle.std.proofs.Common.{◌≡◌, ◌≢◌, ℕ, ◌+◌, ◌<◌, ◌≤◌, Bool, true, false, not, ◌&&◌, ◌||◌, List, [], ◌∷◌, length, Option, Some, None, ◌⊎◌, inl, inr, refl, sym, ap, ◌∙◌, subst, arith}
-use Rattle.std.specs.Prelude.{bytes_eq, if◌then◌else◌, ◌==◌, nat_lt, nat_le, filter, map, option_map}
+use Rattle.std.specs.Prelude.{bytes_eq, if◌then◌else◌, ◌==◌, nat_lt, nat_le, filter, map}
 use Rattle.std.specs.List.{list_any}
 use Rattle.std.specs.Cmp.Lexicographic.{bytes_decides}
 use Rattle.std.proofs.lemmas.Bool.{true≢false}
