@@ -14,3 +14,5 @@ pub mod TreeLemmas
 pub mod TreeLaws
 pub mod IndexLemmas
 pub mod IndexedLemmas
+pub mod FirstLemmas
+pub mod OnceLemmas

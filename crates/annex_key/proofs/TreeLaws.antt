@@ -1,5 +1,5 @@
 -- What the lists of a tree say: its paths and keys are those that a look-up finds.
-use Rattle.std.proofs.Common.{◌≡◌, ◌≢◌, ◌⊎◌, inl, inr, ◌↔◌, ℕ, Bool, true, false, not, List, [], ◌∷◌, filter, slice_index_or, All, AllPairs, Contains, Some, Result, Ok, Err, IfOk, OnOk, refl, sym, ap, subst, ◌∙◌, arith, true≢false}
+use Rattle.std.proofs.Common.{◌≡◌, ◌≢◌, ◌⊎◌, inl, inr, ◌↔◌, ℕ, Bool, true, false, not, List, [], ◌∷◌, filter, slice_index_or, All, AllPairs, Contains, Some, refl, sym, ap, subst, ◌∙◌, arith, true≢false}
 use Rattle.std.specs.declared.vec.Vec.{Vec}
 use Rattle.std.specs.declared.alloc.Global.{Global}
 use Rattle.std.specs.declared.cmp.Ordering.{Ordering}
@@ -233,11 +233,7 @@ unfolding IsStrictlySortedBy
 seen-sorted [] sorted = tt
 seen-sorted (e ∷ es) sorted = (below_seen e.0 es sorted.0, seen-sorted es sorted.1)
 
--- ---- answers
-
-pub of_both : {A E : Type 0} (P Q : A → Type 0) (R : Type 0) (r : Result A E) → IfOk r P → OnOk r R → ((v : A) → P v → R → Q v) → IfOk r Q
-of_both P Q R (Ok x) p q f = f x p q
-of_both P Q R (Err e) p q f = tt
+-- ---- what the lists say
 
 pub paths_each : (es : List Row) (t : Entries) (key : List ℕ) (paths : List (List ℕ)) → seen es ≡ t → paths ≡ paths_of (seen es) key → IsInOrder (seen es)
     → (path : List ℕ) → Contains paths path ↔ (key_of t path ≡ Some key)

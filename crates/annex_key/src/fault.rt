@@ -1,3 +1,4 @@
+//! The faults of texts that spell no key.
 use std::alloc::{AllocError, AllocFailed};
 use thiserror::Error;
 

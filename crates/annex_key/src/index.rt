@@ -6,7 +6,7 @@ ghost use Rattle.std.specs.List.Sorted.{IsStrictlySortedBy};
 ghost use Rattle.std.specs.BTreeMap.{is_at};
 ghost use Rattle.std.specs.Str.{bytes_eq};
 ghost use Rattle.annex_base.specs.ByteOrder.{text_cmp};
-ghost use Rattle.annex_key.specs.TreeView.{has_path, was_left};
+ghost use Rattle.annex_key.specs.TreeView.{has_path, was_left, AddsFirst, AreFirsts};
 
 use crate::key::Key;
 use annex_base::{NoMemory, Text};
@@ -80,4 +80,28 @@ fn copies(paths: &BTreeSet<Text>, alloc: Global) -> Result<Vec<Text>, NoMemory>
         out.push(path.clone()?)?;
     }
     Ok(out)
+}
+
+/// Each key at its first path.
+pub(crate) fn firsts_of(index: &PathIndex, alloc: Global) -> Result<BTreeMap<Text, Key>, NoMemory>
+    ensures { IfOk result (λ m. AreFirsts index.now m) }
+{
+    let mut firsts = BTreeMap::new(alloc);
+    for (key, paths) in index.iter() {
+        add_first(&mut firsts, key, paths)?;
+    }
+    Ok(firsts)
+}
+
+fn add_first(
+    firsts: &mut BTreeMap<Text, Key>,
+    key: &Key,
+    paths: &BTreeSet<Text>,
+) -> Result<(), NoMemory>
+    ensures { OnOk result (AddsFirst paths.now key.now firsts.old firsts.new) }
+{
+    if let Some(first) = paths.first() {
+        firsts.insert(first.clone()?, key.clone()?)?;
+    }
+    Ok(())
 }

@@ -1,3 +1,4 @@
+//! Keys, their parts and their files.
 ghost use Rattle.std.specs.Prelude.{◌≡◌, ◌≢◌, ◌==◌, ◌↔◌, ◌⊎◌, ◌++◌, List, ℕ, Some, None, IfOk, IsErrOf, MatchResult};
 ghost use Rattle.std.proofs.Common.{rules};
 ghost use Rattle.std.specs.Cmp.{partial_order_from_own_ties};

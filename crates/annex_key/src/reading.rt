@@ -1,3 +1,4 @@
+//! Reading a key from left to right.
 ghost use Rattle.std.specs.Prelude.{◌≡◌, ◌≤◌, length, IfOk};
 ghost use Rattle.std.specs.List.{list_all, position_or_len};
 ghost use Rattle.std.specs.Str.Lossy.{utf8_valid_len};

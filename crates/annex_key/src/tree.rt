@@ -1,15 +1,15 @@
+//! A working tree: the key of each path, and the paths of each key.
 ghost use Rattle.std.specs.Prelude.{◌≡◌, ◌≢◌, ◌↔◌, List, ℕ, [], ◌∷◌, ◌++◌, map, Contains, AllPairs, Some, None, IfOk, OnOk, OnErr};
 ghost use Rattle.std.specs.List.Sorted.{IsStrictlySortedBy};
-ghost use Rattle.std.specs.Map.{keys_of};
+ghost use Rattle.std.specs.Map.{keys_of, values_of};
 ghost use Rattle.std.specs.Option.{option_copied};
 ghost use Rattle.annex_base.specs.ByteOrder.{text_cmp};
 ghost use Rattle.annex_key.specs.Tree.{with_key, key_of, paths_of, distinct_keys};
 ghost use Rattle.annex_key.specs.TreeView.{seen, IsIndexed};
 
-use crate::index::{PathIndex, add_path, leave_key, paths_of, take_path};
+use crate::index::{PathIndex, add_path, firsts_of, leave_key, paths_of, take_path};
 use crate::key::Key;
 use annex_base::{NoMemory, Text};
-use indexmap::IndexSet;
 use std::alloc::Global;
 use std::collections::BTreeMap;
 use std::marker::Model;
@@ -77,7 +77,8 @@ impl Tree {
         ensures once { IfOk result (λ v. AllPairs (λ x y. x ≢ y) v.items) }
         ensures each { IfOk result (λ v. (key : List ℕ) → Contains v.items key ↔ ((path : List ℕ) × (key_of self.now path ≡ Some key))) }
     {
-        distinct_in(alloc, &self.keys)
+        let firsts = firsts_of(&self.paths, alloc)?;
+        copies(alloc, &firsts)
     }
 }
 
@@ -125,23 +126,13 @@ fn replace(
     Ok(keys.insert(path, key)?)
 }
 
-fn copies(alloc: Global, keys: &[&Key]) -> Result<Vec<Key>, NoMemory>
-    ensures { IfOk result (λ v. v.items ≡ map (λ k. k.now) keys.now) }
+fn copies(alloc: Global, keys: &BTreeMap<Text, Key>) -> Result<Vec<Key>, NoMemory>
+    ensures value { IfOk result (λ v. v.items ≡ values_of keys.now.entries) }
+    ensures ordered { OnOk result (IsStrictlySortedBy text_cmp (keys_of keys.now.entries)) }
 {
     let mut out = Vec::new(alloc);
-    for key in keys {
+    for key in keys.values() {
         out.push(key.copy()?)?;
     }
     Ok(out)
-}
-
-fn distinct_in(alloc: Global, keys: &BTreeMap<Vec<u8>, Key>) -> Result<Vec<Key>, NoMemory>
-    ensures value { IfOk result (λ v. v.items ≡ distinct_keys (seen keys.now.entries)) }
-    ensures ordered { OnOk result (IsStrictlySortedBy text_cmp (keys_of (seen keys.now.entries))) }
-{
-    let mut found = IndexSet::new(alloc);
-    for key in keys.values() {
-        found.insert(key)?;
-    }
-    copies(alloc, found.as_slice())
 }

@@ -1,3 +1,4 @@
+//! What a repository said of a content.
 /// What a repository answered about a content, and so how far its copy is relied on
 /// (git-annex-numcopies, git-annex-mincopies; the three kinds are the project's own).
 #[derive(Debug, Clone, Copy, PartialEq, Eq, PartialOrd, Ord)]

@@ -1,3 +1,4 @@
+//! Until when what was said counts.
 ghost use Rattle.std.specs.Prelude.{◌≡◌, ◌+◌, ◌-◌, ◌/◌, ◌≤◌, ◌<◌, ◌^◌, MatchResult};
 
 /// The evidence's first hold has ended by this clock. Both times are in milliseconds, on the clock of the job that drops.

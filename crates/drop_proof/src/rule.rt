@@ -1,3 +1,4 @@
+//! Whether what was said is enough to drop a copy.
 ghost use Rattle.std.specs.Prelude.{◌≡◌, ◌<◌, ◌^◌, ◌↔◌, ℕ, List, [], Option, true, false, max, length, count_by};
 ghost use Rattle.drop_proof.specs.Judging.{is_full, is_enough, full_needed, MeetsRule, ends, least_end, IsFirstEnd, judged};
 

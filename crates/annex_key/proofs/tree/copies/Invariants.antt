@@ -1,5 +1,7 @@
-use Rattle.std.proofs.Common.{◌≡◌, map, take}
+use Rattle.std.proofs.Common.{◌≡◌, ◌++◌}
+use Rattle.std.specs.Map.{values_of}
 use Rattle.annex_key.proofs.tree.copies.Given as goal
 
+-- the keys so far and those that are left are all
 abbrev pub invariant-loop-key : goal.invariant-loop-key
-invariant-loop-key l = l.out.items ≡ map (λ k. k.now) (take l.key-index l.keys)
+invariant-loop-key l = l.out.items ++ l.key-iterator ≡ values_of l.keys.entries
