@@ -1,4 +1,3 @@
-use Rattle.std.proofs.Common.{◌≡◌, refl}
 use Rattle.thin_driver.specs.Driver.{run_of}
 use Rattle.report_text.specs.Report.{report}
 use Rattle.annex_cli.proofs.DueLemmas.{HaveOneReading, due_answered, due_report}

@@ -3,7 +3,6 @@ use Rattle.annex_base.specs.Lists.{Each}
 use Rattle.run_data.specs.declared.run.Run.{Run}
 use Rattle.thin_model.specs.Thin.{IsThinRun}
 use Rattle.script_lang.specs.declared.command.Command.{Command}
-use Rattle.script_lang.specs.Script.{IsScript}
 use Rattle.thin_driver.specs.Driver.{run_of}
 use Rattle.report_text.specs.Report.{report}
 use Rattle.report_text.specs.Walk.{ShowsKnown}
