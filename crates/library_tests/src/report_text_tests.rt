@@ -9,11 +9,11 @@ ghost use Rattle.union_merge.specs.LineSet.{IsLine};
 use annex_base::{Items, Line, NoMemory, RepoId, Text};
 use annex_key::Key;
 use drop_proof::Need;
+use report_text::report;
 use run_data::{
     By, CandidateCause, Cause, Denial, DropRefusal, Entry, EntryKind, Job, JobKind, LogFile,
     Outcome, Proof, RepoView, Run, SourceCause, SourceFailure, TransferRefusal,
 };
-use report_text::report;
 use script_lang::Command;
 use std::alloc::Global;
 use std::test::Fail;
@@ -562,9 +562,21 @@ fn logged_run(alloc: Global) -> Result<Run, NoMemory>
         ),
         (0, "numcopies.log", "3s 3"),
         (0, "mincopies.log", "4s 2"),
-        (0, "975/c65/WORM-s3--abc.log", "5s 1 00000000-0000-4000-8000-00000000000c"),
-        (0, "975/c65/WORM-s3--abc.log", "6s 1 00000000-0000-4000-8000-000000000001"),
-        (0, "975/c65/WORM-s3--abc.log", "7s 1 00000000-0000-4000-8000-00000000000a"),
+        (
+            0,
+            "975/c65/WORM-s3--abc.log",
+            "5s 1 00000000-0000-4000-8000-00000000000c",
+        ),
+        (
+            0,
+            "975/c65/WORM-s3--abc.log",
+            "6s 1 00000000-0000-4000-8000-000000000001",
+        ),
+        (
+            0,
+            "975/c65/WORM-s3--abc.log",
+            "7s 1 00000000-0000-4000-8000-00000000000a",
+        ),
         (1, "numcopies.log", "8s 5"),
     ] {
         add(&mut entries, log_entry(alloc, repo, name, word)?)?;

@@ -17,7 +17,10 @@ fn kinds_of_files(rt: HostRuntime) -> Result<(), Fail> {
         ("numcopies.log", Some(LogKind::Numcopies)),
         ("mincopies.log", Some(LogKind::Mincopies)),
         ("975/c65/WORM-s3--abc.log", Some(LogKind::Location)),
-        ("e4d/ab8/WORM-s14-m1600000001--f1.mp3.log", Some(LogKind::Location)),
+        (
+            "e4d/ab8/WORM-s14-m1600000001--f1.mp3.log",
+            Some(LogKind::Location),
+        ),
         ("remote.log", None),
         ("trust.log2", None),
         ("", None),

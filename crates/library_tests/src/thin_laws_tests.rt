@@ -3,9 +3,7 @@ use annex_base::{Found, Items, RepoId, Text};
 use annex_key::Key;
 use drop_proof::Need;
 use log_lines::LogKind;
-use run_data::{
-    By, Entry, EntryKind, FrameText, FrameView, Job, JobKind, LogFile, RepoView, Run,
-};
+use run_data::{By, Entry, EntryKind, FrameText, FrameView, Job, JobKind, LogFile, RepoView, Run};
 use std::alloc::Global;
 use std::test::Fail;
 use thin_laws::{copies, is_safe_at};

@@ -50,7 +50,7 @@ impl Driver {
         ensures kept { KeepsRun self.old self.new }
     {
         let number = self.tally(repo).next_job()?;
-        let what = job.clone()?;
+        let what = copy_of(job)?;
         self.note(repo, EntryKind::Begin { job: number, what })?;
         Ok(number)
     }
@@ -171,4 +171,10 @@ impl Driver {
         self.holds[repo as usize] = None;
         Ok(())
     }
+}
+
+fn copy_of(job: &Job) -> Result<Job, NoMemory>
+    ensures { IfOk result (λ copy. copy ≡ job.now) }
+{
+    Ok(job.clone()?)
 }

@@ -178,7 +178,7 @@ impl Driver {
         ensures written { OnOk result ((past : List Entry) → Rests self.old past → Rests self.new (add_lines past repo file.now (line.now ∷ []))) }
         ensures kept { KeepsRun self.old self.new }
     {
-        let file = file.clone()?;
+        let file = copy_of(file)?;
         let line = line.clone()?;
         self.add_lines(repo, file, &[line])?;
         Ok(())
@@ -198,4 +198,10 @@ impl Driver {
         self.run.marks.push(count)?;
         Ok(())
     }
+}
+
+fn copy_of(file: &LogFile) -> Result<LogFile, NoMemory>
+    ensures { IfOk result (λ copy. copy ≡ file.now) }
+{
+    Ok(file.clone()?)
 }

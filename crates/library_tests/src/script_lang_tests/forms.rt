@@ -203,6 +203,18 @@ fn each_form_is_its_command(rt: HostRuntime) -> Result<(), Fail> {
         (b"show log b group.log", b"ShowLog|1|group.log"),
         (b"show log b numcopies.log", b"ShowLog|1|numcopies.log"),
         (b"show log b mincopies.log", b"ShowLog|1|mincopies.log"),
+        (
+            b"show log a preferred-content.log",
+            b"ShowLog|0|preferred-content.log",
+        ),
+        (
+            b"show log b required-content.log",
+            b"ShowLog|1|required-content.log",
+        ),
+        (
+            b"show log b group-preferred-content.log",
+            b"ShowLog|1|group-preferred-content.log",
+        ),
         (b"show logs a", b"ShowLogs|0"),
         (b"show numbers b", b"ShowNumbers|1"),
         (b"show level a b", b"ShowLevel|0|1"),

@@ -76,7 +76,7 @@ fn these_lines_say_nothing(rt: HostRuntime) -> Result<(), Fail> {
         b"show location a",
         b"show location c WORM--k",
         b"show log a",
-        b"show log a preferred-content.log",
+        b"show log a remote.log",
         b"show log a location WORM--k",
         b"show log c trust.log",
         b"show logs",

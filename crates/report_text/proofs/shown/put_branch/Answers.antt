@@ -23,20 +23,6 @@ line_shown run place repo r command line branch text old new is names shows name
     let same : r ≡ repo = same_some r repo (sym names ∙ ap shown_repo (sym is) ∙ named) in
     put ∙ ap (λ (b : Files). old ++ text b) (at ∙ ap (branch_at run place) (sym same)) ∙ ap (λ (l : List ℕ). old ++ l) (shows ∙ ap (shown run place) (sym is))
 
--- a line of no such kind names no repository
-shows_no_branch : (command : Command) (repo : ℕ)
-    → ((r : ℕ) (key : List ℕ) → command ≡ ShowClaims r key → ⊥) → ((r : ℕ) (key : List ℕ) → command ≡ ShowLocation r key → ⊥)
-    → ((r : ℕ) (file : LogFile) → command ≡ ShowLog r file → ⊥) → ((r : ℕ) → command ≡ ShowLogs r → ⊥)
-    → ((r : ℕ) → command ≡ ShowNumbers r → ⊥) → ((r target : ℕ) → command ≡ ShowLevel r target → ⊥)
-    → shown_repo command ≡ Some repo → ⊥
-shows_no_branch (ShowClaims r key) repo claims location log logs numbers level named = claims r key refl
-shows_no_branch (ShowLocation r key) repo claims location log logs numbers level named = location r key refl
-shows_no_branch (ShowLog r file) repo claims location log logs numbers level named = log r file refl
-shows_no_branch (ShowLogs r) repo claims location log logs numbers level named = logs r refl
-shows_no_branch (ShowNumbers r) repo claims location log logs numbers level named = numbers r refl
-shows_no_branch (ShowLevel r target) repo claims location log logs numbers level named = level r target refl
-shows_no_branch _ repo claims location log logs numbers level named = cc
-
 pub returns-in_ok-put_claims-in-ShowClaims : goal.returns-in_ok-put_claims-in-ShowClaims
 returns-in_ok-put_claims-in-ShowClaims c = λ place repo named at.
     line_shown c.args.run.now place repo c.in-ShowClaims.repo c.args.command.now (ShowClaims c.in-ShowClaims.repo c.in-ShowClaims.key) c.args.branch.now (λ (b : Files). claims_text c.args.run.now c.in-ShowClaims.repo c.in-ShowClaims.key (claims (lines_at b) c.in-ShowClaims.key)) _ _
@@ -69,8 +55,3 @@ returns-in_ok-put_level-in-ShowLevel c = λ place repo named at.
 
 pub put_level-requires : goal.put_level-requires
 put_level-requires c = (rw c.in-ShowLevel.is at c.requires).1
-
-pub returns-in_default : goal.returns-in_default
-returns-in_default c = λ place repo named at.
-    let other = c.in_default in
-    absurd (shows_no_branch c.args.command.now repo other.not-ShowClaims other.not-ShowLocation other.not-ShowLog other.not-ShowLogs other.not-ShowNumbers other.not-ShowLevel named)
