@@ -1,3 +1,5 @@
+//! Which of two values of one stamp is preferred.
+
 ghost use Rattle.std.specs.Prelude.{◌≡◌, ℕ};
 ghost use Rattle.log_lines.specs.Newest.{value_cmp};
 ghost use Rattle.log_lines.specs.Latest.{value_rank};

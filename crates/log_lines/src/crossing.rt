@@ -1,5 +1,9 @@
+//! That the types may cross threads.
+
 use crate::entry::{Entry, LogKind, Topic, Value};
 use crate::group_list::GroupList;
+use crate::index::Newest;
+use crate::statement::Statement;
 
 fn is_send<T: Send>() {}
 
@@ -17,4 +21,8 @@ fn cross_threads() {
     is_sync::<Entry>();
     is_send::<GroupList>();
     is_sync::<GroupList>();
+    is_send::<Statement>();
+    is_sync::<Statement>();
+    is_send::<Newest>();
+    is_sync::<Newest>();
 }

@@ -1,3 +1,5 @@
+//! Log files, and what their lines say.
+
 use crate::group_list::GroupList;
 use annex_base::{Level, RepoId, Stamp, Text};
 

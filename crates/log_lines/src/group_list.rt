@@ -1,3 +1,5 @@
+//! The list of a repository's groups.
+
 ghost use Rattle.std.specs.Prelude.{◌≡◌, List, ℕ, [], ◌∷◌, ◌++◌, OnOk, OnErr};
 
 use annex_base::{NoMemory, Text};

@@ -1,3 +1,5 @@
+//! Lines of location logs.
+
 ghost use Rattle.std.specs.Prelude.{◌≡◌, length};
 ghost use Rattle.log_lines.specs.Reading.{letter_status, status_of, location_of};
 

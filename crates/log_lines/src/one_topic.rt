@@ -1,3 +1,5 @@
+//! The newest entry of one topic, without an index.
+
 ghost use Rattle.std.specs.Prelude.{◌≡◌, IfOk};
 ghost use Rattle.std.specs.Ordering.{is_lt};
 ghost use Rattle.log_lines.specs.Newest.{entry_cmp, newer, newest_of};

@@ -1,3 +1,5 @@
+//! The reading of a line.
+
 ghost use Rattle.std.specs.Prelude.{◌≡◌, length, IfOk, IfSome, Some};
 ghost use Rattle.std.specs.List.{list_all};
 ghost use Rattle.std.specs.Str.{is_utf8};

@@ -1,3 +1,5 @@
+//! Lines that begin with an identifier, up to what they say of it.
+
 ghost use Rattle.std.specs.Prelude.{◌≡◌, length};
 ghost use Rattle.std.specs.Option.{option_map};
 ghost use Rattle.log_lines.specs.Reading.{repo_of, repo_front, repo_line};

@@ -1,3 +1,5 @@
+//! The stamp of an entry that is added.
+
 ghost use Rattle.std.specs.Prelude.{◌≡◌};
 ghost use Rattle.log_lines.specs.Newest.{next_stamp};
 

@@ -1,3 +1,5 @@
+//! Stamps in front of a line and at its end.
+
 ghost use Rattle.std.specs.Prelude.{◌≡◌, length, ◌==◌};
 ghost use Rattle.std.specs.Option.{option_map};
 ghost use Rattle.annex_base.specs.StampReading.{stamp_of};

@@ -1,3 +1,5 @@
+//! Lines with a text: descriptions and content expressions.
+
 ghost use Rattle.std.specs.Prelude.{◌≡◌, length, IfOk};
 ghost use Rattle.std.specs.Option.{option_map};
 ghost use Rattle.log_lines.specs.LineText.{is_group};

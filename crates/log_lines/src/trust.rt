@@ -1,3 +1,5 @@
+//! Lines of trust.log.
+
 ghost use Rattle.std.specs.Prelude.{◌≡◌, length};
 ghost use Rattle.log_lines.specs.Reading.{letter_level, level_body, trust_of};
 

@@ -1,3 +1,5 @@
+//! The first and the last word of a line.
+
 ghost use Rattle.std.specs.Prelude.{◌≡◌, length};
 ghost use Rattle.std.specs.List.{position_or_len, suffix_len};
 ghost use Rattle.std.specs.Option.{option_map};

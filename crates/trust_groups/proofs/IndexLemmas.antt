@@ -16,7 +16,8 @@ use Rattle.log_lines.proofs.Steps.{none_some, false_by}
 use Rattle.log_lines.proofs.NewerLemmas.{by_test}
 use Rattle.log_lines.proofs.PutLemmas.{by_order}
 use Rattle.annex_base.specs.ByteOrder.{path_cmp}
-use Rattle.trust_groups.specs.Reads.{Indices, index_at, indices_with, seen}
+use Rattle.trust_groups.specs.Adding.{indices_with}
+use Rattle.trust_groups.specs.Reads.{Indices, index_at, seen}
 
 abbrev Row : Type 0
 Row = Vec ℕ Global × Index

@@ -24,7 +24,8 @@ use Rattle.annex_base.specs.ByteOrder.{path_cmp}
 use Rattle.union_merge.specs.FileView as view
 use Rattle.union_merge.specs.Branch.{Files, IsBranch, lines_at}
 use Rattle.trust_groups.specs.Settings.{Lines}
-use Rattle.trust_groups.specs.Reads.{Indices, IsIndexOf, Reads, index_at, indices_and, indices_with, is_nil, kind_at, lines_and, lines_with, seen}
+use Rattle.trust_groups.specs.Adding.{indices_and, indices_with, is_nil, lines_and}
+use Rattle.trust_groups.specs.Reads.{Indices, IsIndexOf, Reads, index_at, kind_at, lines_with, seen}
 use Rattle.trust_groups.proofs.IndexLemmas.{put_other, put_own, seen-insert_entry, set_other, set_own}
 
 -- ---- the index of one file

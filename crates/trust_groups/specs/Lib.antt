@@ -1,3 +1,4 @@
+pub mod Adding
 pub mod Alike
 pub mod Claims
 pub mod Kept

@@ -1,9 +1,9 @@
 -- Settings that are kept while lines are added: of each file of a branch, by its path, an index of its newest entries (own).
-use Rattle.std.specs.Prelude.{◌≡◌, ℕ, Bool, true, false, if◌then◌else◌, List, [], ◌∷◌, ◌++◌, map, bytes_eq, Option, Some, None}
+use Rattle.std.specs.Prelude.{◌≡◌, ℕ, if◌then◌else◌, List, [], ◌∷◌, ◌++◌, map, bytes_eq, Option, Some, None}
 use Rattle.std.specs.declared.vec.Vec.{Vec}
 use Rattle.std.specs.declared.alloc.Global.{Global}
-use Rattle.std.specs.Map.{lookup, set_value}
-use Rattle.std.specs.BTreeMap.{is_at, insert_entry}
+use Rattle.std.specs.Map.{lookup}
+use Rattle.std.specs.BTreeMap.{is_at}
 use Rattle.std.specs.Option.{unwrap_or}
 use Rattle.annex_base.specs.ByteOrder.{text_cmp}
 use Rattle.log_lines.specs.declared.entry.Entry.{Entry}
@@ -22,10 +22,6 @@ Indices = List (List ℕ × Index)
 abbrev pub index_at : Indices → List ℕ → Option Index
 index_at indices path = lookup (is_at (text_cmp path)) indices
 
-abbrev pub is_nil : List Entry → Bool
-is_nil [] = true
-is_nil (e ∷ es) = false
-
 abbrev pub entries_or_none : Option Index → List Entry
 entries_or_none None = []
 entries_or_none (Some index) = index.entries
@@ -33,14 +29,6 @@ entries_or_none (Some index) = index.entries
 -- the newest entries of a file
 abbrev pub entries_at : Indices → List ℕ → List Entry
 entries_at indices path = entries_or_none (index_at indices path)
-
--- with this index of a file that is there
-abbrev pub indices_with : Indices → List ℕ → Index → Indices
-indices_with indices path index = set_value (is_at (text_cmp path)) indices index
-
--- with this index of a file that isn't there, unless it is empty
-abbrev pub indices_and : Indices → List ℕ → Index → Indices
-indices_and indices path index = if is_nil index.entries then indices else insert_entry text_cmp indices path index
 
 -- what kind of log a file is, if it is one: where no other log has its name, only a location log can stand at its path
 abbrev pub kind_at : List ℕ → LogKind
@@ -58,10 +46,6 @@ Reads indices lines = (path : List ℕ) → IsIndexOf (index_at indices path) (k
 -- the lines, with one more of the file of this path
 abbrev pub lines_with : Lines → List ℕ → List ℕ → Lines
 lines_with lines path line = λ other. if bytes_eq path other then (lines other ++ line ∷ []) else lines other
-
--- the lines, with more of the file of this path
-abbrev pub lines_and : Lines → List ℕ → List (List ℕ) → Lines
-lines_and lines path more = λ other. if bytes_eq path other then (lines other ++ more) else lines other
 
 -- a map's entries without where their paths lie in memory
 abbrev pub seen : List (Vec ℕ Global × Index) → Indices

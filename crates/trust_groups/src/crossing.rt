@@ -1,3 +1,5 @@
+//! That the types may cross threads.
+
 use crate::levels::Levels;
 use crate::settings::Settings;
 

@@ -3,7 +3,8 @@
 ghost use Rattle.std.specs.Prelude.{◌≡◌, ◌++◌, ◌∷◌, [], ℕ, List, Bool, true, false, Some, None, IfOk, OnOk, OnErr};
 ghost use Rattle.log_lines.specs.Index.{Index, empty_index, index_with};
 ghost use Rattle.trust_groups.specs.Settings.{Lines};
-ghost use Rattle.trust_groups.specs.Reads.{Reads, kind_at, index_at, indices_and, indices_with, lines_and, lines_with, seen};
+ghost use Rattle.trust_groups.specs.Adding.{indices_and, indices_with, lines_and};
+ghost use Rattle.trust_groups.specs.Reads.{Reads, kind_at, index_at, lines_with, seen};
 
 use annex_base::{Line, NoMemory};
 use log_lines::{LogKind, Newest};

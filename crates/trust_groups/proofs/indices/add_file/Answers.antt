@@ -1,5 +1,6 @@
 use Rattle.std.proofs.Common.{take, ◌+◌}
-use Rattle.trust_groups.specs.Reads.{lines_and, lines_with, seen}
+use Rattle.trust_groups.specs.Adding.{lines_and}
+use Rattle.trust_groups.specs.Reads.{lines_with, seen}
 use Rattle.trust_groups.proofs.ReadsLemmas.{reads_same, next_more}
 use Rattle.trust_groups.proofs.indices.add_file.Goals as goal
 

@@ -1,6 +1,7 @@
 use Rattle.std.proofs.Common.{take}
 use Rattle.trust_groups.specs.Settings.{Lines}
-use Rattle.trust_groups.specs.Reads.{Reads, lines_and, seen}
+use Rattle.trust_groups.specs.Adding.{lines_and}
+use Rattle.trust_groups.specs.Reads.{Reads, seen}
 use Rattle.trust_groups.proofs.indices.add_file.Given as goal
 
 -- the lines so far were read beside those that were read before

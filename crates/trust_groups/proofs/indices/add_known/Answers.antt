@@ -1,5 +1,6 @@
 use Rattle.std.proofs.Common.{sym, ap, ◌∙◌}
-use Rattle.trust_groups.specs.Reads.{seen, indices_with}
+use Rattle.trust_groups.specs.Adding.{indices_with}
+use Rattle.trust_groups.specs.Reads.{seen}
 use Rattle.trust_groups.proofs.IndexLemmas.{lookup-seen, seen-set_value, lent_same}
 use Rattle.trust_groups.proofs.indices.add_known.Goals as goal
 

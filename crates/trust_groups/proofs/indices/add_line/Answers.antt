@@ -1,6 +1,7 @@
 use Rattle.std.proofs.Common.{sym, ap, subst, ◌∙◌}
 use Rattle.log_lines.specs.Index.{empty_index, index_with}
-use Rattle.trust_groups.specs.Reads.{Indices, Reads, indices_and, kind_at, lines_with, seen}
+use Rattle.trust_groups.specs.Adding.{indices_and}
+use Rattle.trust_groups.specs.Reads.{Indices, Reads, kind_at, lines_with, seen}
 use Rattle.trust_groups.proofs.KeptLemmas.{ok_then}
 use Rattle.trust_groups.proofs.ReadsLemmas.{known_reads, first_reads}
 use Rattle.trust_groups.proofs.indices.add_line.Goals as goal

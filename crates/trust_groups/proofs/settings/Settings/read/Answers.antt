@@ -1,7 +1,8 @@
 use Rattle.std.proofs.Common.{[], ap, ◌∙◌}
 use Rattle.union_merge.specs.Branch.{lines_at}
 use Rattle.union_merge.specs.FileView as view
-use Rattle.trust_groups.specs.Reads.{lines_and, seen}
+use Rattle.trust_groups.specs.Adding.{lines_and}
+use Rattle.trust_groups.specs.Reads.{seen}
 use Rattle.trust_groups.proofs.KeptLemmas.{settings_read}
 use Rattle.trust_groups.proofs.ReadsLemmas.{from_start, from_step, from_end, reads_none, reads_same}
 use Rattle.trust_groups.proofs.settings.Settings.read.Goals as goal
