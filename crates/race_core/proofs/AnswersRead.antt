@@ -11,7 +11,8 @@ use Rattle.node_model.specs.SetUp.{SetUp}
 use Rattle.node_model.specs.Ends.{End, EndName, end_sends, end_takes, frames, sent_at, sends_at, server_end}
 use Rattle.run_model.specs.States.{end_at, session, state_of}
 use Rattle.node_model.specs.SessionStep.{here, on_frame}
-use Rattle.run_model.specs.Run.{ByStep, OwnPast}
+use Rattle.race_core.proofs.BySteps.{ByStep}
+use Rattle.run_model.specs.Run.{OwnPast}
 use Rattle.race_core.proofs.Plain.{each_member, filter_member}
 use Rattle.race_core.proofs.ServerEnds.{GivesHere, ServerDoes, Shuts, TakesHere, server_does}
 use Rattle.race_core.proofs.EndEpochs.{sends_is}

@@ -8,7 +8,13 @@ use Rattle.node_model.specs.SetUp.{SetUp}
 use Rattle.node_model.specs.Look.{Look, Made, entry_of}
 use Rattle.node_model.specs.Step.{step}
 use Rattle.node_model.specs.AnyTime.{MayCome}
-use Rattle.run_model.specs.Run.{ByStep, ComesAnyTime, IsBounded, IsStep, OwnPast}
+use Rattle.annex_base.specs.declared.kinds.Word.{Word}
+use Rattle.std.specs.Prelude.{ℕ, Option}
+use Rattle.run_model.specs.Run.{ComesAnyTime, IsBounded, IsStep, OwnPart, OwnPast}
+
+-- a fact of each entry of a repository, by its own part
+abbrev pub ByStep : (SetUp → List Entry → Entry → Type 0) → Type 0
+ByStep P = (s : SetUp) (past : List Entry) (words : ℕ → Option Word) (e : Entry) → OwnPast s past → IsBounded e → is_of s.number e ≡ true → OwnPart s past words e → P s past e
 
 -- what a step makes has the fact, and what may come at any point has it
 pub by_step : (P : SetUp → List Entry → Entry → Type 0)

@@ -22,7 +22,8 @@ use Rattle.run_model.specs.States.{works}
 use Rattle.node_model.specs.DropStep
 use Rattle.node_model.specs.Wanted.{required}
 use Rattle.node_model.specs.Found.{Judged}
-use Rattle.run_model.specs.Run.{ByStep, FramesPart, IsRun, OwnPart, OwnPast, RunPast, RunStep, set_up}
+use Rattle.race_core.proofs.BySteps.{ByStep}
+use Rattle.run_model.specs.Run.{FramesPart, IsRun, OwnPart, OwnPast, RunPast, RunStep, set_up}
 use Rattle.race_core.proofs.JobSteps.{turn_at}
 use Rattle.race_core.proofs.MovesLate.{moves_late}
 use Rattle.race_core.proofs.Standing.{stands}

@@ -2,7 +2,7 @@
 use Rattle.std.proofs.Common.{◌≡◌, ◌≢◌, Some, None, inl, inr, sym, ◌∙◌, subst}
 use Rattle.annex_base.specs.Lists.{Member}
 use Rattle.run_data.specs.declared.entry.FrameView.{FrameView}
-use Rattle.run_model.specs.Run.{ByStep}
+use Rattle.race_core.proofs.BySteps.{ByStep}
 use Rattle.race_core.proofs.Makers.{who}
 use Rattle.race_core.proofs.OwnTried.{other_apart}
 use Rattle.race_core.proofs.OpenEnds.{job_sends_to, job_takes_from}

@@ -47,7 +47,8 @@ use Rattle.race_core.proofs.Knowing.{known, knows_enough}
 use Rattle.node_model.specs.Found
 use Rattle.node_model.specs.JobStep.{clock_of}
 use Rattle.node_model.specs.DropStep.{first_end}
-use Rattle.run_model.specs.Run.{ByStep, IsStep, OwnPart, OwnPast}
+use Rattle.race_core.proofs.BySteps.{ByStep}
+use Rattle.run_model.specs.Run.{IsStep, OwnPart, OwnPast}
 use Rattle.race_core.proofs.AnswerFacts.{may_remove}
 use Rattle.race_core.proofs.Bars.{removal_barred}
 use Rattle.race_core.proofs.Decisions.{order_stands_on, runs_begun}

@@ -22,7 +22,8 @@ use Rattle.node_model.specs.Sessions.{line_in}
 use Rattle.run_model.specs.States.{state_of}
 use Rattle.node_model.specs.Look.{Look, Made, entry_of}
 use Rattle.node_model.specs.Step.{step}
-use Rattle.run_model.specs.Run.{ByStep, IsBounded, OwnPast}
+use Rattle.race_core.proofs.BySteps.{ByStep}
+use Rattle.run_model.specs.Run.{IsBounded, OwnPast}
 use Rattle.race_core.proofs.ServerAnswers as answers
 use Rattle.race_core.proofs.SaidDown.{said_is}
 use Rattle.race_core.proofs.BySteps.{any_kind, by_step}

@@ -14,7 +14,8 @@ use Rattle.run_model.specs.Past.{Always, is_of, now}
 use Rattle.node_model.specs.Rows.{option_is}
 use Rattle.run_model.specs.Safety.{IsSafe}
 use Rattle.node_model.specs.SetUp.{SetUp}
-use Rattle.run_model.specs.Run.{ByStep, FramesPart, IsBounded, IsRun, MayBe, Ordered, OwnPart, OwnPast, OwnRun, RunPast, RunStep, TimeIs, set_up}
+use Rattle.race_core.proofs.BySteps.{ByStep}
+use Rattle.run_model.specs.Run.{FramesPart, IsBounded, IsRun, MayBe, Ordered, OwnPart, OwnPast, OwnRun, RunPast, RunStep, TimeIs, set_up}
 use Rattle.race_core.specs.Lawful.{IsLawful}
 use Rattle.race_core.proofs.Own.{IsMessageRun, Meets, MessagePast, Own}
 use Rattle.race_core.proofs.Lists.{eqb_refl}

@@ -13,7 +13,8 @@ use Rattle.race_core.proofs.Ways.{is_answer, down_of, way_from}
 use Rattle.run_model.specs.Said.{message_in}
 use Rattle.run_model.specs.Frames.{Way, requests, taken_if}
 use Rattle.node_model.specs.SetUp.{SetUp}
-use Rattle.run_model.specs.Run.{ByStep, IsStep, OwnPart}
+use Rattle.race_core.proofs.BySteps.{ByStep}
+use Rattle.run_model.specs.Run.{IsStep, OwnPart}
 use Rattle.annex_base.specs.declared.kinds.Word.{Word}
 use Rattle.run_data.specs.declared.entry.Entry.{Entry}
 use Rattle.node_model.specs.AnyTime.{MayCome}

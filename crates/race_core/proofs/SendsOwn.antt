@@ -14,7 +14,8 @@ use Rattle.run_model.specs.Said.{Said, Says, Unknown, is_request, message_in}
 use Rattle.race_core.proofs.Ways.{is_answer}
 use Rattle.run_model.specs.Frames.{Way, is_on, on_way, says, taker_of}
 use Rattle.node_model.specs.SetUp.{SetUp}
-use Rattle.run_model.specs.Run.{ByStep, OwnPart, OwnPast}
+use Rattle.race_core.proofs.BySteps.{ByStep}
+use Rattle.run_model.specs.Run.{OwnPart, OwnPast}
 use Rattle.node_model.specs.Found.{JobKind}
 use Rattle.race_core.proofs.Plain.{each_filter, each_member}
 use Rattle.race_core.proofs.ServerEnds.{filter_none}

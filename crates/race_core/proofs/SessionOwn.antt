@@ -25,7 +25,8 @@ use Rattle.run_model.specs.States.{end_at, session, state_of}
 use Rattle.node_model.specs.Sessions.{Session, line_in}
 use Rattle.node_model.specs.Look.{Look, Made, entry_of}
 use Rattle.node_model.specs.SessionStep.{Here, here, on_frame}
-use Rattle.run_model.specs.Run.{ByStep, ComesAnyTime, IsBounded, IsStep, OwnPart, OwnPast, OwnRun}
+use Rattle.race_core.proofs.BySteps.{ByStep}
+use Rattle.run_model.specs.Run.{ComesAnyTime, IsBounded, IsStep, OwnPart, OwnPast, OwnRun}
 use Rattle.race_core.proofs.Plain.{each_filter, each_member, filter_member, some_inj}
 use Rattle.race_core.proofs.Spoken.{clock_small}
 use Rattle.race_core.proofs.AnswersRead.{all_read}

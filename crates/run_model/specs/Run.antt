@@ -106,10 +106,6 @@ pub record OwnPast (s : SetUp) (past : List Entry) : Type 0 where
   pub run : OwnRun s past
   pub bounds : Always (λ p x. IsBounded x) past
 
--- a fact of each entry of a repository, by its own part
-abbrev pub ByStep : (SetUp → List Entry → Entry → Type 0) → Type 0
-ByStep P = (s : SetUp) (past : List Entry) (words : ℕ → Option Word) (e : Entry) → OwnPast s past → IsBounded e → is_of s.number e ≡ true → OwnPart s past words e → P s past e
-
 -- a wait has nothing but its time
 pub record OnlyWaits (e : Entry) : Type 0 where
   pub takes_none : e.taken ≡ None
