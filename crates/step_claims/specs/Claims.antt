@@ -16,7 +16,8 @@ use Rattle.node_model.specs.SetUp.{SetUp}
 use Rattle.node_model.specs.Ends.{EndName}
 use Rattle.node_model.specs.Look.{Look, Made}
 use Rattle.node_model.specs.AnyTime.{close_at, closes_all}
-use Rattle.run_model.specs.States.{step, state_of}
+use Rattle.node_model.specs.Step.{step}
+use Rattle.run_model.specs.States.{state_of}
 
 -- ---- entries
 
@@ -76,17 +77,17 @@ made_of e = record { kind = e.kind; taken = e.taken; sent = e.sent; lines = e.li
 abbrev pub Makes : SetUp → List Entry → List FrameView → List EndName → Option Call → ℕ → Bool → List (ℕ × Word) → Entry → Type 0
 Makes s past hand full fails part right words e =
     let look : Look = record { time = e.time; count = e.count; at_hand = hand; room = room_but full; fails = fails; part = part; right = right; words = words_of words } in
-    step s past look ≡ Some (made_of e)
+    step s (state_of s past) look ≡ Some (made_of e)
 
 -- there is no step, with these frames at hand and room everywhere
 abbrev pub IsIdle : SetUp → List Entry → List FrameView → Type 0
 IsIdle s past hand =
     let look : Look = record { time = 0; count = 0; at_hand = hand; room = room_but []; fails = None; part = 0; right = false; words = words_of [] } in
-    step s past look ≡ None
+    step s (state_of s past) look ≡ None
 
 -- the entry sends what the close of this end sends, and what a crash sends
 abbrev pub Closes : SetUp → List Entry → Entry → EndName → Type 0
-Closes s past e a = e.sent ≡ close_at (state_of s past) a
+Closes s past e a = e.sent ≡ close_at s (state_of s past) a
 
 abbrev pub Crashes : SetUp → List Entry → Entry → Type 0
 Crashes s past e = e.sent ≡ closes_all s (state_of s past)
