@@ -1,0 +1,308 @@
+-- The run of the script mixed-11: each entry that a turn made is what the step makes (written by tools/journal_claims.py).
+use Rattle.std.specs.Prelude.{refl, ℕ, true, false, List, [], ◌∷◌, Some, None, codes}
+use Rattle.annex_base.specs.declared.kinds.Call.TheVariants as calls
+use Rattle.annex_base.specs.declared.kinds.Found.TheVariants as found
+use Rattle.annex_base.specs.declared.kinds.Word.TheVariants as words
+use Rattle.log_lines.specs.declared.entry.LogKind.TheVariants as logs
+use Rattle.run_data.specs.declared.entry.Entry.{Entry}
+use Rattle.run_data.specs.declared.entry.EntryKind.TheVariants as kinds
+use Rattle.run_data.specs.declared.entry.By.TheVariants as by
+use Rattle.run_data.specs.declared.entry.FrameText.TheVariants.{Opening, Closing, Bytes, Line}
+use Rattle.run_data.specs.declared.entry.FrameView.{FrameView}
+use Rattle.run_data.specs.declared.entry.LogFile.TheVariants.{Location, Of}
+use Rattle.run_data.specs.declared.job.JobKind.TheVariants as jobs
+use Rattle.run_data.specs.declared.job.Outcome.TheVariants as outcomes
+use Rattle.run_data.specs.declared.job.DropRefusal.TheVariants as drops
+use Rattle.run_data.specs.declared.job.TransferRefusal.TheVariants as transfers
+use Rattle.run_data.specs.declared.job.Cause.TheVariants as causes
+use Rattle.run_data.specs.declared.job.SourceCause.TheVariants as sources
+use Rattle.run_data.specs.declared.job.Denial.TheVariants as denials
+use Rattle.run_data.specs.declared.run.RepoView.{RepoView}
+use Rattle.node_model.specs.SetUp.{SetUp}
+use Rattle.step_claims.specs.Opened.{opened}
+use Rattle.step_claims.specs.Claims.{Closes, Crashes, IsIdle, Makes, down, end, entry, job, need, proof, repository, set_up, up}
+
+abbrev t0 : List ℕ
+t0 = codes "WORM-s3--with space"
+
+abbrev t1 : List ℕ
+t1 = codes "1700000000s 1 11111111-1111-4111-8111-111111111100"
+
+abbrev t2 : List ℕ
+t2 = codes "1700000000s 1 22222222-1111-4111-8111-111111111101"
+
+abbrev t3 : List ℕ
+t3 = codes "WORM-s3--k0"
+
+abbrev t4 : List ℕ
+t4 = codes "WORM-s40000--forty"
+
+abbrev t5 : List ℕ
+t5 = codes "WORM-s70000--big"
+
+abbrev t6 : List ℕ
+t6 = codes "AUTH-SUCCESS 11111111-1111-4111-8111-111111111100"
+
+abbrev t7 : List ℕ
+t7 = codes "VERSION 3"
+
+abbrev t8 : List ℕ
+t8 = codes "LOCKCONTENT WORM-s40000--forty"
+
+abbrev t9 : List ℕ
+t9 = codes "SUCCESS"
+
+abbrev t10 : List ℕ
+t10 = codes "1700000000.000000001s 0 22222222-1111-4111-8111-111111111101"
+
+abbrev t11 : List ℕ
+t11 = codes "UNLOCKCONTENT WORM-s40000--forty"
+
+abbrev repos : List RepoView
+repos = (repository (codes "a") (17 ∷ 17 ∷ 17 ∷ 17 ∷ 17 ∷ 17 ∷ 65 ∷ 17 ∷ 129 ∷ 17 ∷ 17 ∷ 17 ∷ 17 ∷ 17 ∷ 17 ∷ 0 ∷ []) 0 3 true) ∷ (repository (codes "b") (34 ∷ 34 ∷ 34 ∷ 34 ∷ 17 ∷ 17 ∷ 65 ∷ 17 ∷ 129 ∷ 17 ∷ 17 ∷ 17 ∷ 17 ∷ 17 ∷ 17 ∷ 1 ∷ []) 0 3 true) ∷ []
+
+abbrev s0 : SetUp
+s0 = set_up 0 repos ([])
+
+abbrev s1 : SetUp
+s1 = set_up 1 repos ([])
+
+abbrev e0 : Entry
+e0 = entry 0 1 (Some 0) (kinds.Gain by.Script 3 t0) None ([]) ([])
+
+abbrev p0 : List Entry
+p0 = e0 ∷ []
+
+abbrev e1 : Entry
+e1 = entry 0 2 (Some 0) (kinds.Log (Location t0)) None ([]) (t1 ∷ [])
+
+abbrev p1 : List Entry
+p1 = e1 ∷ p0
+
+abbrev e2 : Entry
+e2 = entry 0 3 (Some 1) (kinds.Gain by.Script 3 t0) None ([]) ([])
+
+abbrev p2 : List Entry
+p2 = e2 ∷ p1
+
+abbrev e3 : Entry
+e3 = entry 0 4 (Some 1) (kinds.Log (Location t0)) None ([]) (t2 ∷ [])
+
+abbrev p3 : List Entry
+p3 = e3 ∷ p2
+
+abbrev e4 : Entry
+e4 = entry 0 5 (Some 0) (kinds.Gain by.Script 3 t3) None ([]) ([])
+
+abbrev p4 : List Entry
+p4 = e4 ∷ p3
+
+abbrev e5 : Entry
+e5 = entry 0 6 (Some 0) (kinds.Log (Location t3)) None ([]) (t1 ∷ [])
+
+abbrev p5 : List Entry
+p5 = e5 ∷ p4
+
+abbrev e6 : Entry
+e6 = entry 0 7 (Some 0) (kinds.Gain by.Script 40000 t4) None ([]) ([])
+
+abbrev p6 : List Entry
+p6 = e6 ∷ p5
+
+abbrev e7 : Entry
+e7 = entry 0 8 (Some 0) (kinds.Log (Location t4)) None ([]) (t1 ∷ [])
+
+abbrev p7 : List Entry
+p7 = e7 ∷ p6
+
+abbrev e8 : Entry
+e8 = entry 0 9 (Some 1) (kinds.Gain by.Script 40000 t4) None ([]) ([])
+
+abbrev p8 : List Entry
+p8 = e8 ∷ p7
+
+abbrev e9 : Entry
+e9 = entry 0 10 (Some 1) (kinds.Log (Location t4)) None ([]) (t2 ∷ [])
+
+abbrev p9 : List Entry
+p9 = e9 ∷ p8
+
+abbrev e10 : Entry
+e10 = entry 0 11 (Some 0) (kinds.Gain by.Script 70000 t5) None ([]) ([])
+
+abbrev p10 : List Entry
+p10 = e10 ∷ p9
+
+abbrev e11 : Entry
+e11 = entry 0 12 (Some 0) (kinds.Log (Location t5)) None ([]) (t1 ∷ [])
+
+abbrev p11 : List Entry
+p11 = e11 ∷ p10
+
+abbrev e12 : Entry
+e12 = entry 0 13 (Some 1) (kinds.Begin 1 (job jobs.Drop t4 None None)) None ([]) ([])
+
+abbrev p12 : List Entry
+p12 = e12 ∷ p11
+
+abbrev e13 : Entry
+e13 = entry 0 14 (Some 1) (kinds.Begin 2 (job jobs.Drop t3 None None)) None ([]) ([])
+
+abbrev p13 : List Entry
+p13 = e13 ∷ p12
+
+abbrev e14 : Entry
+e14 = entry 0 15 None (kinds.Wait 0) None ([]) ([])
+
+abbrev p14 : List Entry
+p14 = e14 ∷ p13
+
+abbrev e15 : Entry
+e15 = entry 0 16 (Some 0) (kinds.Crash 0) None ([]) ([])
+
+claim15 : Crashes s0 p14 e15
+unfolding opened
+claim15 = refl
+
+abbrev p15 : List Entry
+p15 = e15 ∷ p14
+
+abbrev e16 : Entry
+e16 = entry 0 17 (Some 1) (kinds.Bar 1 (need 1 1) t4) None ([]) ([])
+
+claim16 : Makes s1 p15 ([]) ([]) None 0 false ([]) e16
+unfolding opened
+claim16 = refl
+
+abbrev p16 : List Entry
+p16 = e16 ∷ p15
+
+abbrev e17 : Entry
+e17 = entry 0 18 (Some 1) (kinds.Talk (Some 1)) None ((up 0 0 1 1 Opening) ∷ []) ([])
+
+claim17 : Makes s1 p16 ([]) ([]) None 0 false ([]) e17
+unfolding opened
+claim17 = refl
+
+abbrev p17 : List Entry
+p17 = e17 ∷ p16
+
+abbrev e18 : Entry
+e18 = entry 0 19 (Some 0) (kinds.Talk None) (Some (up 1 0 1 1 Opening)) ((down 1 0 1 1 (Line t6)) ∷ []) ([])
+
+claim18 : Makes s0 p17 ((up 1 0 1 1 Opening) ∷ []) ([]) None 0 false ([]) e18
+unfolding opened
+claim18 = refl
+
+abbrev p18 : List Entry
+p18 = e18 ∷ p17
+
+abbrev e19 : Entry
+e19 = entry 0 20 (Some 1) (kinds.Talk (Some 1)) (Some (down 0 0 1 1 (Line t6))) ((up 0 0 1 2 (Line t7)) ∷ []) ([])
+
+claim19 : Makes s1 p18 ((down 0 0 1 1 (Line t6)) ∷ []) ([]) None 0 false ([]) e19
+unfolding opened
+claim19 = refl
+
+abbrev p19 : List Entry
+p19 = e19 ∷ p18
+
+abbrev e20 : Entry
+e20 = entry 0 21 (Some 0) (kinds.Talk None) (Some (up 1 0 1 2 (Line t7))) ((down 1 0 1 2 (Line t7)) ∷ []) ([])
+
+claim20 : Makes s0 p19 ((up 1 0 1 2 (Line t7)) ∷ []) ([]) None 0 false ([]) e20
+unfolding opened
+claim20 = refl
+
+abbrev p20 : List Entry
+p20 = e20 ∷ p19
+
+abbrev e21 : Entry
+e21 = entry 0 22 (Some 1) (kinds.Talk (Some 1)) (Some (down 0 0 1 2 (Line t7))) ((up 0 0 1 3 (Line t8)) ∷ []) ([])
+
+claim21 : Makes s1 p20 ((down 0 0 1 2 (Line t7)) ∷ []) ([]) None 0 false ([]) e21
+unfolding opened
+claim21 = refl
+
+abbrev p21 : List Entry
+p21 = e21 ∷ p20
+
+abbrev e22 : Entry
+e22 = entry 0 23 (Some 0) (kinds.Share 12 600000 (by.Peer 1 0) t4) (Some (up 1 0 1 3 (Line t8))) ((down 1 0 1 3 (Line t9)) ∷ []) ([])
+
+claim22 : Makes s0 p21 ((up 1 0 1 3 (Line t8)) ∷ []) ([]) None 0 false ([]) e22
+unfolding opened
+claim22 = refl
+
+abbrev p22 : List Entry
+p22 = e22 ∷ p21
+
+abbrev e23 : Entry
+e23 = entry 0 24 (Some 1) (kinds.Talk (Some 1)) (Some (down 0 0 1 3 (Line t9))) ([]) ([])
+
+claim23 : Makes s1 p22 ((down 0 0 1 3 (Line t9)) ∷ []) ([]) None 0 false ([]) e23
+unfolding opened
+claim23 = refl
+
+abbrev p23 : List Entry
+p23 = e23 ∷ p22
+
+abbrev e24 : Entry
+e24 = entry 0 25 (Some 1) (kinds.Gone (by.Job 1) t4) None ([]) ([])
+
+claim24 : Makes s1 p23 ([]) ([]) None 0 false ([]) e24
+unfolding opened
+claim24 = refl
+
+abbrev p24 : List Entry
+p24 = e24 ∷ p23
+
+abbrev e25 : Entry
+e25 = entry 0 26 (Some 1) (kinds.Log (Location t4)) None ([]) (t10 ∷ [])
+
+claim25 : Makes s1 p24 ([]) ([]) None 0 false ([]) e25
+unfolding opened
+claim25 = refl
+
+abbrev p25 : List Entry
+p25 = e25 ∷ p24
+
+abbrev e26 : Entry
+e26 = entry 0 27 (Some 1) (kinds.End 1 (outcomes.Dropped (proof (need 1 1) (0 ∷ []) ([]) ([])))) None ((up 0 0 1 4 (Line t11)) ∷ (up 0 0 1 5 Closing) ∷ []) ([])
+
+claim26 : Makes s1 p25 ([]) ([]) None 0 false ([]) e26
+unfolding opened
+claim26 = refl
+
+abbrev p26 : List Entry
+p26 = e26 ∷ p25
+
+abbrev e27 : Entry
+e27 = entry 0 28 (Some 0) (kinds.Release 12 t4) (Some (up 1 0 1 4 (Line t11))) ([]) ([])
+
+claim27 : Makes s0 p26 ((up 1 0 1 4 (Line t11)) ∷ []) ([]) None 0 false ([]) e27
+unfolding opened
+claim27 = refl
+
+abbrev p27 : List Entry
+p27 = e27 ∷ p26
+
+abbrev e28 : Entry
+e28 = entry 0 29 (Some 1) (kinds.End 2 (outcomes.Refused drops.NotPresent)) None ([]) ([])
+
+claim28 : Makes s1 p27 ([]) ([]) None 0 false ([]) e28
+unfolding opened
+claim28 = refl
+
+abbrev p28 : List Entry
+p28 = e28 ∷ p27
+
+abbrev e29 : Entry
+e29 = entry 0 30 (Some 0) (kinds.Close 1 0 false) (Some (up 1 0 1 5 Closing)) ([]) ([])
+
+claim29 : Makes s0 p28 ((up 1 0 1 5 Closing) ∷ []) ([]) None 0 false ([]) e29
+unfolding opened
+claim29 = refl
+
+abbrev p29 : List Entry
+p29 = e29 ∷ p28

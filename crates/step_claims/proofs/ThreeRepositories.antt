@@ -1,0 +1,301 @@
+-- The run of the script three-repositories: each entry that a turn made is what the step makes (written by tools/journal_claims.py).
+use Rattle.std.specs.Prelude.{refl, ℕ, true, false, List, [], ◌∷◌, Some, None, codes}
+use Rattle.annex_base.specs.declared.kinds.Call.TheVariants as calls
+use Rattle.annex_base.specs.declared.kinds.Found.TheVariants as found
+use Rattle.annex_base.specs.declared.kinds.Word.TheVariants as words
+use Rattle.log_lines.specs.declared.entry.LogKind.TheVariants as logs
+use Rattle.run_data.specs.declared.entry.Entry.{Entry}
+use Rattle.run_data.specs.declared.entry.EntryKind.TheVariants as kinds
+use Rattle.run_data.specs.declared.entry.By.TheVariants as by
+use Rattle.run_data.specs.declared.entry.FrameText.TheVariants.{Opening, Closing, Bytes, Line}
+use Rattle.run_data.specs.declared.entry.FrameView.{FrameView}
+use Rattle.run_data.specs.declared.entry.LogFile.TheVariants.{Location, Of}
+use Rattle.run_data.specs.declared.job.JobKind.TheVariants as jobs
+use Rattle.run_data.specs.declared.job.Outcome.TheVariants as outcomes
+use Rattle.run_data.specs.declared.job.DropRefusal.TheVariants as drops
+use Rattle.run_data.specs.declared.job.TransferRefusal.TheVariants as transfers
+use Rattle.run_data.specs.declared.job.Cause.TheVariants as causes
+use Rattle.run_data.specs.declared.job.SourceCause.TheVariants as sources
+use Rattle.run_data.specs.declared.job.Denial.TheVariants as denials
+use Rattle.run_data.specs.declared.run.RepoView.{RepoView}
+use Rattle.node_model.specs.SetUp.{SetUp}
+use Rattle.step_claims.specs.Opened.{opened}
+use Rattle.step_claims.specs.Claims.{Closes, Crashes, IsIdle, Makes, down, end, entry, job, need, proof, repository, set_up, up}
+
+abbrev t0 : List ℕ
+t0 = codes "SHA256-s3--ba7816bf8f01cfea414140de5dae2223b00361a396177a9cb410ff61f20015ad"
+
+abbrev t1 : List ℕ
+t1 = codes "1700000000s 1 11111111-1111-4111-8111-111111111111"
+
+abbrev t2 : List ℕ
+t2 = codes "1700000000s 1 22222222-2222-4222-8222-222222222222"
+
+abbrev t3 : List ℕ
+t3 = codes "1700000000s 1 33333333-3333-4333-8333-333333333333"
+
+abbrev t4 : List ℕ
+t4 = codes "AUTH-SUCCESS 22222222-2222-4222-8222-222222222222"
+
+abbrev t5 : List ℕ
+t5 = codes "VERSION 3"
+
+abbrev t6 : List ℕ
+t6 = codes "LOCKCONTENT SHA256-s3--ba7816bf8f01cfea414140de5dae2223b00361a396177a9cb410ff61f20015ad"
+
+abbrev t7 : List ℕ
+t7 = codes "SUCCESS"
+
+abbrev t8 : List ℕ
+t8 = codes "1700000000.000000001s 0 11111111-1111-4111-8111-111111111111"
+
+abbrev t9 : List ℕ
+t9 = codes "UNLOCKCONTENT SHA256-s3--ba7816bf8f01cfea414140de5dae2223b00361a396177a9cb410ff61f20015ad"
+
+abbrev repos : List RepoView
+repos = (repository (codes "a") (17 ∷ 17 ∷ 17 ∷ 17 ∷ 17 ∷ 17 ∷ 65 ∷ 17 ∷ 129 ∷ 17 ∷ 17 ∷ 17 ∷ 17 ∷ 17 ∷ 17 ∷ 17 ∷ []) 0 3 true) ∷ (repository (codes "b") (34 ∷ 34 ∷ 34 ∷ 34 ∷ 34 ∷ 34 ∷ 66 ∷ 34 ∷ 130 ∷ 34 ∷ 34 ∷ 34 ∷ 34 ∷ 34 ∷ 34 ∷ 34 ∷ []) 0 3 true) ∷ (repository (codes "c") (51 ∷ 51 ∷ 51 ∷ 51 ∷ 51 ∷ 51 ∷ 67 ∷ 51 ∷ 131 ∷ 51 ∷ 51 ∷ 51 ∷ 51 ∷ 51 ∷ 51 ∷ 51 ∷ []) 0 3 true) ∷ []
+
+abbrev s0 : SetUp
+s0 = set_up 0 repos ([])
+
+abbrev s1 : SetUp
+s1 = set_up 1 repos ([])
+
+abbrev s2 : SetUp
+s2 = set_up 2 repos ([])
+
+abbrev e0 : Entry
+e0 = entry 0 1 (Some 0) (kinds.Gain by.Script 3 t0) None ([]) ([])
+
+abbrev p0 : List Entry
+p0 = e0 ∷ []
+
+abbrev e1 : Entry
+e1 = entry 0 2 (Some 0) (kinds.Log (Location t0)) None ([]) (t1 ∷ [])
+
+abbrev p1 : List Entry
+p1 = e1 ∷ p0
+
+abbrev e2 : Entry
+e2 = entry 0 3 (Some 1) (kinds.Gain by.Script 3 t0) None ([]) ([])
+
+abbrev p2 : List Entry
+p2 = e2 ∷ p1
+
+abbrev e3 : Entry
+e3 = entry 0 4 (Some 1) (kinds.Log (Location t0)) None ([]) (t2 ∷ [])
+
+abbrev p3 : List Entry
+p3 = e3 ∷ p2
+
+abbrev e4 : Entry
+e4 = entry 0 5 (Some 2) (kinds.Gain by.Script 3 t0) None ([]) ([])
+
+abbrev p4 : List Entry
+p4 = e4 ∷ p3
+
+abbrev e5 : Entry
+e5 = entry 0 6 (Some 2) (kinds.Log (Location t0)) None ([]) (t3 ∷ [])
+
+abbrev p5 : List Entry
+p5 = e5 ∷ p4
+
+abbrev e6 : Entry
+e6 = entry 0 7 (Some 0) (kinds.Begin 1 (job jobs.Drop t0 None None)) None ([]) ([])
+
+abbrev p6 : List Entry
+p6 = e6 ∷ p5
+
+abbrev e7 : Entry
+e7 = entry 0 8 (Some 0) (kinds.Bar 1 (need 1 1) t0) None ([]) ([])
+
+claim7 : Makes s0 p6 ([]) ([]) None 0 false ([]) e7
+unfolding opened
+claim7 = refl
+
+abbrev p7 : List Entry
+p7 = e7 ∷ p6
+
+idle8_1 : IsIdle s1 p7 ([])
+unfolding opened
+idle8_1 = refl
+
+idle8_2 : IsIdle s2 p7 ([])
+unfolding opened
+idle8_2 = refl
+
+abbrev e8 : Entry
+e8 = entry 0 9 (Some 0) (kinds.Talk (Some 1)) None ((up 1 0 1 1 Opening) ∷ []) ([])
+
+claim8 : Makes s0 p7 ([]) ([]) None 0 false ([]) e8
+unfolding opened
+claim8 = refl
+
+abbrev p8 : List Entry
+p8 = e8 ∷ p7
+
+abbrev e9 : Entry
+e9 = entry 0 10 (Some 1) (kinds.Talk None) (Some (up 0 0 1 1 Opening)) ((down 0 0 1 1 (Line t4)) ∷ []) ([])
+
+claim9 : Makes s1 p8 ((up 0 0 1 1 Opening) ∷ []) ([]) None 0 false ([]) e9
+unfolding opened
+claim9 = refl
+
+abbrev p9 : List Entry
+p9 = e9 ∷ p8
+
+idle10_2 : IsIdle s2 p9 ([])
+unfolding opened
+idle10_2 = refl
+
+abbrev e10 : Entry
+e10 = entry 0 11 (Some 0) (kinds.Talk (Some 1)) (Some (down 1 0 1 1 (Line t4))) ((up 1 0 1 2 (Line t5)) ∷ []) ([])
+
+claim10 : Makes s0 p9 ((down 1 0 1 1 (Line t4)) ∷ []) ([]) None 0 false ([]) e10
+unfolding opened
+claim10 = refl
+
+abbrev p10 : List Entry
+p10 = e10 ∷ p9
+
+abbrev e11 : Entry
+e11 = entry 0 12 (Some 1) (kinds.Talk None) (Some (up 0 0 1 2 (Line t5))) ((down 0 0 1 2 (Line t5)) ∷ []) ([])
+
+claim11 : Makes s1 p10 ((up 0 0 1 2 (Line t5)) ∷ []) ([]) None 0 false ([]) e11
+unfolding opened
+claim11 = refl
+
+abbrev p11 : List Entry
+p11 = e11 ∷ p10
+
+idle12_2 : IsIdle s2 p11 ([])
+unfolding opened
+idle12_2 = refl
+
+abbrev e12 : Entry
+e12 = entry 0 13 (Some 0) (kinds.Talk (Some 1)) (Some (down 1 0 1 2 (Line t5))) ((up 1 0 1 3 (Line t6)) ∷ []) ([])
+
+claim12 : Makes s0 p11 ((down 1 0 1 2 (Line t5)) ∷ []) ([]) None 0 false ([]) e12
+unfolding opened
+claim12 = refl
+
+abbrev p12 : List Entry
+p12 = e12 ∷ p11
+
+abbrev e13 : Entry
+e13 = entry 0 14 (Some 1) (kinds.Share 5 600000 (by.Peer 0 0) t0) (Some (up 0 0 1 3 (Line t6))) ((down 0 0 1 3 (Line t7)) ∷ []) ([])
+
+claim13 : Makes s1 p12 ((up 0 0 1 3 (Line t6)) ∷ []) ([]) None 0 false ([]) e13
+unfolding opened
+claim13 = refl
+
+abbrev p13 : List Entry
+p13 = e13 ∷ p12
+
+idle14_2 : IsIdle s2 p13 ([])
+unfolding opened
+idle14_2 = refl
+
+abbrev e14 : Entry
+e14 = entry 0 15 (Some 0) (kinds.Talk (Some 1)) (Some (down 1 0 1 3 (Line t7))) ([]) ([])
+
+claim14 : Makes s0 p13 ((down 1 0 1 3 (Line t7)) ∷ []) ([]) None 0 false ([]) e14
+unfolding opened
+claim14 = refl
+
+abbrev p14 : List Entry
+p14 = e14 ∷ p13
+
+idle15_1 : IsIdle s1 p14 ([])
+unfolding opened
+idle15_1 = refl
+
+idle15_2 : IsIdle s2 p14 ([])
+unfolding opened
+idle15_2 = refl
+
+abbrev e15 : Entry
+e15 = entry 0 16 (Some 0) (kinds.Gone (by.Job 1) t0) None ([]) ([])
+
+claim15 : Makes s0 p14 ([]) ([]) None 0 false ([]) e15
+unfolding opened
+claim15 = refl
+
+abbrev p15 : List Entry
+p15 = e15 ∷ p14
+
+idle16_1 : IsIdle s1 p15 ([])
+unfolding opened
+idle16_1 = refl
+
+idle16_2 : IsIdle s2 p15 ([])
+unfolding opened
+idle16_2 = refl
+
+abbrev e16 : Entry
+e16 = entry 0 17 (Some 0) (kinds.Log (Location t0)) None ([]) (t8 ∷ [])
+
+claim16 : Makes s0 p15 ([]) ([]) None 0 false ([]) e16
+unfolding opened
+claim16 = refl
+
+abbrev p16 : List Entry
+p16 = e16 ∷ p15
+
+idle17_1 : IsIdle s1 p16 ([])
+unfolding opened
+idle17_1 = refl
+
+idle17_2 : IsIdle s2 p16 ([])
+unfolding opened
+idle17_2 = refl
+
+abbrev e17 : Entry
+e17 = entry 0 18 (Some 0) (kinds.End 1 (outcomes.Dropped (proof (need 1 1) (1 ∷ []) ([]) ([])))) None ((up 1 0 1 4 (Line t9)) ∷ (up 1 0 1 5 Closing) ∷ []) ([])
+
+claim17 : Makes s0 p16 ([]) ([]) None 0 false ([]) e17
+unfolding opened
+claim17 = refl
+
+abbrev p17 : List Entry
+p17 = e17 ∷ p16
+
+abbrev e18 : Entry
+e18 = entry 0 19 (Some 1) (kinds.Release 5 t0) (Some (up 0 0 1 4 (Line t9))) ([]) ([])
+
+claim18 : Makes s1 p17 ((up 0 0 1 4 (Line t9)) ∷ []) ([]) None 0 false ([]) e18
+unfolding opened
+claim18 = refl
+
+abbrev p18 : List Entry
+p18 = e18 ∷ p17
+
+idle19_2 : IsIdle s2 p18 ([])
+unfolding opened
+idle19_2 = refl
+
+idle19_0 : IsIdle s0 p18 ([])
+unfolding opened
+idle19_0 = refl
+
+abbrev e19 : Entry
+e19 = entry 0 20 (Some 1) (kinds.Close 0 0 false) (Some (up 0 0 1 5 Closing)) ([]) ([])
+
+claim19 : Makes s1 p18 ((up 0 0 1 5 Closing) ∷ []) ([]) None 0 false ([]) e19
+unfolding opened
+claim19 = refl
+
+abbrev p19 : List Entry
+p19 = e19 ∷ p18
+
+idle20_0 : IsIdle s0 p19 ([])
+unfolding opened
+idle20_0 = refl
+
+idle20_1 : IsIdle s1 p19 ([])
+unfolding opened
+idle20_1 = refl
+
+idle20_2 : IsIdle s2 p19 ([])
+unfolding opened
+idle20_2 = refl
