@@ -7,7 +7,8 @@ use Rattle.annex_base.specs.Lists.{Each, Member}
 use Rattle.log_lines.proofs.CompactLemmas.{filter_member, member_filter}
 use Rattle.union_merge.specs.LineSet.{IsLine, IsLineSet, union}
 use Rattle.union_merge.specs.Branch.{Files, IsBranch, file_at, lines_at, merged_file}
-use Rattle.union_merge.proofs.SetLemmas.{IsInOrder, Member-union, union-left, union-right, union-in_order, union-is}
+use Rattle.annex_base.specs.ByteOrder.{IsInOrder}
+use Rattle.union_merge.proofs.SetLemmas.{Member-union, union-left, union-right, union-in_order, union-is}
 use Rattle.union_merge.proofs.BranchLemmas.{Paths, lines_at-tied, lines_at-other, lines_at-missing, lines_at-is_set, empty-is_branch, with_file-is_branch, tail-is_branch, first_apart, merged_file-is_branch}
 use Rattle.union_merge.proofs.MergeLemmas.{lines_at-merged_file_same, lines_at-merged_file_other}
 use Rattle.run_data.specs.declared.run.RepoView.{RepoView}
