@@ -13,8 +13,9 @@ use Rattle.union_merge.specs.Branch.{Files, file_at, or_none, lines_at, with_fil
 use Rattle.union_merge.proofs.SetLemmas.{Member-union, union-left, union-right}
 use Rattle.union_merge.proofs.BranchLemmas.{lines_at-with_file_same, lines_at-with_file_other}
 use Rattle.union_merge.proofs.MergeLemmas.{lines_at-merged_file_same, lines_at-merged_file_other}
-use Rattle.trust_groups.specs.Settings.{settings, file_name}
 use Rattle.hash_dirs.specs.LogPath.{location_path}
+use Rattle.log_lines.specs.Files.{file_name}
+use Rattle.trust_groups.specs.Settings.{settings}
 use Rattle.trust_groups.proofs.SameLemmas.{settings-same}
 use Rattle.run_data.specs.declared.entry.Entry.{Entry}
 use Rattle.run_data.specs.declared.entry.EntryKind.{EntryKind}
