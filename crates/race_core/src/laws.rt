@@ -28,23 +28,13 @@ pub fn runs_are_safe()
     ensures { (run : Run) → IsRun run → IsSafe run }
 {}
 
-<<<<<<< HEAD
-/// Each drop and each transfer of a run that was refused has its cause there: by its row, by a candidate or a source, by its target or
-/// its store, or by a connection that was closed.
+/// Each drop and each transfer of a run that was refused has its cause there: by its row, by a candidate or a source, by
+/// its target or its store, or by a connection that was closed (own).
 pub fn refusals_have_causes()
     ensures { (run : Run) → IsRun run → HasCauses run }
 {}
 
-/// What repositories added each alone, behind a run, and merged in order of time, count and number, is a run: where each
-/// has made its entries as its own history allows, and each letter that it took comes from its sender's, in order.
-pub fn merged_histories_are_runs()
-    ensures { (run : Run) (news : List (List Entry)) (got : ℕ → Way → List Letter)
-        → IsRun run → MayMerge run news got → IsRun (merged run news) }
-{}
-
-=======
->>>>>>> h8
-/// Each lawful run is safe, whichever way its repositories talk (git-annex-mincopies).
+/// Each lawful run is safe (git-annex-mincopies).
 pub fn lawful_runs_are_safe()
     ensures { (run : Run) → IsLawful run → IsSafe run }
 {}
