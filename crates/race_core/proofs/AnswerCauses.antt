@@ -22,7 +22,7 @@ use Rattle.node_model.specs.SetUp.{SetUp, served}
 use Rattle.run_model.specs.States.{state_of, works}
 use Rattle.node_model.specs.Ends.{server_end}
 use Rattle.run_model.specs.Words.{word_of, word_of_kind, word_told}
-use Rattle.node_model.specs.Jobs.{running}
+use Rattle.node_model.specs.Jobs.{Denied, running}
 use Rattle.node_model.specs.Knows.{denial_of}
 use Rattle.node_model.specs.DropStep
 use Rattle.node_model.specs.SessionStep.{is_filled, session_fills}

@@ -1,4 +1,5 @@
--- Every job of a run that ended refused has its cause: the sum over all refusals, with what is left to be shown of each stated.
+-- Every job of a run that ended refused has its cause: the sum over all refusals, where a connection is closed by a Close that is taken, or by
+-- an entry here. That this is so in every run is RunCauses'.
 use Rattle.std.proofs.Common.{◌≡◌, ℕ, true, List, [], ◌∷◌, Option, Some, None, inl, inr, refl, sym, ◌∙◌, subst}
 use Rattle.std.specs.Prelude.{reverse}
 use Rattle.annex_base.specs.Lists.{Each, Member}
@@ -129,11 +130,11 @@ caused s past words e h own frames mine run left = record {
   transfers = λ r j refusal is kind. subst (λ n. TransferCauseOf s.repos past n j refusal) (same_repo e.repo s.number r mine is) (transfer_caused s past words e h own frames run left j refusal kind);
 }
 
--- what is left to be shown of a repository and a past of a run
+-- the premise, of a repository and a past of a run
 pub record Left (s : SetUp) (past : List Entry) : Type 0 where
   pub shut' : ShutsTold s past
 
--- **each refused job of a run by steps has its cause**, where what is left holds at each of its pasts
+-- **each refused job of a run by steps has its cause**, where the premise holds at each of its pasts
 module _ (run : Run) (repos : Each IsSetUp run.repos) (left : (r : ℕ) (past : List Entry) → RunPast (set_up run) past → Left (set_up run r) past) where
   grounds : (r : ℕ) (past : List Entry) → RunPast (set_up run) past → Grounds (set_up run r) past
   grounds r past h = let l = left r past h in record {

@@ -14,15 +14,16 @@ use Rattle.run_model.specs.Past.{is_of}
 use Rattle.node_model.specs.Rows.{option_is}
 use Rattle.node_model.specs.Slots.{job_of}
 use Rattle.node_model.specs.Ends.{same_bool, End, EndName, sends_at, sent_at, server_end, taken_at, takes_at}
+use Rattle.run_model.specs.Logs.{is_step}
 use Rattle.node_model.specs.SetUp.{SetUp}
 use Rattle.run_model.specs.States.{state_of, end_at, rows_at, works}
 use Rattle.node_model.specs.AnyTime.{MayCome}
 use Rattle.node_model.specs.Jobs.{Work, job_end, new_work, work_kind}
 use Rattle.node_model.specs.Found.{JobKind}
-use Rattle.run_model.specs.Run.{IsStep, OwnPart, OwnRun}
+use Rattle.run_model.specs.Run.{IsStep, OwnPart, OwnRun, ComesAnyTime}
 use Rattle.race_core.proofs.Plain.{each_filter, eqb_refl, eqb_true}
 use Rattle.race_core.proofs.StepFacts.{kind_found}
-use Rattle.race_core.proofs.JobSteps.{Begins, KindAfter, Origin, Stays, Stepped, origin, stepped_found, stepped_job, stepped_runs, still_after, turn_at}
+use Rattle.race_core.proofs.JobSteps.{Begins, KindAfter, Origin, Stays, Stepped, Steps, origin, stepped_found, stepped_job, stepped_runs, still_after, turn_at}
 use Rattle.race_core.proofs.NotDropping.{entry_moved, moved_on}
 use Rattle.race_core.proofs.ClientTurns.{made_entry, moved}
 use Rattle.race_core.proofs.WorkNumbers.{same_slot_same_work}
@@ -45,6 +46,7 @@ pub record Moved (s : SetUp) (past : List Entry) (e : Entry) (x : Work) : Type 0
   pub by : Stepped s past e
   pub goes_on : (j : ℕ) (outcome : Outcome) → by.made.kind ≢ ends_job j outcome
   pub work_is : x ≡ moved (turn_at s past e by) by.made by.made.kind
+  pub stood : (by.w ≡ x) ⊎ ((b : Steps s past e x) × (b.by ≡ by))
 
 abbrev pub ClientDoes : SetUp → List Entry → Entry → Work → EndName → Type 0
 ClientDoes s past e x a = Quiet s past e x a ⊎ Moved s past e x
@@ -113,7 +115,7 @@ module _ (s : SetUp) (past : List Entry) (e : Entry) (run : OwnRun s (e ∷ past
 
   -- a step of the same job
   same_moved : (y : Stepped s past e) → (b : Stays s past e x) → y.w ≡ x → Moved s past e x
-  same_moved y b same = record { by = y; goes_on = goes_on; work_is = sym same ∙ (sym unmoved ∙ entry) }
+  same_moved y b same = record { by = y; goes_on = goes_on; work_is = sym same ∙ (sym unmoved ∙ entry); stood = inl same }
     where
       kind_is : e.kind ≡ y.made.kind
       kind_is = ap (λ (z : Entry). z.kind) y.is
@@ -128,7 +130,7 @@ module _ (s : SetUp) (past : List Entry) (e : Entry) (run : OwnRun s (e ∷ past
       no_begin job what k = subst (JobKind (turn_at s past e y) y.made) (sym kind_is ∙ k) (stepped_found s past e y).found
 
       after : KindAfter s past y.w e e.kind ≡ y.w
-      after = still_after s past y.w e e.kind no_begin (subst (λ (w : Work). Rattle.run_model.specs.Logs.is_step w.number e.kind ≡ false) (sym same) b.still)
+      after = still_after s past y.w e e.kind no_begin (subst (λ (w : Work). is_step w.number e.kind ≡ false) (sym same) b.still)
 
       its : option_is (job_of e.kind) y.w.number ≡ true
       its = ap (λ o. option_is o y.w.number) (stepped_job s past e y) ∙ eqb_refl y.w.number
@@ -148,7 +150,7 @@ module _ (s : SetUp) (past : List Entry) (e : Entry) (run : OwnRun s (e ∷ past
     ]
   ]
     where
-      alone : (e.sent ≡ []) ⊎ Rattle.run_model.specs.Run.ComesAnyTime s past e → Each (λ g. g.body ≡ Closing) e.sent
+      alone : (e.sent ≡ []) ⊎ ComesAnyTime s past e → Each (λ g. g.body ≡ Closing) e.sent
       alone (inl none) = subst (Each (λ g. g.body ≡ Closing)) (sym none) tt
       alone (inr z) = come_closes s past e.lines e.sent e.kind z.may
 
@@ -174,4 +176,4 @@ module _ (s : SetUp) (past : List Entry) (e : Entry) (run : OwnRun s (e ∷ past
       by : Origin s past e x → ClientDoes s past e x a
       by (inl b) = absurd (begins_shut (run.0 is).0 (run.0 is).1 b)
       by (inr (inl b)) = stays_does (run.0 is).0 (run.0 is).1 b
-      by (inr (inr b)) = inr (record { by = b.by; goes_on = moved_on s past e x b; work_is = entry_moved s past e x b })
+      by (inr (inr b)) = inr (record { by = b.by; goes_on = moved_on s past e x b; work_is = entry_moved s past e x b; stood = inr (b, refl) })

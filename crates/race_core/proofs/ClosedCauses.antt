@@ -1,5 +1,5 @@
 -- The causes of refusals that rest on a closed connection: a drop lost its target, a copy's connection was closed, a get's sources gave nothing.
-use Rattle.std.proofs.Common.{◌≡◌, ◌≢◌, ℕ, Bool, true, false, List, [], ◌∷◌, ◌++◌, Option, Some, None, ◌⊎◌, inl, inr, refl, sym, ap, ◌∙◌, subst, arith}
+use Rattle.std.proofs.Common.{◌≡◌, ◌≢◌, ℕ, ◌+◌, Bool, true, false, List, [], ◌∷◌, ◌++◌, Option, Some, None, ◌⊎◌, inl, inr, refl, sym, ap, ◌∙◌, subst, arith}
 use Rattle.std.proofs.lemmas.Bool.Decides.{nat_tests}
 use Rattle.std.specs.Prelude.{if◌then◌else◌, ◌==◌, ◌||◌}
 use Rattle.std.specs.List.{list_any}
@@ -45,9 +45,9 @@ use Rattle.race_core.proofs.BySteps.{earlier}
 use Rattle.race_core.proofs.SaidDown.{said_is}
 use Rattle.race_core.proofs.PhaseFacts.{only_word}
 
--- ---- what is left: between nodes of a run no wrong message comes
+-- ---- the premise: between nodes of a run no wrong message comes
 
--- **what is left of Lost, Closed and a source's `closed`**: where a step of a job finds the connection on which it stands closed, its peer
+-- **what Lost, Closed and a source's `closed` stand on**: where a step of a job finds the connection on which it stands closed, its peer
 -- closed it, or an entry here; or, of a copy, the content was gone or too short
 abbrev pub ShutTold : SetUp → List Entry → Entry → Type 0
 ShutTold s past e = (w : Work) (b : Steps s past e w) (z : ShutOn (rows_at past s.number) b.by.w e)
@@ -59,7 +59,7 @@ ShutsTold s past = Always (ShutTold s) past
 -- ---- more entries change nothing
 
 module _ (r : ℕ) (e : Entry) (past : List Entry) (j : Running) where
-  closed_grows : (peer : ℕ) → ClosedWith past r j.number peer → ClosedWith (e ∷ past) r j.number peer
+  pub closed_grows : (peer : ℕ) → ClosedWith past r j.number peer → ClosedWith (e ∷ past) r j.number peer
   closed_grows peer (inl x) = inl (hears_grows r e past j peer CloseIt x)
   closed_grows peer (inr x) = inr (record { entry = x.entry; before = x.before; occurs = inr x.occurs; own = x.own; slot = x.slot; kind_is = x.kind_is; slot_is = x.slot_is })
 

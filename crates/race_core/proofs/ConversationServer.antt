@@ -1,7 +1,7 @@
 -- **On an open connection of a running job, the dialogue through the entries of the server**: what its session does and what is on the way
 -- suit where the job stands; or it is to take the Opening; or a Close is on the way.
 use Rattle.std.proofs.Common.{◌≡◌, ℕ, ◌<◌, ◌≤◌, Bool, true, false, List, [], ◌∷◌, ◌++◌, Option, Some, None, ◌⊎◌, inl, inr, refl, sym, ap, ◌∙◌, subst, arith, append_assoc}
-use Rattle.std.specs.Prelude.{◌==◌, filter, slice_get}
+use Rattle.std.specs.Prelude.{◌==◌, filter, slice_get, suc, zero, ◌^◌}
 use Rattle.std.proofs.lemmas.Bool.{true≢false}
 use Rattle.std.proofs.lemmas.Bool.Decides.{nat_tests}
 use Rattle.annex_base.specs.Lists.{Each, Member}
@@ -40,7 +40,7 @@ use Rattle.race_core.proofs.DialogueServer.{Stands, answer, gave_bodies, gave_st
 use Rattle.race_core.proofs.Lists.{eqb_true}
 use Rattle.race_core.proofs.SessionOwn.{way_at}
 use Rattle.race_core.proofs.FromStep.{Part, own_past, part_of}
-use Rattle.race_core.proofs.Queues.{First, Queue, first_of, in_none_taken, in_still, in_takes, out_all, out_none, out_sends}
+use Rattle.race_core.proofs.Queues.{First, Queue, first_of, in_none_taken, in_still, in_takes, out_all, out_none, out_sends, hits}
 use Rattle.race_core.proofs.Epochs.{client_end, opening_sent}
 
 abbrev pub up_way : ℕ → ℕ → ℕ → ℕ → Way
@@ -89,8 +89,8 @@ pub record Continues (past : List Entry) (r p q n : ℕ) (d : End) (v : Session)
 
 oldest_in : (repos : List RepoView) (r : ℕ) → Each IsSetUp repos → 1 ≤ version_in (slice_get repos r)
 oldest_in [] r all = omega arith
-oldest_in (x ∷ xs) Rattle.std.specs.Prelude.zero all = all.0.oldest
-oldest_in (x ∷ xs) (Rattle.std.specs.Prelude.suc r) all = oldest_in xs r all.1
+oldest_in (x ∷ xs) zero all = all.0.oldest
+oldest_in (x ∷ xs) (suc r) all = oldest_in xs r all.1
 
 module _ (run : Run) (repos : Each IsSetUp run.repos) (past : List Entry) (e : Entry) (h : RunPast (set_up run) past) (step : RunStep (set_up run) past e) (r p q : ℕ) (own : is_of p e ≡ true) (other : is_of r e ≡ false) where
   abbrev s : SetUp
@@ -114,7 +114,7 @@ module _ (run : Run) (repos : Each IsSetUp run.repos) (past : List Entry) (e : E
   own_p : OwnPast s past
   own_p = own_past run repos p past h
 
-  spot : (k : Look) → k.part < Rattle.std.specs.Prelude.◌^◌ 2 62 → e.time ≡ k.time → Spot (here s (state_of s past) k b)
+  spot : (k : Look) → k.part < 2 ^ 62 → e.time ≡ k.time → Spot (here s (state_of s past) k b)
   spot k small time = spot_of s past own_p part.own.known (oldest_in run.repos p repos) k small (subst (λ t. t ≤ 1000000000000) time step.order.in_time) b
 
   abbrev Then : Stance → Session → Type 0
@@ -365,7 +365,7 @@ module _ (run : Run) (repos : Each IsSetUp run.repos) (past : List Entry) (e : E
         mid_is = ap (λ o. (end_took d o).epoch) at_b
 
         no_hit : (f.epoch == n) ≡ false → Queue (e ∷ past) (up_way r p q n) up
-        no_hit apart = in_still p b n past e own other up (ap (λ o. Rattle.race_core.proofs.Queues.hits n o) at_b ∙ apart) x.up_queue
+        no_hit apart = in_still p b n past e own other up (ap (λ o. hits n o) at_b ∙ apart) x.up_queue
 
         below : (i j k : ℕ) → i ≡ j → j < k → (i == k) ≡ false
         below i j k same l = grind (arith, nat_tests)

@@ -3,7 +3,7 @@ use Rattle.std.proofs.Common.{◌≡◌, ℕ, ◌≤◌, List, [], ◌∷◌, So
 use Rattle.run_data.specs.declared.entry.FrameText.{FrameText}
 use Rattle.run_data.specs.declared.entry.FrameText.TheVariants.{Opening, Closing}
 use Rattle.p2p_wire.specs.declared.message.Message.TheVariants.{Valid}
-use Rattle.node_model.specs.Sessions.{Doing, Gave, Wants, Takes, Session}
+use Rattle.node_model.specs.Sessions.{Doing, Gave, Wants, Takes, Session, Waits}
 use Rattle.race_core.proofs.Dialogue
 use Rattle.race_core.proofs.Dialogue.{Stance}
 
@@ -31,9 +31,9 @@ asked_no at z up down (inl x) = pending_no (Dialogue.Asks at z.version) (asks_no
 asked_no at z up down (inr x) = let none : Closing ∷ up ≡ [] = x.none_up in cc
 
 pub closes_no : (at : Stance) (z : Session) (up down : List FrameText) → Dialogue.Dialogue at z (Closing ∷ up) down → ⊥
-closes_no Dialogue.Away z up down x = settled_no (λ d. d ≡ Rattle.node_model.specs.Sessions.Waits) z.doing up (at_away (Closing ∷ up) x)
+closes_no Dialogue.Away z up down x = settled_no (λ d. d ≡ Waits) z.doing up (at_away (Closing ∷ up) x)
   where
-    at_away : (us : List FrameText) → Dialogue.Dialogue Dialogue.Away z us down → Dialogue.Settled (λ d. d ≡ Rattle.node_model.specs.Sessions.Waits) z.doing us
+    at_away : (us : List FrameText) → Dialogue.Dialogue Dialogue.Away z us down → Dialogue.Settled (λ d. d ≡ Waits) z.doing us
     at_away us y = y.2
 closes_no Dialogue.Locked z up down x = settled_no Dialogue.IsAtRest z.doing up (at_locked (Closing ∷ up) x)
   where

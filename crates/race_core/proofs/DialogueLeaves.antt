@@ -57,7 +57,7 @@ talk_keeps t m peer to on local goes stays here = subst (λ (p : Option ℕ). Ke
 
     opened : (end_after (job_end x peer) (t.ends (job_end x peer)) e).opened ≡ true → KeepsTo t m (talks (rows_of t) (me t) x e m.sent)
     opened o = local_keeps t m (talks (rows_of t) (me t) x e m.sent) peer local live (inr on) (subst (λ (q : Phase). Stays t.w.what.peer q peer) (sym goes) stays)
-        (subst (λ (q : Phase). IsLive q → (end_then (end_with t peer) m).opened ≡ true → Keeps t peer m.taken m.sent (stance t.w.what.peer q (kept (talked_here t m) peer) peer)) (sym goes) here)
+        (subst (λ (q : Phase). IsLive q → (end_then (end_with t peer) m).opened ≡ true → Keeps t peer m.taken m.sent (stance t.w.what.peer q (kept (talked_here t m) peer) peer)) (sym goes) here) (λ at o. on)
 
     same : job_end x peer ≡ job_end t.w peer
     same = ap (λ (s : ℕ). let a : EndName = record { peer = peer; slot = s; client = true } in a) (talker_slot t m.taken)
@@ -69,7 +69,7 @@ talk_keeps t m peer to on local goes stays here = subst (λ (p : Option ℕ). Ke
 
     closed : (end_after (job_end x peer) (t.ends (job_end x peer)) e).opened ≡ false → KeepsTo t m (closed_part (me t) x peer x.part)
     closed is = local_keeps t m (closed_part (me t) x peer x.part) peer local live (inr on) (inl (closed_alone t.w.what.peer (me t) x peer x.part))
-        (λ l o. absurd (true≢false (sym o ∙ shut is)))
+        (λ l o. absurd (true≢false (sym o ∙ shut is))) (λ at o. on)
 
 -- the dialogue of the partner's connection, by the phase
 abbrev On : Phase → FrameView → Session → List FrameText → List FrameText → Type 0
@@ -97,7 +97,7 @@ module _ (t : Turn) (kind : EntryKind) (f : FrameView) (peer : ℕ) (x : Taking 
   pub hears_to_keeps : (next : Work) → Stays t.w.what.peer next.phase peer
       → ((z : Session) (up down : List FrameText) → On phase f z up down → Talk (stance t.w.what.peer next.phase (kept next peer) peer) z up down) → KeepsTo t (quietly kind (Some f)) next
   hears_to_keeps next stays keeps = local_keeps t (quietly kind (Some f)) next peer (takes_here t.w peer f x.of_end) live (inr x.on) stays
-      (λ l o. hears_here (stance t.w.what.peer next.phase (kept next peer) peer) keeps)
+      (λ l o. hears_here (stance t.w.what.peer next.phase (kept next peer) peer) keeps) (λ at o. x.on)
 
   says_here : (m : Message) (next : Stance) → ((z : Session) (up down : List FrameText) → KnowsVersion t.w peer z → On phase f z up down → Talk next z (up ++ Line (text_of m) ∷ []) down)
       → Keeps t peer (Some f) (says_to t kind (Some f) peer m).sent next
@@ -117,7 +117,7 @@ module _ (t : Turn) (kind : EntryKind) (f : FrameView) (peer : ℕ) (x : Taking 
       → ((z : Session) (up down : List FrameText) → KnowsVersion t.w peer z → On phase f z up down → Talk (stance t.w.what.peer next.phase (kept next peer) peer) z (up ++ Line (text_of m) ∷ []) down)
       → KeepsTo t (says_to t kind (Some f) peer m) next
   says_to_keeps m next stays keeps = local_keeps t (says_to t kind (Some f) peer m) next peer (answers_here t.w peer f (end_with t peer) (Line (text_of m)) x.of_end) live (inr x.on) stays
-      (λ l o. says_here m (stance t.w.what.peer next.phase (kept next peer) peer) keeps)
+      (λ l o. says_here m (stance t.w.what.peer next.phase (kept next peer) peer) keeps) (λ at o. x.on)
 
   -- a Close
   pub shut_keeps : f.body ≡ Closing → Goes t (quietly kind (Some f))
@@ -167,7 +167,7 @@ module _ (t : Turn) (kind : EntryKind) (peer : ℕ) (phase : Phase) (is : t.w.ph
     subst (λ (p : Option ℕ). KeepsTo t m (talks_on (rows_of t) (me t) x (made_entry t m) p)) (sym on)
         (subst (λ (b : Bool). KeepsTo t m (if b then talks (rows_of t) (me t) x (made_entry t m) [] else closed_part (me t) x peer x.part)) (sym closed)
         (local_keeps t m (closed_part (me t) x peer x.part) peer (quiet_here t.w peer) (live_on t.w.what.peer t.w.phase peer on) (inr on) (inl (closed_alone t.w.what.peer (me t) x peer x.part))
-        (λ l o. absurd (true≢false (sym o ∙ shut))))),
+        (λ l o. absurd (true≢false (sym o ∙ shut))) (λ at o. on))),
     inl tt,
   )
     where
@@ -184,15 +184,16 @@ module _ (t : Turn) (kind : EntryKind) (peer : ℕ) (phase : Phase) (is : t.w.ph
 
 module _ (t : Turn) (alone : partner t.w.what.peer t.w.phase ≡ None) (live : IsLive t.w.phase) where
   alone_keeps : (m : Made) (next : Work) (peer : ℕ) → (talked_here t m) ≡ next → Local t.w peer m.taken m.sent → Stays t.w.what.peer next.phase peer
-      → ((end_then (end_with t peer) m).opened ≡ true → Keeps t peer m.taken m.sent (stance t.w.what.peer next.phase (kept next peer) peer)) → KeepsTo t m (talked t m)
-  alone_keeps m next peer goes local stays here = subst (λ (p : Option ℕ). KeepsTo t m (talks_on (rows_of t) (me t) (talker t m.taken) (made_entry t m) p)) (sym alone)
-      (subst (KeepsTo t m) (sym goes) (local_keeps t m next peer local live (inl alone) stays (λ l o. here o)))
+      → ((end_then (end_with t peer) m).opened ≡ true → Keeps t peer m.taken m.sent (stance t.w.what.peer next.phase (kept next peer) peer))
+      → ((end_then (end_with t peer) m).opened ≡ false → ⊥) → KeepsTo t m (talked t m)
+  alone_keeps m next peer goes local stays here came = subst (λ (p : Option ℕ). KeepsTo t m (talks_on (rows_of t) (me t) (talker t m.taken) (made_entry t m) p)) (sym alone)
+      (subst (KeepsTo t m) (sym goes) (local_keeps t m next peer local live (inl alone) stays (λ l o. here o) (λ at o. absurd (came o))))
 
   -- the connection is opened
   pub opens_keeps : (kind : EntryKind) (peer : ℕ) → Goes t (sends_to t kind None peer (Opening ∷ []))
   opens_keeps kind peer = (
     alone_keeps (sends_to t kind None peer (Opening ∷ [])) (talked_here t (sends_to t kind None peer (Opening ∷ []))) peer refl (sends_here t.w peer (end_with t peer) Opening) (inr refl)
-        (λ o. inl (record { opens = refl; takes_none = refl; stands = stands_on t.w.what.peer (Jobs.Opens peer) (kept (talked_here t (sends_to t kind None peer (Opening ∷ []))) peer) peer refl })),
+        (λ o. inl (record { opens = refl; takes_none = refl; stands = stands_on t.w.what.peer (Jobs.Opens peer) (kept (talked_here t (sends_to t kind None peer (Opening ∷ []))) peer) peer refl })) (λ o. true≢false o),
     inl (refl, tt),
   )
 
@@ -210,7 +211,7 @@ module _ (t : Turn) (alone : partner t.w.what.peer t.w.phase ≡ None) (live : I
           none_opens = (refl, tt);
           keeps = λ z up down v x. subst (λ (q : Phase). Talk (stance t.w.what.peer q (kept y peer) peer) z (up ++ Line (text_of m) ∷ []) down) (sym at)
               (keeps (kept y peer) z up down v (subst (λ (k : Bool). Talk (rests k) z up down) free (subst (λ (s : Stance). Talk s z up down) (rests_at t.w.what.peer t.w.phase (kept t.w peer) peer (none_is (partner t.w.what.peer t.w.phase) peer alone)) x)));
-        })),
+        })) (λ o. true≢false (sym opened ∙ o)),
     inl (refl, tt),
   )
     where
@@ -222,18 +223,21 @@ module _ (t : Turn) (alone : partner t.w.what.peer t.w.phase ≡ None) (live : I
 
   -- nothing is taken nor sent
   pub still_keeps : (kind : EntryKind) (next : Work) → partner t.w.what.peer next.phase ≡ None → KeepsTo t (quietly kind None) next
-  still_keeps kind next none p locks l o = inr (record {
-    live = live;
-    opened = o;
-    none_opens = tt;
-    keeps = λ z up down v x. subst (λ (us : List FrameText). Talk (stance t.w.what.peer next.phase (kept next p) p) z us down) (sym (append-nil up))
-        (subst (λ (at : Stance). Talk at z up down) (sym (rests_at t.w.what.peer next.phase (kept next p) p (none_is (partner t.w.what.peer next.phase) p none)))
-        (rests_more z up down (kept t.w p) (kept next p) (locks was) (subst (λ (at : Stance). Talk at z up down) (rests_at t.w.what.peer t.w.phase (kept t.w p) p was) x)));
-  })
+  still_keeps kind next none = (
+    λ p locks l o. inr (record {
+      live = live;
+      opened = o;
+      none_opens = tt;
+      keeps = λ z up down v x. subst (λ (us : List FrameText). Talk (stance t.w.what.peer next.phase (kept next p) p) z us down) (sym (append-nil up))
+          (subst (λ (at : Stance). Talk at z up down) (sym (rests_at t.w.what.peer next.phase (kept next p) p (none_is (partner t.w.what.peer next.phase) p none)))
+          (rests_more z up down (kept t.w p) (kept next p) (locks (was p)) (subst (λ (at : Stance). Talk at z up down) (rests_at t.w.what.peer t.w.phase (kept t.w p) p (was p)) x)));
+    }),
+    λ p at o. absurd (let both : None ≡ Some p = sym none ∙ at in cc),
+  )
     where
-      was : option_is (partner t.w.what.peer t.w.phase) p ≡ false
-      was = none_is (partner t.w.what.peer t.w.phase) p alone
+      was : (p : ℕ) → option_is (partner t.w.what.peer t.w.phase) p ≡ false
+      was p = none_is (partner t.w.what.peer t.w.phase) p alone
 
 -- a job that is to end next
 pub over_keeps : (t : Turn) (m : Made) (next : Work) → (IsLive next.phase → ⊥) → KeepsTo t m next
-over_keeps t m next over p locks l o = absurd (over l)
+over_keeps t m next over = (λ p locks l o. absurd (over l), λ p at o. absurd (over (live_on t.w.what.peer next.phase p at)))

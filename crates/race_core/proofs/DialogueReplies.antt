@@ -13,7 +13,7 @@ use Rattle.run_data.specs.declared.entry.FrameText.TheVariants.{Opening, Closing
 use Rattle.p2p_wire.specs.declared.message.Message.{Message}
 use Rattle.p2p_wire.specs.declared.message.Message.TheVariants.{AuthSuccess, Version, CheckPresent, LockContent, RemoveBefore, GetTimestamp, Timestamp, Get, Put, PutFrom, AlreadyHave, Data, Success, Failure, Error}
 use Rattle.p2p_wire.specs.Messages.{message_of, text_of}
-use Rattle.node_model.specs.Sessions.{Waits, Session, doing_after, is_closing, line_in, new_session, reaches, took_bytes, took_message, version_told}
+use Rattle.node_model.specs.Sessions.{Waits, Session, doing_after, is_closing, line_in, new_session, reaches, took_bytes, took_message, version_told, guards}
 use Rattle.node_model.specs.SessionStep.{Here, Reply, bar_on, by_of, bytes_left, check_answer, content_of, is_here, is_held, lock_answer, now_of, on_put, on_remove, on_remove_before, on_request, put_answer, refuses, remove_answer, reply, tries, unexpected}
 use Rattle.node_model.specs.Look.{failing}
 use Rattle.node_model.specs.Calls.{to_lock, to_offer, to_remove}
@@ -108,7 +108,7 @@ module _ (size : List ℕ → Option ℕ) (h : Here) (spot : Spot h) (z : Sessio
         go true None = look_idle key (Check found.Present key) Success (inl refl) speaks
 
     -- LOCKCONTENT
-    lock_no : (key : List ℕ) (kind : EntryKind) → Rattle.node_model.specs.Sessions.guards kind ≡ Waits → 1 ≤ z.version → Served Dialogue.AtLock (LockContent key) (reply kind Failure)
+    lock_no : (key : List ℕ) (kind : EntryKind) → guards kind ≡ Waits → 1 ≤ z.version → Served Dialogue.AtLock (LockContent key) (reply kind Failure)
     lock_no key kind none speaks = answers Dialogue.AtLock (λ z up down x. x) (LockContent key) kind Failure refl (idle (LockContent key) kind Failure none speaks) (λ g. refl)
 
     pub lock_served : (key : List ℕ) → 1 ≤ z.version → Served Dialogue.AtLock (LockContent key) (on_request h z.version (LockContent key))

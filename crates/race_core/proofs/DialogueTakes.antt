@@ -27,7 +27,7 @@ use Rattle.node_model.specs.Jobs.{Part, Gets, Puts, Drops, Phase, Fresh, Next, O
 use Rattle.node_model.specs.Calls.{to_commit, to_release}
 use Rattle.node_model.specs.Look.{Made, same_call, waiting}
 use Rattle.node_model.specs.SessionStep.{bytes_left}
-use Rattle.node_model.specs.JobStep.{Turn, hears, attempts, by_me, clock_of, end_with, ends, farewells, key_of, owns_share, quietly, says_to, sends_to, talk, wrong}
+use Rattle.node_model.specs.JobStep.{Turn, hears, attempts, by_me, clock_of, end_with, ends, farewells, key_of, owns_share, quietly, says_to, sends_to, talk, wrong, is_held}
 use Rattle.node_model.specs.DropStep.{takes_drop, takes_time, first_end, orders, target, times}
 use Rattle.node_model.specs.Requests.{asks}
 use Rattle.node_model.specs.TransferStep.{takes_get, takes_put, content_of, gains, puts_from, puts_piece, takes_bytes}
@@ -35,6 +35,7 @@ use Rattle.node_model.specs.Turns.{takes_answer, awaits, by_partner, goes_on, ha
 use Rattle.race_core.proofs.Plain.{and_true, eqb_refl}
 use Rattle.race_core.proofs.Cases.{find_was, if_found}
 use Rattle.race_core.proofs.JobFacts.{frame_found}
+use Rattle.race_core.proofs.PhaseFacts.{only_puts}
 use Rattle.race_core.proofs.TalkFacts.{Fits}
 use Rattle.race_core.proofs.ClientCounts.{IsLive, none_is}
 use Rattle.race_core.proofs.ClientTurns.{talker, talker_phase}
@@ -54,6 +55,11 @@ transferred_alone : (target : Option ℕ) (x : Work) (outcome : Outcome) → par
 transferred_alone target x outcome =
     if_found (λ (y : Work). partner target y.phase ≡ None) (is_move x.what.kind) (record x { part = Drops; phase = Fresh; fills = false }) (record x { phase = Ends outcome; fills = false }) (λ e. refl) (λ e. refl)
 
+only_offer : (part : Part) (peer : ℕ) → Fits part (PutsOffer peer) → part ≡ Puts
+only_offer Puts peer f = refl
+only_offer Gets peer f = absurd f
+only_offer Drops peer f = absurd f
+
 some_peer : (p q : ℕ) → Some p ≡ Some q → p ≡ q
 some_peer p q e = cc
 
@@ -70,7 +76,7 @@ to_on target next k peer z up down on x = subst (λ (at : Stance). Converses at 
 to_rest : (target : Option ℕ) (next : Phase) (k : Bool) (peer : ℕ) (z : Session) (up down : List FrameText) → partner target next ≡ None → Converses Dialogue.Away z up down → Converses (stance target next k peer) z up down
 to_rest target next k peer z up down none x = subst (λ (at : Stance). Converses at z up down) (sym (rests_at target next k peer (none_is (partner target next) peer none))) (rests_away z up down k x)
 
-kept_now : (x : Work) (p : ℕ) (h : Jobs.Heard) → Rattle.node_model.specs.JobStep.is_held (Some h) ≡ true → kept (Jobs.hears x p h) p ≡ true
+kept_now : (x : Work) (p : ℕ) (h : Jobs.Heard) → is_held (Some h) ≡ true → kept (Jobs.hears x p h) p ≡ true
 kept_now x p h e = rw (eqb_refl p) e
 
 -- ---- what suits a part of a job
@@ -176,7 +182,7 @@ module _ (t : Turn) (f : FrameView) (peer : ℕ) (x : Taking t f peer) (walks : 
 
   -- an answer is heard, and the job stands on no connection then
   heard_good : (phase : Phase) (m : Message) (next : Phase) → t.w.phase ≡ phase → line_in f.body ≡ Some m → ((listens (talker t (Some f)) phase m).phase ≡ next) → partner t.w.what.peer next ≡ None
-      → ((z : Session) (up down : List FrameText) → Converses (phase_stance phase) z up (f.body ∷ down) → Converses Dialogue.Away z up down) → GoodMade t (Rattle.node_model.specs.JobStep.hears t f)
+      → ((z : Session) (up down : List FrameText) → Converses (phase_stance phase) z up (f.body ∷ down) → Converses Dialogue.Away z up down) → GoodMade t (hears t f)
   heard_good phase m next is told goes none keeps = hears_keeps t (talk t) f peer x phase is next
       (ap (λ (y : Work). y.phase) (took_listens (talker t (Some f)) f.body m phase told (talker_phase t (Some f) ∙ is)) ∙ goes) (inl none)
       (λ z up down y. to_rest t.w.what.peer next (kept (took (talker t (Some f)) f.body) peer) peer z up down none (keeps z up down y))
@@ -238,11 +244,11 @@ module _ (t : Turn) (f : FrameView) (peer : ℕ) (x : Taking t f peer) (walks : 
 
   time_good : (n : ℕ) → nat_lt n (2 ^ 61) ≡ true → t.w.part ≡ Drops → t.w.phase ≡ AsksTime → line_in f.body ≡ Some (Timestamp n) → (side : Side) → side_of t.w ≡ side → GoodMade t (takes_time t f peer n side)
   time_good n small part is told Local side = absurd (let no' : Local ≡ Remote = sym side ∙ walks.times_remote is in cc)
-  time_good n small part is told Remote side = if_found (GoodMade t) (nat_lt n (2 ^ 61)) (times t f n (first_end t)) (Rattle.node_model.specs.JobStep.wrong t f peer)
+  time_good n small part is told Remote side = if_found (GoodMade t) (nat_lt n (2 ^ 61)) (times t f n (first_end t)) (wrong t f peer)
       (λ e. times_good n e part side is told (first_end t) refl) (λ e. absurd (true≢false (sym small ∙ e)))
 
   -- a lock is given
-  lock_heard : (p since : ℕ) → t.w.phase ≡ AsksLock p since → line_in f.body ≡ Some Success → GoodMade t (Rattle.node_model.specs.JobStep.hears t f)
+  lock_heard : (p since : ℕ) → t.w.phase ≡ AsksLock p since → line_in f.body ≡ Some Success → GoodMade t (hears t f)
   lock_heard p since is told =
       let took_is = took_listens (talker t (Some f)) f.body Success (AsksLock p since) told (talker_phase t (Some f) ∙ is) in
       hears_keeps t (talk t) f peer x (AsksLock p since) is Next (ap (λ (y : Work). y.phase) took_is) (inl refl)
@@ -303,19 +309,19 @@ module _ (t : Turn) (f : FrameView) (peer : ℕ) (x : Taking t f peer) (walks : 
   from_good : (p n : ℕ) → t.w.phase ≡ PutsOffer p → line_in f.body ≡ Some (PutFrom n) → GoodMade t (puts_from t f peer n)
   from_good p n is told =
       let k = bytes_left (content_of t) n in
-      attempts_even (GoodMade t) t (calls.Size ∷ []) (Some f) (if reaches (content_of t) n then says_to t (talk t) (Some f) peer (Data k) else Rattle.node_model.specs.JobStep.wrong t f peer)
+      attempts_even (GoodMade t) t (calls.Size ∷ []) (Some f) (if reaches (content_of t) n then says_to t (talk t) (Some f) peer (Data k) else wrong t f peer)
       (λ call e. fault_here call (plain_in call (calls.Size ∷ []) refl refl e))
-      (if_found (GoodMade t) (reaches (content_of t) n) (says_to t (talk t) (Some f) peer (Data k)) (Rattle.node_model.specs.JobStep.wrong t f peer)
+      (if_found (GoodMade t) (reaches (content_of t) n) (says_to t (talk t) (Some f) peer (Data k)) (wrong t f peer)
       (λ e. says_keeps t (talk t) f peer x (PutsOffer p) is (Data k) (puts_more peer n n k) (walks.speaks.data' n)
       (ap (λ (o : Option Message). Jobs.put_from peer k o) told) (inr (puts_on t.w.what.peer peer n n k))
       (λ q z up down v y. to_on t.w.what.peer (puts_more peer n n k) q peer z (up ++ Line (text_of (Data k)) ∷ []) down (puts_on t.w.what.peer peer n n k)
       (offer_starts peer n n k z up down f.body told (walks.speaks.data' n) y)))
-      (λ e. short_keeps t (talk t) f peer x (PutsOffer p) is (record { place = n; short = e; why = inl (f, refl, told) })))
+      (λ e. short_keeps t (talk t) f peer x (PutsOffer p) is (record { place = n; short = e; puts = only_offer t.w.part p (fits_in t.w.part (PutsOffer p) refl is); why = inl (f, refl, told) })))
 
   put_good : (phase : Phase) (m : Message) → t.w.phase ≡ phase → line_in f.body ≡ Some m → PutSuits phase m → GoodMade t (takes_put t f peer phase m)
   put_good (PutsOffer p) AlreadyHave is told suits = heard_good (PutsOffer p) AlreadyHave (transferred (talker t (Some f)) (Copied None)).phase is told refl (transferred_alone t.w.what.peer (talker t (Some f)) (Copied None)) (asked_away Dialogue.AtPut AlreadyHave told (λ z a. a))
   put_good (PutsOffer p) Failure is told suits = heard_good (PutsOffer p) Failure (Ends (TransferRefused failures.Rejected)) is told refl refl (asked_away Dialogue.AtPut Failure told (λ z a. a))
-  put_good (PutsOffer p) (Error text) is told suits = if_found (GoodMade t) (bytes_eq text (codes "busy")) (Rattle.node_model.specs.JobStep.hears t f) (Rattle.node_model.specs.JobStep.wrong t f peer)
+  put_good (PutsOffer p) (Error text) is told suits = if_found (GoodMade t) (bytes_eq text (codes "busy")) (hears t f) (wrong t f peer)
       (λ e. heard_good (PutsOffer p) (Error text) (Ends (TransferRefused failures.Busy)) is told refl refl (asked_away Dialogue.AtPut (Error text) told (λ z a. a.0))) (λ e. absurd (true≢false (sym suits ∙ e)))
   put_good (PutsOffer p) (PutFrom n) is told suits = from_good p n is told
   put_good (PutsAnswer p start) Success is told suits = heard_good (PutsAnswer p start) Success (transferred (talker t (Some f)) (Copied (Some start))).phase is told refl (transferred_alone t.w.what.peer (talker t (Some f)) (Copied (Some start))) (answer_away Success told (λ z a. a))
@@ -330,7 +336,7 @@ module _ (t : Turn) (f : FrameView) (peer : ℕ) (x : Taking t f peer) (walks : 
   takes_good : (phase : Phase) (m : Message) → t.w.phase ≡ phase → line_in f.body ≡ Some m → SuitsMessage phase m → GoodMade t (takes t f peer phase m)
   takes_good (Opens p) (AuthSuccess id) is told suits = says_keeps t (talk t) f peer x (Opens p) is (Version 3) (Greets peer) walks.speaks.version refl (inr refl)
       (λ k z up down v y. to_on t.w.what.peer (Greets peer) k peer z (up ++ Line (text_of (Version 3)) ∷ []) down refl (opened_greets z up down f.body walks.speaks.version y))
-  takes_good (Greets p) (Version n) is told suits = if_found (GoodMade t) (nat_le n 3) (asks t n (Some f) peer t.w.part) (Rattle.node_model.specs.JobStep.wrong t f peer)
+  takes_good (Greets p) (Version n) is told suits = if_found (GoodMade t) (nat_le n 3) (asks t n (Some f) peer t.w.part) (wrong t f peer)
       (λ e. first_asks t n (Some f) peer walks.speaks
       (asker (IsVersion t n peer) (Greets p) is (λ z up down y. (asked_away Dialogue.AtGreet (Version n) told (λ z a. a.0) z up down y, λ to. sym (asked_answer Dialogue.AtGreet (Version n) told z up down y).1)))
       (heard_good (Greets p) (Version n) (Ends (Refused (refusals.OldProtocol n))) is told refl refl (asked_away Dialogue.AtGreet (Version n) told (λ z a. a.0))) fault_here t.w.part refl)
@@ -344,7 +350,7 @@ module _ (t : Turn) (f : FrameView) (peer : ℕ) (x : Taking t f peer) (walks : 
   bytes_taken : (n : ℕ) → f.body ≡ Bytes n → (phase : Phase) → t.w.phase ≡ phase → SuitsBytes phase n → GoodMade t (takes_bytes t f peer n phase)
   bytes_taken n body (GetsBytes p start size left) is suits =
       let same = same_peer (GetsBytes p start size left) is in
-      if_found (GoodMade t) (nat_lt 0 n && nat_le n left) (attempts t (calls.Append ∷ []) (Some f) (quietly (talk t) (Some f))) (Rattle.node_model.specs.JobStep.wrong t f peer)
+      if_found (GoodMade t) (nat_lt 0 n && nat_le n left) (attempts t (calls.Append ∷ []) (Some f) (quietly (talk t) (Some f))) (wrong t f peer)
       (λ e. attempts_even (GoodMade t) t (calls.Append ∷ []) (Some f) (quietly (talk t) (Some f)) (λ call h. fault_here call (plain_in call (calls.Append ∷ []) refl refl h))
       (hears_keeps t (talk t) f peer x (GetsBytes p start size left) is (gets_more p start (size + n) (left - n))
       (ap (λ (b : FrameText). (took (talker t (Some f)) b).phase) body ∙ ap (λ (q : Phase). Jobs.gets_bytes n q) (talker_phase t (Some f) ∙ is)) (inr (gets_on t.w.what.peer p start (size + n) (left - n) ∙ same))
@@ -374,8 +380,8 @@ min_fits left e = let first : nat_lt 0 (min 32768 left) ≡ true = grind (arith,
 min_below : (left : ℕ) → nat_le (min 32768 left) left ≡ true
 min_below left = grind (arith, nat_tests)
 
-piece_good : (t : Turn) (peer start at left : ℕ) → t.w.phase ≡ PutsBytes peer start at left → (end_with t peer).opened ≡ true → GoodMade t (puts_piece t peer at (min 32768 left))
-piece_good t peer start at left is opened =
+piece_good : (t : Turn) (peer start at left : ℕ) → Fits t.w.part t.w.phase → t.w.phase ≡ PutsBytes peer start at left → (end_with t peer).opened ≡ true → GoodMade t (puts_piece t peer at (min 32768 left))
+piece_good t peer start at left fits is opened =
     attempts_even (GoodMade t) t (calls.Read ∷ []) None (sends_to t (talk t) None peer ((if reaches (content_of t) (at + n) then Bytes n else Closing) ∷ []))
     (λ call e. fault_on t peer on None call (plain_in call (calls.Read ∷ []) refl refl e)) (go (reaches (content_of t) (at + n)) refl)
   where
@@ -392,7 +398,7 @@ piece_good t peer start at left is opened =
         not_none left e = grind (arith, nat_tests)
 
     go : (b : Bool) → reaches (content_of t) (at + n) ≡ b → GoodMade t (sends_to t (talk t) None peer ((if b then Bytes n else Closing) ∷ []))
-    go false e = closes_keeps t (talk t) peer (PutsBytes peer start at left) is on (record { place = at + n; short = e; why = inr (peer, start, at, left, n, is, min_below left, refl, refl) })
+    go false e = closes_keeps t (talk t) peer (PutsBytes peer start at left) is on (record { place = at + n; short = e; puts = only_puts t.w.part peer start at left (subst (Fits t.w.part) is fits); why = inr (peer, start, at, left, n, is, min_below left, refl, refl) })
     go true e = sends_keeps t (talk t) peer (PutsBytes peer start at left) is on (Bytes n) (puts_more peer start (at + n) (left - n)) refl refl opened (ap (λ (q : Phase). Jobs.puts_bytes n q) (talker_phase t None ∙ is))
         (inr (puts_on t.w.what.peer peer start (at + n) (left - n)))
         (λ k z up down y. to_on t.w.what.peer (puts_more peer start (at + n) (left - n)) k peer z (up ++ Bytes n ∷ []) down (puts_on t.w.what.peer peer start (at + n) (left - n))
@@ -405,17 +411,17 @@ word_good t peer start is opened =
     (λ k z up down y. to_on t.w.what.peer (PutsAnswer peer start) k peer z (up ++ Line (text_of Valid) ∷ []) down refl (valid_sends z up down valid_reads y))
 
 -- a job that sends what it awaits no answer to
-goes_on_good : (t : Turn) (peer : ℕ) → partner t.w.what.peer t.w.phase ≡ Some peer → (end_with t peer).opened ≡ true → is_awaiting t.w.phase ≡ false
+goes_on_good : (t : Turn) (peer : ℕ) → Fits t.w.part t.w.phase → partner t.w.what.peer t.w.phase ≡ Some peer → (end_with t peer).opened ≡ true → is_awaiting t.w.phase ≡ false
     → (phase : Phase) → t.w.phase ≡ phase → GoodMade t (goes t phase)
-goes_on_good t peer on opened idle (PutsBytes p start at left) is =
+goes_on_good t peer fits on opened idle (PutsBytes p start at left) is =
     let e : Some p ≡ Some peer = subst (λ (q : Phase). partner t.w.what.peer q ≡ Some peer) is on in
     let same : peer ≡ p = cc in
-    piece_good t p start at left is (subst (λ n. (end_with t n).opened ≡ true) same opened)
-goes_on_good t peer on opened idle (PutsWord p start) is =
+    piece_good t p start at left fits is (subst (λ n. (end_with t n).opened ≡ true) same opened)
+goes_on_good t peer fits on opened idle (PutsWord p start) is =
     let e : Some p ≡ Some peer = subst (λ (q : Phase). partner t.w.what.peer q ≡ Some peer) is on in
     let same : peer ≡ p = cc in
     word_good t p start is (subst (λ n. (end_with t n).opened ≡ true) same opened)
-goes_on_good t peer on opened idle phase is = absurd (true≢false (subst (λ (q : Phase). is_awaiting q ≡ false) is idle))
+goes_on_good t peer fits on opened idle phase is = absurd (true≢false (subst (λ (q : Phase). is_awaiting q ≡ false) is idle))
 
 on_good : (t : Turn) (m : Made) → GoodMade t (goes t t.w.phase) → goes_on t ≡ Some m → GoodMade t m
 on_good t m good e = go (list_all (has_room t) (needs t t.w.phase)) e
@@ -447,7 +453,7 @@ with_good t peer m walks suit on true opened e = go (is_awaiting t.w.phase) refl
   where
     go : (b : Bool) → is_awaiting t.w.phase ≡ b → (if b then awaits t peer (waiting (end_with t peer) t.look (job_end t.w peer)) else goes_on t) ≡ Some m → GoodMade t m
     go true awaiting g = wait_good t peer m walks suit on awaiting opened (waiting (end_with t peer) t.look (job_end t.w peer)) refl g
-    go false idle g = on_good t m (goes_on_good t peer on opened idle t.w.phase refl) g
+    go false idle g = on_good t m (goes_on_good t peer walks.fits on opened idle t.w.phase refl) g
 
 -- **each step of a job keeps the dialogue**, where what waits for it suits its phase
 pub partner_good : (t : Turn) (m : Made) → Walks t → WaitsSuit t m → (p : Option ℕ) → partner t.w.what.peer t.w.phase ≡ p → by_partner t p ≡ Some m → GoodMade t m

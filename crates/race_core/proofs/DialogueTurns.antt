@@ -1,5 +1,5 @@
 -- The steps of a job by what they take and send: each keeps the dialogue on each of its connections, or opens it.
-use Rattle.std.proofs.Common.{◌≡◌, ℕ, ◌+◌, Bool, true, false, List, [], ◌∷◌, ◌++◌, Option, Some, None, ◌⊎◌, inl, inr, refl, sym, subst, append-nil}
+use Rattle.std.proofs.Common.{◌≡◌, ℕ, ◌+◌, Bool, true, false, List, [], ◌∷◌, ◌++◌, Option, Some, None, ◌⊎◌, inl, inr, refl, sym, ◌∙◌, subst, append-nil}
 use Rattle.std.specs.Prelude.{◌==◌, nat_le}
 use Rattle.annex_base.specs.Lists.{Each}
 use Rattle.run_data.specs.declared.entry.EntryKind.{EntryKind}
@@ -11,7 +11,7 @@ use Rattle.node_model.specs.Rows.{option_is}
 use Rattle.p2p_wire.specs.declared.message.Message.TheVariants.{PutFrom}
 use Rattle.node_model.specs.Ends.{end_after, is_opening, sent_at, taken_at}
 use Rattle.node_model.specs.Sessions.{Session, is_closing, line_in, reaches}
-use Rattle.node_model.specs.Jobs.{Phase, PutsBytes, Work, job_end, partner}
+use Rattle.node_model.specs.Jobs.{Phase, Puts, PutsBytes, Work, job_end, partner}
 use Rattle.node_model.specs.Look.{Made}
 use Rattle.node_model.specs.JobStep.{Turn, end_with}
 use Rattle.node_model.specs.TransferStep.{content_of}
@@ -58,15 +58,24 @@ Keeps t p taken sent next = OpensIt t taken sent next ⊎ GoesOn t p taken sent 
 abbrev pub LocksStay : Turn → Work → ℕ → Type 0
 LocksStay t next p = option_is (partner t.w.what.peer t.w.phase) p ≡ false → kept t.w p ≡ true → kept next p ≡ true
 
--- **a step keeps the dialogue** on each connection that is open after it
-abbrev pub KeepsTo : Turn → Made → Work → Type 0
-KeepsTo t m next = (p : ℕ) → LocksStay t next p → IsLive next.phase → (end_after (job_end t.w p) (end_with t p) (made_entry t m)).opened ≡ true
+-- on each connection that is open after it
+abbrev pub KeepsOpen : Turn → Made → Work → Type 0
+KeepsOpen t m next = (p : ℕ) → LocksStay t next p → IsLive next.phase → (end_after (job_end t.w p) (end_with t p) (made_entry t m)).opened ≡ true
     → Keeps t p (taken_at (job_end t.w p) m.taken) (sent_at (job_end t.w p) m.sent) (stance t.w.what.peer next.phase (kept next p) p)
+
+-- it comes to no connection that is closed
+abbrev pub ComesFrom : Turn → Made → Work → Type 0
+ComesFrom t m next = (p : ℕ) → partner t.w.what.peer next.phase ≡ Some p → (end_after (job_end t.w p) (end_with t p) (made_entry t m)).opened ≡ false → partner t.w.what.peer t.w.phase ≡ Some p
+
+-- **a step keeps the dialogue**
+abbrev pub KeepsTo : Turn → Made → Work → Type 0
+KeepsTo t m next = KeepsOpen t m next × ComesFrom t m next
 
 -- the content is gone, or shorter than the place that the peer asks for, or than it was
 pub record FallsShort (t : Turn) (m : Made) : Type 0 where
   pub place : ℕ
   pub short : reaches (content_of t) place ≡ false
+  pub puts : t.w.part ≡ Puts
   pub why : ((f : FrameView) × (m.taken ≡ Some f) × (line_in f.body ≡ Some (PutFrom place)))
       ⊎ ((peer : ℕ) × (start : ℕ) × (at : ℕ) × (left : ℕ) × (n : ℕ) × (t.w.phase ≡ PutsBytes peer start at left) × (nat_le n left ≡ true) × (m.taken ≡ None) × (place ≡ at + n))
 
@@ -106,9 +115,23 @@ aside t next p live opened was now locks = inr (record {
 })
 
 pub local_keeps : (t : Turn) (m : Made) (next : Work) (peer : ℕ) → Local t.w peer m.taken m.sent → IsLive t.w.phase → Stays t.w.what.peer t.w.phase peer → Stays t.w.what.peer next.phase peer
-    → (IsLive next.phase → (end_then (end_with t peer) m).opened ≡ true → Keeps t peer m.taken m.sent (stance t.w.what.peer next.phase (kept next peer) peer)) → KeepsTo t m next
-local_keeps t m next peer local live stays goes here = λ p locks l o. go p locks l o (peer == p) refl
+    → (IsLive next.phase → (end_then (end_with t peer) m).opened ≡ true → Keeps t peer m.taken m.sent (stance t.w.what.peer next.phase (kept next peer) peer))
+    → (partner t.w.what.peer next.phase ≡ Some peer → (end_then (end_with t peer) m).opened ≡ false → partner t.w.what.peer t.w.phase ≡ Some peer) → KeepsTo t m next
+local_keeps t m next peer local live stays goes here came = (λ p locks l o. go p locks l o (peer == p) refl, comes)
   where
+    comes : ComesFrom t m next
+    comes p at o = by goes
+      where
+        here_came : partner t.w.what.peer next.phase ≡ Some peer → (end_after (job_end t.w peer) (end_with t peer) (made_entry t m)).opened ≡ false → partner t.w.what.peer t.w.phase ≡ Some peer
+        here_came is = rw (local.sends_here, local.takes_here) (came is)
+
+        by : Stays t.w.what.peer next.phase peer → partner t.w.what.peer t.w.phase ≡ Some p
+        by (inl none) = absurd (let both : None ≡ Some p = sym none ∙ at in cc)
+        by (inr some) =
+            let both : Some peer ≡ Some p = sym some ∙ at in
+            let same : peer ≡ p = cc in
+            subst (λ q. (end_after (job_end t.w q) (end_with t q) (made_entry t m)).opened ≡ false → partner t.w.what.peer t.w.phase ≡ Some q) same (here_came some) o
+
     KeepsAt : (p : ℕ) → Type 0
     KeepsAt p = LocksStay t next p → IsLive next.phase → (end_after (job_end t.w p) (end_with t p) (made_entry t m)).opened ≡ true
         → Keeps t p (taken_at (job_end t.w p) m.taken) (sent_at (job_end t.w p) m.sent) (stance t.w.what.peer next.phase (kept next p) p)

@@ -29,8 +29,8 @@ use Rattle.node_model.specs.Jobs
 use Rattle.node_model.specs.Jobs.{Part, Gets, Puts, Drops, Phase, Rows, Fresh, Next, GetsData, PutsOffer, AsksLock, AsksTime, Removed, Ends, Heard, Held, Work, heard_of, fault_of, fault_phase, first_look, is_move, listens, partner, quiet, says, side_of, taken_message, took, unreleased}
 use Rattle.node_model.specs.Calls.{to_hold, to_release}
 use Rattle.node_model.specs.Look.{Made, same_call}
-use Rattle.node_model.specs.Knows.{enough_by, is_unasked, next_by}
-use Rattle.node_model.specs.JobStep.{Turn, hears, attempts, bar_there, by_me, clock_of, end_with, ends, farewells, is_there, key_of, me, owns_share, quietly, says_to, sends_to, talk}
+use Rattle.node_model.specs.Knows.{enough_by, is_unasked, next_by, asks_by, candidates_by}
+use Rattle.node_model.specs.JobStep.{Turn, hears, attempts, bar_there, by_me, clock_of, end_with, ends, farewells, is_there, key_of, me, owns_share, quietly, says_to, sends_to, talk, is_held}
 use Rattle.node_model.specs.DropStep.{asks_copy, asks_lock, asks_target, bars, expired, first_drop, first_end, first_remote, held_until, in_time, lacking, need_now, orders, own_share, removes, required_there, row_refusal, target, tries_own}
 use Rattle.node_model.specs.Requests.{asks, goes_to}
 use Rattle.node_model.specs.TransferStep.{first_get, first_put, next_get, next_source}
@@ -216,9 +216,9 @@ quiet_alone target rows r x Next alone = refl
 quiet_alone target rows r x phase alone = alone
 
 find_unasked : (t : Turn) (peer : ℕ) → next_by t.read t.w ≡ Some peer → kept t.w peer ≡ false
-find_unasked t peer e = go (t.read.standing peer) (heard_of t.w peer) (find_was (λ c. Rattle.node_model.specs.Knows.asks_by t.read t.w c) (Rattle.node_model.specs.Knows.candidates_by t.read t.w) peer e).1
+find_unasked t peer e = go (t.read.standing peer) (heard_of t.w peer) (find_was (λ c. asks_by t.read t.w c) (candidates_by t.read t.w) peer e).1
   where
-    go : (s : Standing) (o : Option Heard) → is_unasked s o ≡ true → Rattle.node_model.specs.JobStep.is_held o ≡ false
+    go : (s : Standing) (o : Option Heard) → is_unasked s o ≡ true → is_held o ≡ false
     go s None e = refl
     go Asked (Some h) e = absurd (cc)
     go s (Some h) e = absurd (other s h e)

@@ -98,6 +98,17 @@ Sets kind = ⊥
 abbrev pub NextReason : Work → EntryKind → Type 0
 NextReason w kind = (w.part ≢ Puts) ⊎ ((Fits Puts w.phase → ⊥) ⊎ ((w.phase ≡ Fresh) ⊎ Sets kind))
 
+pub record SendsFirst (e : Entry) (n : ℕ) : Type 0 where
+  pub f : FrameView
+  pub rest : List FrameView
+  pub sent_is : e.sent ≡ f ∷ rest
+  pub body_is : f.body ≡ Bytes n
+
+-- bytes are to be sent: a piece went, or the peer told the place from which on they are wanted
+abbrev pub SendsMore : Work → Entry → ℕ → ℕ → ℕ → ℕ → Type 0
+SendsMore w e peer start at left = ((from : ℕ) × (before : ℕ) × (n : ℕ) × (w.phase ≡ PutsBytes peer start from before) × (at ≡ from + n) × (left ≡ before - n) × SendsFirst e n)
+    ⊎ (SaysFirst e (Data left) × (Jobs.taken_message e.taken ≡ Some (PutFrom at)))
+
 -- why the job stands there
 abbrev pub Reason : Rows → ℕ → Work → Entry → EntryKind → Phase → Type 0
 Reason rows r w e kind Denied = (w.phase ≡ Orders) × HearsOnly e Failure
@@ -106,6 +117,7 @@ Reason rows r w e kind (Ends outcome) = OutcomeReason rows r w e kind outcome
 Reason rows r w e kind Next = NextReason w kind
 Reason rows r w e kind AsksTime = SaysFirst e GetTimestamp
 Reason rows r w e kind Orders = (deadline : Option ℕ) × (key : List ℕ) × SaysFirst e (order_of deadline key)
+Reason rows r w e kind (PutsBytes peer start at left) = SendsMore w e peer start at left
 Reason rows r w e kind phase = Unit {0}
 
 -- it stays, or it comes to another phase for that reason
@@ -135,44 +147,44 @@ module _ (rows : Rows) (r : ℕ) (e : Entry) (kind : EntryKind) where
   gets_more_stood : (w : Work) (peer start size left : ℕ) → Stood w (to_phase w (Jobs.gets_more peer start size left))
   gets_more_stood w peer start size left = if_found (λ p. Stood w (to_phase w p)) (left == 0) (GetsWord peer start size) (GetsBytes peer start size left) (λ h. inr tt) (λ h. inr tt)
 
-  puts_more_stood : (w : Work) (peer start at left : ℕ) → Stood w (to_phase w (Jobs.puts_more peer start at left))
-  puts_more_stood w peer start at left = if_found (λ p. Stood w (to_phase w p)) (left == 0) (PutsWord peer start) (PutsBytes peer start at left) (λ h. inr tt) (λ h. inr tt)
+  puts_more_stood : (w : Work) (peer start at left : ℕ) → SendsMore w e peer start at left → Stood w (to_phase w (Jobs.puts_more peer start at left))
+  puts_more_stood w peer start at left more = if_found (λ p. Stood w (to_phase w p)) (left == 0) (PutsWord peer start) (PutsBytes peer start at left) (λ h. inr tt) (λ h. inr more)
 
-  put_from_stood : (w : Work) (peer n : ℕ) (taken : Option Message) → Stood w (to_phase w (Jobs.put_from peer n taken))
-  put_from_stood w peer n (Some (PutFrom start)) = puts_more_stood w peer start start n
-  put_from_stood w peer n taken = inr tt
+  put_from_stood : (w : Work) (peer n : ℕ) (taken : Option Message) → Jobs.taken_message e.taken ≡ taken → SaysFirst e (Data n) → Stood w (to_phase w (Jobs.put_from peer n taken))
+  put_from_stood w peer n (Some (PutFrom start)) is h = puts_more_stood w peer start start n (inr (h, is))
+  put_from_stood w peer n taken is h = inr tt
 
   answer_stood : (w : Work) (phase : Phase) → w.phase ≡ phase → Stood w (to_phase w (Jobs.puts_answer phase))
   answer_stood w (PutsWord peer start) is = inr tt
   answer_stood w phase is = inl (sym is)
 
-  says_stood : (w : Work) (time peer : ℕ) (taken : Option Message) (m : Message) → SaysFirst e m → Stood w (says w time peer taken m)
-  says_stood w time peer taken (Version n) h = inr tt
-  says_stood w time peer taken (Get n file key) h = inr tt
-  says_stood w time peer taken (Put file key) h = inr tt
-  says_stood w time peer taken (Data n) h = put_from_stood w peer n taken
-  says_stood w time peer taken Valid h = answer_stood w w.phase refl
-  says_stood w time peer taken (LockContent key) h = inr tt
-  says_stood w time peer taken (CheckPresent key) h = inr tt
-  says_stood w time peer taken GetTimestamp h = inr h
-  says_stood w time peer taken (Remove key) h = inr (None, key, h)
-  says_stood w time peer taken (RemoveBefore n key) h = inr (Some n, key, h)
-  says_stood w time peer taken Failure h = word_stood w taken w.phase refl
-  says_stood w time peer taken m h = inl refl
+  says_stood : (w : Work) (time peer : ℕ) (taken : Option Message) (m : Message) → Jobs.taken_message e.taken ≡ taken → SaysFirst e m → Stood w (says w time peer taken m)
+  says_stood w time peer taken (Version n) is h = inr tt
+  says_stood w time peer taken (Get n file key) is h = inr tt
+  says_stood w time peer taken (Put file key) is h = inr tt
+  says_stood w time peer taken (Data n) is h = put_from_stood w peer n taken is h
+  says_stood w time peer taken Valid is h = answer_stood w w.phase refl
+  says_stood w time peer taken (LockContent key) is h = inr tt
+  says_stood w time peer taken (CheckPresent key) is h = inr tt
+  says_stood w time peer taken GetTimestamp is h = inr h
+  says_stood w time peer taken (Remove key) is h = inr (None, key, h)
+  says_stood w time peer taken (RemoveBefore n key) is h = inr (Some n, key, h)
+  says_stood w time peer taken Failure is h = word_stood w taken w.phase refl
+  says_stood w time peer taken m is h = inl refl
 
-  some_stood : (w : Work) (time peer : ℕ) (taken m : Option Message) → ((x : Message) → m ≡ Some x → SaysFirst e x) → Stood w (says_some w time peer taken m)
-  some_stood w time peer taken None h = inl refl
-  some_stood w time peer taken (Some m) h = says_stood w time peer taken m (h m refl)
+  some_stood : (w : Work) (time peer : ℕ) (taken m : Option Message) → Jobs.taken_message e.taken ≡ taken → ((x : Message) → m ≡ Some x → SaysFirst e x) → Stood w (says_some w time peer taken m)
+  some_stood w time peer taken None is h = inl refl
+  some_stood w time peer taken (Some m) is h = says_stood w time peer taken m is (h m refl)
 
-  bytes_stood : (w : Work) (n : ℕ) (phase : Phase) → w.phase ≡ phase → Stood w (to_phase w (Jobs.puts_bytes n phase))
-  bytes_stood w n (PutsBytes peer start at left) is = puts_more_stood w peer start (at + n) (left - n)
-  bytes_stood w n phase is = inl (sym is)
+  bytes_stood : (w : Work) (n : ℕ) (phase : Phase) → w.phase ≡ phase → SendsFirst e n → Stood w (to_phase w (Jobs.puts_bytes n phase))
+  bytes_stood w n (PutsBytes peer start at left) is first = puts_more_stood w peer start (at + n) (left - n) (inl (at, left, n, is, refl, refl, first))
+  bytes_stood w n phase is first = inl (sym is)
 
-  sends_stood : (w : Work) (time peer : ℕ) (taken : Option Message) (f : FrameView) (rest : List FrameView) → e.sent ≡ f ∷ rest → (body : FrameText) → f.body ≡ body → Stood w (sends w time peer taken body)
-  sends_stood w time peer taken f rest sent Opening is = inr tt
-  sends_stood w time peer taken f rest sent Closing is = inl refl
-  sends_stood w time peer taken f rest sent (Bytes n) is = bytes_stood w n w.phase refl
-  sends_stood w time peer taken f rest sent (Line text) is = some_stood w time peer taken (message_of text) (λ x h. record { f = f; rest = rest; sent_is = sent; told = ap line_in is ∙ h })
+  sends_stood : (w : Work) (time peer : ℕ) (taken : Option Message) → Jobs.taken_message e.taken ≡ taken → (f : FrameView) (rest : List FrameView) → e.sent ≡ f ∷ rest → (body : FrameText) → f.body ≡ body → Stood w (sends w time peer taken body)
+  sends_stood w time peer taken same f rest sent Opening is = inr tt
+  sends_stood w time peer taken same f rest sent Closing is = inl refl
+  sends_stood w time peer taken same f rest sent (Bytes n) is = bytes_stood w n w.phase refl (record { f = f; rest = rest; sent_is = sent; body_is = is })
+  sends_stood w time peer taken same f rest sent (Line text) is = some_stood w time peer taken (message_of text) same (λ x h. record { f = f; rest = rest; sent_is = sent; told = ap line_in is ∙ h })
 
   listens_stood : IsTalking kind → (w : Work) (phase : Phase) (m : Message) → w.phase ≡ phase → HearsOnly e m → Stood w (listens w phase m)
   listens_stood k w (AsksLock peer since) Success is h = inr (inr (inl (λ fits. subst (Fits Puts) is fits)))
@@ -213,7 +225,7 @@ module _ (rows : Rows) (r : ℕ) (e : Entry) (kind : EntryKind) where
   quiet_stood k w phase is takes sends = inl refl
 
   talks_stood : IsTalking kind → (w : Work) (fs : List FrameView) → e.sent ≡ fs → Stood w (talks rows r w e fs)
-  talks_stood k w (f ∷ fs) sends = sends_stood w e.time f.peer (Jobs.taken_message e.taken) f fs sends f.body refl
+  talks_stood k w (f ∷ fs) sends = sends_stood w e.time f.peer (Jobs.taken_message e.taken) refl f fs sends f.body refl
   talks_stood k w [] sends = heard e.taken refl
     where
       heard : (o : Option FrameView) → e.taken ≡ o → Stood w (hears_frame rows r w o)
@@ -315,6 +327,8 @@ module _ (rows : Rows) (r : ℕ) (e : Entry) (kind : EntryKind) (w y : Work) (li
   reason_like Next (inr (inl x)) = inr (inl (λ f. x (subst (Fits Puts) (sym like.phase_is) f)))
   reason_like Next (inr (inr (inl x))) = inr (inr (inl (sym like.phase_is ∙ x)))
   reason_like Next (inr (inr (inr x))) = inr (inr (inr x))
+  reason_like (PutsBytes peer start at left) (inl x) = inl (x.0, x.1, x.2, sym like.phase_is ∙ x.3, x.4, x.5, x.6)
+  reason_like (PutsBytes peer start at left) (inr x) = inr x
   reason_like AsksTime x = x
   reason_like Orders x = x
   reason_like phase x = tt

@@ -17,7 +17,7 @@ use Rattle.run_data.specs.declared.job.TransferRefusal.TheVariants as failures
 use Rattle.run_data.specs.declared.job.DropRefusal.TheVariants as refusals
 use Rattle.node_model.specs.Rows.{is_lost_ordered}
 use Rattle.p2p_wire.specs.declared.message.Message.{Message}
-use Rattle.p2p_wire.specs.declared.message.Message.TheVariants.{Error, Get, GetTimestamp, RemoveBefore, Timestamp, Version}
+use Rattle.p2p_wire.specs.declared.message.Message.TheVariants.{Error, Get, GetTimestamp, Remove, RemoveBefore, Timestamp, Version}
 use Rattle.p2p_wire.specs.Messages.{message_of}
 use Rattle.node_model.specs.Sessions.{line_in}
 use Rattle.node_model.specs.Jobs.{AsksTime, Drops, Gets, Greets, Next, Part, Phase, Puts, PutsOffer, job_end, partner, side_of}

@@ -23,7 +23,7 @@ use Rattle.node_model.specs.Jobs.{Greets, Opens, Part, Phase, Work, claims, clos
 use Rattle.node_model.specs.Look.{Made, waiting}
 use Rattle.node_model.specs.JobStep.{Turn, end_with, me, says_to, talk}
 use Rattle.node_model.specs.Found.{JobKind}
-use Rattle.node_model.specs.Turns.{awaits, by_partner, goes_on, has_room, is_awaiting, takes, takes_frame, with_partner}
+use Rattle.node_model.specs.Turns.{awaits, by_partner, goes_on, has_room, is_awaiting, takes, takes_frame, with_partner, takes_text}
 use Rattle.race_core.proofs.Plain.{and_true}
 use Rattle.race_core.proofs.Cases.{find_was}
 use Rattle.race_core.proofs.JobFacts.{frame_found}
@@ -35,6 +35,7 @@ use Rattle.race_core.proofs.ClientTurns.{made_entry, moved, rows_of, talker, tal
 use Rattle.race_core.proofs.Dialogue
 use Rattle.race_core.proofs.Dialogue.{Suits, is_greeted, kept, stands_at}
 use Rattle.race_core.proofs.DialogueTurns.{stands_on}
+use Rattle.drop_proof.specs.declared.rule.Side.TheVariants.{Remote}
 
 -- ---- as it is greeted
 
@@ -78,7 +79,7 @@ module _ (t : Turn) (m : Made) (p n : ℕ) (f : FrameView) (at : t.w.phase ≡ G
   faulted call live greeted = absurd (dead t.w.part (side_of t.w) t.w.phase at live)
     where
       dead : (part : Part) (side : _) (phase : Phase) → phase ≡ Greets p → IsLive (fault_phase (me t) t.w part side phase).phase → ⊥
-      dead Jobs.Drops Rattle.drop_proof.specs.declared.rule.Side.TheVariants.Remote Jobs.Fresh is live = cc
+      dead Jobs.Drops Remote Jobs.Fresh is live = cc
       dead part side phase is live = live
 
   -- **the version that it has then is the one that it took**
@@ -137,7 +138,7 @@ module _ (t : Turn) (m : Made) (p : ℕ) (at : t.w.phase ≡ Opens p) (reads : m
   asks_version : m ≡ said
   asks_version = x.made_is ∙ go x.f.body refl (subst (λ (q : Phase). Suits q x.f.body) at suits)
     where
-      line : (o : Option Message) → Dialogue.SuitsLine (Opens p) o → Rattle.node_model.specs.Turns.takes_text t x.f p o ≡ said
+      line : (o : Option Message) → Dialogue.SuitsLine (Opens p) o → takes_text t x.f p o ≡ said
       line (Some (AuthSuccess id)) h = ap (λ (q : Phase). takes t x.f p q (AuthSuccess id)) at
       line (Some k) h = absurd h
       line None h = absurd h

@@ -142,7 +142,7 @@ pub record SentClose (a : EndName) (e : Entry) : Type 0 where
   pub of_end : sends_at a g ≡ true
   pub body_is : g.body ≡ Closing
 
-shut_by : (a : EndName) (c : End) (e : Entry) → c.opened ≡ true → (end_after a c e).opened ≡ false → TookClose a e ⊎ SentClose a e
+pub shut_by : (a : EndName) (c : End) (e : Entry) → c.opened ≡ true → (end_after a c e).opened ≡ false → TookClose a e ⊎ SentClose a e
 shut_by a c e o shut = by_taken e.taken refl
   where
     sent : (k : Option FrameView) → taken_at a e.taken ≡ k → (end_took c k).opened ≡ true → TookClose a e ⊎ SentClose a e
@@ -164,7 +164,7 @@ shut_by a c e o shut = by_taken e.taken refl
             by_open false is = inl (record { f = f; took = took; of_end = of_end; body_is = took_shut c f o is })
 
 -- a frame of a client's end
-client_taken : (peer slot : ℕ) (f : FrameView) → takes_at (client_end peer slot) f ≡ true → (f.peer ≡ peer) × (f.slot ≡ slot) × (f.up ≡ false)
+pub client_taken : (peer slot : ℕ) (f : FrameView) → takes_at (client_end peer slot) f ≡ true → (f.peer ≡ peer) × (f.slot ≡ slot) × (f.up ≡ false)
 client_taken peer slot f e =
     let two = and_true ((f.peer == peer) && (f.slot == slot)) (same_bool true (if f.up then false else true)) e in
     let one = and_true (f.peer == peer) (f.slot == slot) two.0 in
@@ -174,7 +174,7 @@ client_taken peer slot f e =
     down true h = absurd (cc)
     down false h = refl
 
-client_sent : (peer slot : ℕ) (g : FrameView) → sends_at (client_end peer slot) g ≡ true → (g.peer ≡ peer) × (g.slot ≡ slot) × (g.up ≡ true)
+pub client_sent : (peer slot : ℕ) (g : FrameView) → sends_at (client_end peer slot) g ≡ true → (g.peer ≡ peer) × (g.slot ≡ slot) × (g.up ≡ true)
 client_sent peer slot g e =
     let two = and_true ((g.peer == peer) && (g.slot == slot)) (same_bool g.up true) e in
     let one = and_true (g.peer == peer) (g.slot == slot) two.0 in
@@ -200,7 +200,7 @@ shut_told past e r j peer slot c its other o shut = told_now past e r j peer (sh
 
 -- ---- an entry that is no step of the job
 
-runs_in : (past : List Entry) (r : ℕ) (w : Work) → Member w (works past r) → in_slot (jobs past r) w.number w.slot ≡ true
+pub runs_in : (past : List Entry) (r : ℕ) (w : Work) → Member w (works past r) → in_slot (jobs past r) w.number w.slot ≡ true
 runs_in past r w m = subst (λ js. in_slot js w.number w.slot ≡ true) (jobs_are past r) (go (works past r) m)
   where
     go : (ws : List Work) → Member w ws → in_slot (map running ws) w.number w.slot ≡ true

@@ -170,6 +170,11 @@ pub mod Caused
 pub mod Queues
 pub mod Epochs
 pub mod ConversationServer
+pub mod ConversationClient
+pub mod Conversations
+pub mod ShutTold
+pub mod PutsSizes
+pub mod RunCauses
 pub mod MergedLists
 pub mod MergedOrder
 pub mod MergedRuns

@@ -18,6 +18,7 @@ use Rattle.node_model.specs.Jobs.{AsksLock, AsksLook, Drops, Gets, Heard, Part, 
 use Rattle.run_model.specs.States.{rows_at, works}
 use Rattle.node_model.specs.JobStep.{is_held}
 use Rattle.run_model.specs.Run.{OwnRun}
+use Rattle.node_model.specs.Found.{JobKind}
 use Rattle.race_core.proofs.JobSteps.{Origin, Steps, invariant, turn_at}
 use Rattle.race_core.proofs.JobKept.{kind_kept}
 use Rattle.race_core.proofs.TalkFacts.{Fits}
@@ -91,7 +92,7 @@ module _ (s : SetUp) (past : List Entry) (e : Entry) (x : Work) (b : Steps s pas
     where
       shared : (hold end : ℕ) (owner : _) (key : List ℕ) → e.kind ≡ Share hold end owner key → SameList v x ⊎ Longer s.number v x
       shared hold end owner key is =
-          let k = subst (Rattle.node_model.specs.Found.JobKind (turn_at s past e b.by) b.by.made) is (step_kind s past e x b) in
+          let k = subst (JobKind (turn_at s past e b.by) b.by.made) is (step_kind s past e x b) in
           let same : x ≡ Jobs.hears v s.number (Jobs.Held e.time) = b.work_is ∙ ap (λ (q : EntryKind). work_kind (rows_at past s.number) s.number v e q) is in
           inr (record { part_is = k.part_is; whom = s.number; told = Jobs.Held e.time; list = ap (λ (y : Work). y.heard) same; from = inl refl; lock = λ h. inl refl })
 

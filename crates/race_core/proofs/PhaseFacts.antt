@@ -83,7 +83,7 @@ only_offer Gets peer f = absurd f
 only_offer Puts peer f = refl
 only_offer Drops peer f = absurd f
 
-only_puts : (part : Part) (peer start at left : ℕ) → Fits part (PutsBytes peer start at left) → part ≡ Puts
+pub only_puts : (part : Part) (peer start at left : ℕ) → Fits part (PutsBytes peer start at left) → part ≡ Puts
 only_puts Gets peer start at left f = absurd f
 only_puts Puts peer start at left f = refl
 only_puts Drops peer start at left f = absurd f

@@ -10,7 +10,7 @@ use Rattle.run_model.specs.Past.{is_of}
 use Rattle.run_model.specs.Frames.{Flying, MayTake, Way, flying, is_on, on_way, sender_of, sent, taken, taker_of, takes}
 use Rattle.node_model.specs.Ends.{same_bool, EndName, sent_at, taken_at, takes_at}
 use Rattle.race_core.proofs.DialogueTurns.{bodies}
-use Rattle.race_core.proofs.WayCounts.{in_sender-is, in_taker-is, on_out, out_sender-is, way_in, way_out}
+use Rattle.race_core.proofs.WayCounts.{in_sender-is, in_taker-is, on_out, out_sender-is, way_in, way_out, out_taker-is}
 use Rattle.race_core.proofs.Flights.{some_inj}
 
 abbrev pub flying_bodies : List Flying → List FrameText
@@ -128,7 +128,7 @@ filter_none n (f ∷ fs) all = rw all.0 (filter_none n fs all.1)
 
 module _ (r : ℕ) (a : EndName) (n : ℕ) (past : List Entry) (e : Entry) (own : is_of r e ≡ true) (other : is_of a.peer e ≡ false) where
   out_still : (is_of (taker_of (way_out r a n)) e && takes (way_out r a n) e.taken) ≡ false
-  out_still = ap (λ k. is_of k e && takes (way_out r a n) e.taken) (Rattle.race_core.proofs.WayCounts.out_taker-is r a n) ∙ ap (λ b. b && takes (way_out r a n) e.taken) other
+  out_still = ap (λ k. is_of k e && takes (way_out r a n) e.taken) (out_taker-is r a n) ∙ ap (λ b. b && takes (way_out r a n) e.taken) other
 
   out_own : is_of (sender_of (way_out r a n)) e ≡ true
   out_own = ap (λ k. is_of k e) (out_sender-is r a n) ∙ own

@@ -28,7 +28,13 @@ pub fn runs_are_safe()
     ensures { (run : Run) → IsRun run → IsSafe run }
 {}
 
-/// Each lawful run is safe, whichever way its repositories talk (git-annex-mincopies).
+/// Each drop and each transfer of a run that was refused has its cause there: by its row, by a candidate or a source, by
+/// its target or its store, or by a connection that was closed (own).
+pub fn refusals_have_causes()
+    ensures { (run : Run) → IsRun run → HasCauses run }
+{}
+
+/// Each lawful run is safe (git-annex-mincopies).
 pub fn lawful_runs_are_safe()
     ensures { (run : Run) → IsLawful run → IsSafe run }
 {}

@@ -25,7 +25,8 @@ pub use evidence::{
 pub use growth::{histories_of_nodes_are_runs, merged_histories_are_runs, runs_grow};
 pub use laws::{
     drops_leave_their_evidence, drops_read_their_need, ignored_never_count, kept_lines_read_as_all,
-    lawful_runs_are_safe, never_fewer_than_mincopies, runs_are_lawful, runs_are_safe,
+    lawful_runs_are_safe, never_fewer_than_mincopies, refusals_have_causes, runs_are_lawful,
+    runs_are_safe,
 };
 pub use run_data;
 pub use steps::{carried_states_agree, steps_find_their_cause};

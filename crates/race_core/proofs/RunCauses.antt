@@ -1,0 +1,149 @@
+-- **Each refused job of a run has its cause in it**: no premise is left.
+use Rattle.std.proofs.Common.{◌≡◌, ℕ, ◌+◌, ◌<◌, ◌≤◌, Bool, true, false, List, [], ◌∷◌, Option, Some, None, ◌⊎◌, inl, inr, refl, sym, ap, ◌∙◌, subst, arith}
+use Rattle.std.specs.Prelude.{if◌then◌else◌, ◌==◌, nat_le}
+use Rattle.std.specs.List.{list_any}
+use Rattle.std.proofs.lemmas.Bool.{true≢false}
+use Rattle.std.proofs.lemmas.Bool.Decides.{nat_tests}
+use Rattle.annex_base.specs.Lists.{Each, Member}
+use Rattle.run_data.specs.declared.entry.Entry.{Entry}
+use Rattle.run_data.specs.declared.entry.EntryKind.{EntryKind}
+use Rattle.run_data.specs.declared.entry.EntryKind.TheVariants.{Gain, Gone}
+use Rattle.run_data.specs.declared.entry.FrameView.{FrameView}
+use Rattle.run_data.specs.declared.run.Run.{Run}
+use Rattle.run_data.specs.Repos.{IsSetUp}
+use Rattle.run_model.specs.Past.{is_of}
+use Rattle.run_model.specs.Said.{is_close, message_in}
+use Rattle.run_model.specs.Drops.{shuts}
+use Rattle.run_model.specs.Causes.{ClosedWith, FellShort, HasCauses, IsBelow, size_after, size_of}
+use Rattle.run_model.specs.Frames.{is_job}
+use Rattle.p2p_wire.specs.declared.message.Message.TheVariants.{PutFrom}
+use Rattle.node_model.specs.SetUp.{SetUp}
+use Rattle.run_model.specs.States.{end_at, content, rows_at}
+use Rattle.node_model.specs.Rows.{content_after}
+use Rattle.node_model.specs.Sessions.{is_closing, reaches, line_in}
+use Rattle.node_model.specs.Jobs.{Puts, PutsBytes, Work, job_end, running}
+use Rattle.run_model.specs.Run.{IsRun, RunPast, RunStep, set_up}
+use Rattle.race_core.proofs.Plain.{any_of, each_member, eqb_refl}
+use Rattle.race_core.proofs.SaidDown.{said_closing, said_is}
+use Rattle.race_core.proofs.JobSteps.{Steps, stepped_runs, turn_at}
+use Rattle.race_core.proofs.NotDropping.{moved_on}
+use Rattle.race_core.proofs.EndReasons.{ShutOn}
+use Rattle.race_core.proofs.Refusals.{stepped_own}
+use Rattle.race_core.proofs.ClosedCauses.{ShutTold, ShutsTold, closed_grows}
+use Rattle.race_core.proofs.DialogueTurns.{ClosesFor, FallsShort}
+use Rattle.race_core.proofs.HeardCauses.{SentClose, client_sent, shut_by}
+use Rattle.race_core.proofs.ConversationClient
+use Rattle.race_core.proofs.Conversations.{conversing}
+use Rattle.race_core.proofs.ShutTold.{closed_told, took_closes}
+use Rattle.race_core.proofs.PutsSizes.{sized}
+use Rattle.race_core.proofs.Caused.{run_causes}
+
+-- ---- sizes
+
+size_step : (key : List ℕ) (was : Option ℕ) (kind : EntryKind) → size_after key was kind ≡ content_after key was kind
+size_step key was (Gain source size k) = refl
+size_step key was (Gone source k) = refl
+size_step key was kind = refl
+
+same_size : (past : List Entry) (r : ℕ) (key : List ℕ) → size_of past r key ≡ content past r key
+same_size [] r key = refl
+same_size (e ∷ past) r key = go (same_size past r key) (is_of r e)
+  where
+    go : size_of past r key ≡ content past r key → (b : Bool) → (if b then size_after key (size_of past r key) e.kind else size_of past r key) ≡ (if b then content_after key (content past r key) e.kind else content past r key)
+    go same true = ap (λ o. size_after key o e.kind) same ∙ size_step key (content past r key) e.kind
+    go same false = same
+
+below : (o : Option ℕ) (place bound : ℕ) → reaches o place ≡ false → place ≤ bound → IsBelow o bound
+below None place bound gone low = tt
+below (Some size) place bound gone low = less size place bound gone low
+  where
+    less : (size place bound : ℕ) → nat_le place size ≡ false → place ≤ bound → size < bound
+    less size place bound gone low = grind (arith, nat_tests)
+
+-- ---- a step that finds its connection closed
+
+module _ (run : Run) (repos : Each IsSetUp run.repos) (past : List Entry) (e : Entry) (h : RunPast (set_up run) past) (step : RunStep (set_up run) past e) (r : ℕ) where
+  abbrev s : SetUp
+  s = set_up run r
+
+  module _ (w : Work) (b : Steps s past e w) where
+    own : is_of r e ≡ true
+    own = subst (λ (y : Entry). is_of r y ≡ true) (sym b.by.is) (eqb_refl r)
+
+    abbrev v : Work
+    v = b.by.w
+
+    closing : ClosesFor (turn_at s past e b.by) b.by.made
+    closing = (ConversationClient.keeps run repos past e h step r own (conversing run repos past h r) b.by (moved_on s past e w b)).1
+
+    fell : (p : ℕ) → SentClose (job_end v p) e → FallsShort (turn_at s past e b.by) b.by.made → FellShort (e ∷ past) r v.number p v.what.key
+    fell p t short = go short.why
+      where
+        at : (t.g.peer ≡ p) × (t.g.slot ≡ v.slot) × (t.g.up ≡ true)
+        at = client_sent p v.slot t.g t.of_end
+
+        is_shut : is_close (message_in t.g.body) ≡ true
+        is_shut = ap (λ c. is_close (message_in c)) t.body_is ∙ ap is_close said_closing
+
+        closes : list_any (shuts p) e.sent ≡ true
+        closes = any_of (shuts p) e.sent t.g t.sent (let q : (t.g.peer == p) ≡ true = ap (λ n. n == p) at.0 ∙ eqb_refl p in rw (q, at.2, is_shut) refl)
+
+        mine : is_job r v.number e ≡ true
+        mine = stepped_own s past e b.by own
+
+        low : (place at left n : ℕ) → place ≡ at + n → nat_le n left ≡ true → place ≤ at + left
+        low place at left n is l = grind (arith, nat_tests)
+
+        go : ((f : FrameView) × (b.by.made.taken ≡ Some f) × (line_in f.body ≡ Some (PutFrom short.place)))
+            ⊎ ((peer : ℕ) × (start : ℕ) × (at : ℕ) × (left : ℕ) × (n : ℕ) × (b.by.w.phase ≡ PutsBytes peer start at left) × (nat_le n left ≡ true) × (b.by.made.taken ≡ None) × (short.place ≡ at + n))
+            → FellShort (e ∷ past) r b.by.w.number p b.by.w.what.key
+        go (inl x) = record {
+          entry = e;
+          before = past;
+          occurs = inl (refl, refl);
+          own = mine;
+          closes = closes;
+          place = short.place;
+          short = subst (λ o. IsBelow o short.place) (sym (same_size past r b.by.w.what.key)) (below (content past r b.by.w.what.key) short.place short.place short.short (omega arith));
+          why' = inl (x.0, ap (λ (y : Entry). y.taken) b.by.is ∙ x.1, said_is x.0.body (PutFrom short.place) x.2);
+        }
+        go (inr x) =
+            let old = sized run repos past h r b.by.w (stepped_runs s past e b.by) x.0 x.1 x.2 x.3 x.5 in
+            record {
+              entry = e;
+              before = past;
+              occurs = inl (refl, refl);
+              own = mine;
+              closes = closes;
+              place = x.2 + x.3;
+              short = subst (λ o. IsBelow o (x.2 + x.3)) (sym (same_size past r b.by.w.what.key)) (below (content past r b.by.w.what.key) short.place (x.2 + x.3) short.short (low short.place x.2 x.3 x.4 x.8 x.6));
+              why' = inr (old.entry, old.before, old.occurs, old.own, same_size old.before r b.by.w.what.key ∙ old.size_is);
+            }
+
+    told : (z : ShutOn (rows_at past r) v e) → ClosedWith (e ∷ past) r v.number z.peer ⊎ ((v.part ≡ Puts) × FellShort (e ∷ past) r v.number z.peer v.what.key)
+    told z = go (end_at past r (job_end v z.peer)).opened refl
+      where
+        sent : SentClose (job_end v z.peer) e → ClosesFor (turn_at s past e b.by) b.by.made → ClosedWith (e ∷ past) r v.number z.peer ⊎ ((v.part ≡ Puts) × FellShort (e ∷ past) r v.number z.peer v.what.key)
+        sent t (inl all) =
+            let none = each_member (λ g. is_closing g.body ≡ false) b.by.made.sent t.g all (subst (Member t.g) (ap (λ (y : Entry). y.sent) b.by.is) t.sent) in
+            absurd (true≢false (sym (ap is_closing t.body_is) ∙ none))
+        sent t (inr short) = inr (short.puts, fell z.peer t short)
+
+        go : (c : Bool) → (end_at past r (job_end v z.peer)).opened ≡ c → ClosedWith (e ∷ past) r v.number z.peer ⊎ ((v.part ≡ Puts) × FellShort (e ∷ past) r v.number z.peer v.what.key)
+        go false o = inl (closed_grows r e past (running v) z.peer (closed_told run repos past h r v (stepped_runs s past e b.by) z.peer z.on o))
+        go true o = elim (shut_by (job_end v z.peer) (end_at past r (job_end v z.peer)) e o z.closed) [
+          | inl t ↦ inl (took_closes past e r v.number z.peer v.slot (stepped_own s past e b.by own) t)
+          | inr t ↦ sent t closing
+        ]
+
+  pub shut_told : ShutTold (set_up run r) past e
+  shut_told w b z = told w b z
+
+module _ (run : Run) (repos : Each IsSetUp run.repos) where
+  pub shuts_told : (past : List Entry) → RunPast (set_up run) past → (r : ℕ) → ShutsTold (set_up run r) past
+  shuts_told [] h r = tt
+  shuts_told (e ∷ past) h r = (shut_told run repos past e h.1 h.0 r, shuts_told past h.1 r)
+
+-- **each refused job of a run has its cause**
+pub refusals_caused : (run : Run) → IsRun run → HasCauses run
+refusals_caused run h = run_causes run h (λ r past k. record { shut' = shuts_told run h.repos past k r })

@@ -1,0 +1,5 @@
+use Rattle.race_core.proofs.RunCauses.{refusals_caused}
+use Rattle.race_core.proofs.laws.refusals_have_causes.Goals as goal
+
+pub returns : goal.returns
+returns c = refusals_caused
