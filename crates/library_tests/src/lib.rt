@@ -12,13 +12,9 @@ mod drop_proof_tests;
 #[cfg(test)]
 mod hash_dirs_tests;
 #[cfg(test)]
-mod union_merge_tests;
-#[cfg(test)]
 mod log_lines_tests;
 #[cfg(test)]
 mod log_readings_tests;
-#[cfg(test)]
-mod trust_groups_tests;
 #[cfg(test)]
 mod report_text_tests;
 #[cfg(test)]
@@ -29,3 +25,7 @@ mod script_lang_tests;
 mod thin_laws_tests;
 #[cfg(test)]
 mod thin_model_tests;
+#[cfg(test)]
+mod trust_groups_tests;
+#[cfg(test)]
+mod union_merge_tests;

@@ -5,9 +5,7 @@ use annex_key::Key;
 use log_lines::{LogKind, compact};
 use std::alloc::Global;
 use std::test::Fail;
-use trust_groups::{
-    Levels, Settings, claims_of, groups_of, level_of, mincopies_of, numcopies_of,
-};
+use trust_groups::{Levels, Settings, claims_of, groups_of, level_of, mincopies_of, numcopies_of};
 use union_merge::{Branch, LineSet, is_line};
 
 const REPO: &str = "22222222-2222-4222-8222-222222222222";
