@@ -9,8 +9,8 @@ use Rattle.std.proofs.lemmas.Bool.{eqb-true}
 use Rattle.std.proofs.lemmas.Slice.Eq.{bytes_eq-Decides}
 use Rattle.annex_base.specs.RepoText.{repo_text}
 use Rattle.annex_key.specs.View.{first_fault}
-use Rattle.log_lines.specs.Reading.{repo_of}
-use Rattle.log_lines.proofs.RepoLemmas.{repo_takes}
+use Rattle.annex_base.specs.RepoText.{repo_of}
+use Rattle.annex_base.proofs.RepoLemmas.{repo_takes}
 use Rattle.p2p_wire.specs.declared.message.Message.{Message}
 use Rattle.p2p_wire.specs.declared.message.Message.TheVariants.{AuthSuccess, Version, CheckPresent, LockContent, UnlockContent, Remove, RemoveBefore, GetTimestamp, Timestamp, Get, Put, PutFrom, AlreadyHave, Data, Valid, Invalid, Success, Failure, Error}
 use Rattle.p2p_wire.specs.Messages.{◌⊳◌, alone, is_space, key_in, message_by, message_of, number_in, rest_in, text_in, text_of, then_in, with_file, with_key, with_number, with_one, word_in}

@@ -3,7 +3,7 @@ use Rattle.std.proofs.Common.{◌≡◌, ℕ, Bool, true, false, List, length, O
 use Rattle.std.specs.Prelude.{if◌then◌else◌, nat_le, option_map, bytes_eq, codes}
 use Rattle.std.specs.Fmt.{decimal}
 use Rattle.annex_base.specs.RepoText.{repo_text}
-use Rattle.log_lines.specs.Reading.{repo_of}
+use Rattle.annex_base.specs.RepoText.{repo_of}
 use Rattle.run_data.specs.declared.entry.FrameText.{FrameText}
 use Rattle.run_data.specs.declared.entry.FrameText.TheVariants.{Opening, Closing, Bytes, Line}
 use Rattle.p2p_wire.specs.declared.message.Message.{Message}

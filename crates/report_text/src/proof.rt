@@ -1,3 +1,5 @@
+//! The evidence that an outcome states.
+
 ghost use Rattle.std.specs.Prelude.{◌≡◌, ◌++◌, OnOk};
 ghost use Rattle.report_text.specs.Report.{proof_text};
 
