@@ -41,7 +41,10 @@ fn globs_match_whole_texts(rt: HostRuntime) {
         ("a\\*", "a\\x", true),
     ];
     for (pattern, text, wanted) in rows {
-        assert!(rt; answer(rt.alloc(), pattern, text) == Some(wanted), "{pattern} {text}");
+        assert!(rt;
+            answer(rt.alloc(), pattern, text) == Some(wanted),
+            "{pattern} {text}"
+        );
     }
 }
 
@@ -76,7 +79,10 @@ fn sets_have_ranges_and_contraries(rt: HostRuntime) {
         ("[*?]", "x", false),
     ];
     for (pattern, text, wanted) in rows {
-        assert!(rt; answer(rt.alloc(), pattern, text) == Some(wanted), "{pattern} {text}");
+        assert!(rt;
+            answer(rt.alloc(), pattern, text) == Some(wanted),
+            "{pattern} {text}"
+        );
     }
 }
 
