@@ -1,0 +1,4 @@
+pub mod MatchLemmas
+pub mod ReadingLemmas
+pub mod SetLemmas
+pub mod WalkLemmas

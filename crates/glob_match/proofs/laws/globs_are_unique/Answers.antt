@@ -1,0 +1,5 @@
+use Rattle.glob_match.proofs.ReadingLemmas.{glob_unique}
+use Rattle.glob_match.proofs.laws.globs_are_unique.Goals as goal
+
+pub returns : goal.returns
+returns c = glob_unique

@@ -1,0 +1,14 @@
+//! Laws on globs, which no call depends on.
+ghost use Rattle.std.specs.Prelude.{◌≡◌, ◌↔◌, List, ℕ, IsTrue};
+ghost use Rattle.glob_match.specs.declared.item.Item.{Item};
+ghost use Rattle.glob_match.specs.Glob.{IsGlob, IsMatch, glob_matches};
+
+/// A text spells one list of items at most.
+pub fn globs_are_unique()
+    ensures { (a b : List Item) (text : List ℕ) → IsGlob a text → IsGlob b text → a ≡ b }
+{}
+
+/// The test of a match says whether there is a cut.
+pub fn tests_are_matches()
+    ensures { (items : List Item) (text : List ℕ) → IsTrue (glob_matches items text) ↔ IsMatch items text }
+{}
