@@ -16,7 +16,7 @@ use Rattle.script_lang.specs.declared.command.Command.TheVariants as commands
 use Rattle.script_lang.specs.Lines.{Declared, declared, declared_by, MayStand}
 use Rattle.script_lang.specs.Script.{AllStand, IsProgram, IsScript, is_closed}
 use Rattle.thin_driver.specs.Driver.{run_of, view_of}
-use Rattle.annex_base.proofs.Lists.{Each-reverse}
+use Rattle.thin_driver.proofs.ThinLists.{Each-reverse}
 use Rattle.thin_driver.proofs.ThinPrograms.{declared-append, thin_script}
 use Rattle.report_text.specs.Walk.{IsLogged, ShowsKnown}
 use Rattle.annex_cli.specs.Whole.{script_limit}

@@ -1,5 +1,3 @@
-//! The words that the program is called with.
-
 ghost use Rattle.std.specs.Prelude.{◌↔◌, IsTrue, map};
 ghost use Rattle.std.specs.String.{string_bytes};
 ghost use Rattle.annex_cli.specs.Top.{IsRun};

@@ -1,5 +1,3 @@
-//! A job as the script has it.
-
 ghost use Rattle.std.specs.Prelude.{◌≡◌, ◌++◌, ◌∷◌, OnOk, option_copied};
 ghost use Rattle.report_text.specs.Report.{kind_text, way_text, peer_text, key_text, quoted, job_text, begun_text};
 

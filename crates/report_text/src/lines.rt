@@ -1,5 +1,3 @@
-//! The lines of the report that entries stand for.
-
 ghost use Rattle.std.specs.Prelude.{◌≡◌, ◌++◌, OnOk, IsNone, IfSome, Option, Some, reverse, option_copied};
 ghost use Rattle.run_data.specs.declared.job.Job.{Job};
 ghost use Rattle.thin_model.specs.Past.{begun_job};

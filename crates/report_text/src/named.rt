@@ -1,5 +1,3 @@
-//! Repositories by name, and identifiers that have none.
-
 ghost use Rattle.std.specs.Prelude.{◌≡◌, ◌++◌, ◌∷◌, IfOk, OnOk, bytes_eq, filter, map, not};
 ghost use Rattle.std.specs.List.{flat_map, list_any};
 ghost use Rattle.annex_base.specs.RepoText.{repo_text};

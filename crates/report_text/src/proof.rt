@@ -1,5 +1,3 @@
-//! The evidence that an outcome states.
-
 ghost use Rattle.std.specs.Prelude.{◌≡◌, ◌++◌, OnOk};
 ghost use Rattle.report_text.specs.Report.{proof_text};
 

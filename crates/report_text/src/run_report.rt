@@ -1,5 +1,3 @@
-//! The report of a run.
-
 ghost use Rattle.std.specs.Prelude.{◌≡◌, IfOk, length};
 ghost use Rattle.annex_base.specs.Lists.{Each};
 ghost use Rattle.report_text.specs.Report.{report};

@@ -1,5 +1,3 @@
-//! Names, lists of names, and words in quotes.
-
 ghost use Rattle.std.specs.Prelude.{◌≡◌, ◌++◌, ◌∷◌, ◌==◌, OnOk};
 ghost use Rattle.std.specs.List.{flat_map, list_any};
 ghost use Rattle.report_text.specs.Report.{name_of, quoted, joined};

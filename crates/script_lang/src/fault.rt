@@ -1,5 +1,3 @@
-//! The faults of a script, and the limits that it may pass.
-
 ghost use Rattle.std.specs.Prelude.{◌≡◌};
 ghost use Rattle.script_lang.specs.Script.{quantity_name, limit_of};
 

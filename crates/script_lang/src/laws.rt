@@ -1,5 +1,3 @@
-//! The laws. Each is the contract of a function that does nothing.
-
 ghost use Rattle.std.specs.Prelude.{◌≡◌, List, ℕ};
 ghost use Rattle.script_lang.specs.declared.command.Command.{Command};
 ghost use Rattle.script_lang.specs.Script.{IsScript, IsBadLine, IsCrowded, IsLate};

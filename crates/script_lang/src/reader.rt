@@ -1,5 +1,3 @@
-//! Lines, one after the other, to the first that is none.
-
 ghost use Rattle.std.specs.Prelude.{◌≡◌, ◌≤◌, ◌+◌, ◌<◌, ◌^◌, ◌∷◌, ◌++◌, [], ◌&&◌, ◌||◌, not, nat_le, length, map, OnOk, MatchResult, IsTrue, ◌↔◌};
 ghost use Rattle.std.specs.Str.{IsUtf8};
 ghost use Rattle.script_lang.specs.Lines.{declared, declared_by};

@@ -1,5 +1,3 @@
-//! Scripts: text that is read as commands.
-
 ghost use Rattle.std.specs.Prelude.{◌≡◌, ◌⊎◌, List, ℕ, IfOk, MatchResult, map};
 ghost use Rattle.script_lang.specs.declared.command.Command.{Command};
 ghost use Rattle.script_lang.specs.declared.fault.ScriptFault.TheVariants as faults;

@@ -1,5 +1,3 @@
-//! The words of a line, plain or in quotes.
-
 ghost use Rattle.std.specs.Prelude.{◌≡◌, ◌∷◌, map};
 ghost use Rattle.std.specs.List.{prefix_len};
 ghost use Rattle.std.specs.Option.{option_map};

@@ -1,5 +1,3 @@
-//! The driver: what a run in the making keeps beside its entries.
-
 ghost use Rattle.std.specs.Prelude.{◌≡◌, ◌<◌, ◌^◌, length, []};
 
 use crate::tally::Tally;

@@ -1,5 +1,3 @@
-//! Evidence: whether it suffices, and how an outcome states it.
-
 ghost use Rattle.std.specs.Prelude.{◌≡◌, ◌&&◌, ◌==◌, ◌<◌, ◌^◌, length, filter, IfOk};
 ghost use Rattle.std.specs.List.{range_with_len, list_any};
 ghost use Rattle.drop_proof.specs.declared.rule.Side.TheVariants.{Local};

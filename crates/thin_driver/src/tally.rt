@@ -1,5 +1,3 @@
-//! How many jobs and entries a repository has made.
-
 ghost use Rattle.std.specs.Prelude.{◌≡◌, ◌+◌, IfOk, if◌then◌else◌};
 ghost use Rattle.thin_model.specs.Past.{is_begin};
 

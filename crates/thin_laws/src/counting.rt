@@ -1,5 +1,3 @@
-//! The number of copies at a place of a run.
-
 ghost use Rattle.std.specs.Prelude.{◌≡◌};
 ghost use Rattle.thin_model.specs.Safety.{copies_at};
 

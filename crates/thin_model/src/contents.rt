@@ -1,5 +1,3 @@
-//! Which repositories have which keys, as the entries so far say.
-
 ghost use Rattle.std.specs.Prelude.{◌≡◌, ◌<◌, ◌≤◌, ℕ, List, [], ◌∷◌, false, IfOk, OnOk, OnErr};
 ghost use Rattle.std.specs.BTreeSet.{contains};
 ghost use Rattle.run_data.specs.declared.entry.Entry.{Entry};
