@@ -1,5 +1,5 @@
 -- Why a drop or a transfer was refused: the entries and the values that its outcome rests on stand in the run (own).
-use Rattle.std.specs.Prelude.{◌≡◌, ◌≢◌, ◌⊎◌, ℕ, ◌+◌, ◌<◌, ◌≤◌, Bool, true, false, not, ◌&&◌, if◌then◌else◌, max, List, [], ◌∷◌, filter, fold, length, map, reverse, Option, Some, None, bytes_eq, codes}
+use Rattle.std.specs.Prelude.{◌≡◌, ◌≢◌, ◌⊎◌, ℕ, ◌+◌, ◌<◌, ◌≤◌, Bool, true, false, not, ◌&&◌, if◌then◌else◌, max, List, [], ◌∷◌, filter, fold, length, map, reverse, Option, Some, None, codes}
 use Rattle.std.specs.List.{list_any, range_with_len}
 use Rattle.annex_base.specs.Lists.{Each, Member}
 use Rattle.annex_base.specs.declared.kinds.Call.{Call}
@@ -14,7 +14,7 @@ use Rattle.run_data.specs.declared.run.RepoView.{RepoView}
 use Rattle.run_data.specs.declared.entry.By.TheVariants.{Job as by_job}
 use Rattle.run_data.specs.declared.entry.Entry.{Entry}
 use Rattle.run_data.specs.declared.entry.EntryKind.{EntryKind}
-use Rattle.run_data.specs.declared.entry.EntryKind.TheVariants.{Check, Close, End, Fault, Gain, Gone, Order, Talk}
+use Rattle.run_data.specs.declared.entry.EntryKind.TheVariants.{Check, Close, End, Fault, Order, Talk}
 use Rattle.run_data.specs.declared.entry.FrameView.{FrameView}
 use Rattle.run_data.specs.declared.job.CandidateCause.{CandidateCause}
 use Rattle.run_data.specs.declared.job.Denial.{Denial}
@@ -40,6 +40,7 @@ use Rattle.p2p_wire.specs.Messages.{order_of}
 use Rattle.run_model.specs.Said.{Said, Says, CloseIt, is_request, message_in}
 use Rattle.run_model.specs.Frames.{Flying, Sent, is_job, last_request, said_of, says, sender, taken_if, up_of, way_of}
 use Rattle.run_model.specs.Logs.{before_step, has_stepped, in_drop, need_read}
+use Rattle.run_model.specs.States.{content}
 use Rattle.run_model.specs.Drops.{evidence, asked, in_slot, is_first_step, shuts, standing, why, told_cause}
 use Rattle.node_model.specs.Evidence.{candidates, but, is_locked, proof_of, Fails, Ignored}
 
@@ -311,16 +312,6 @@ pub record WasBusy (past : List Entry) (r j : ℕ) : Type 0 where
   pub file : List ℕ
   pub busy : Answers past r j peer (Says (Put file d.what.key)) (Says (Error (codes "busy")))
 
--- the size of a content, if it is there
-abbrev pub size_after : List ℕ → Option ℕ → EntryKind → Option ℕ
-size_after key was (Gain source size k) = if bytes_eq k key then Some size else was
-size_after key was (Gone source k) = if bytes_eq k key then None else was
-size_after key was _ = was
-
-abbrev pub size_of : List Entry → ℕ → List ℕ → Option ℕ
-size_of [] r key = None
-size_of (e ∷ past) r key = if is_of r e then size_after key (size_of past r key) e.kind else size_of past r key
-
 abbrev pub IsBelow : Option ℕ → ℕ → Type 0
 IsBelow None n = Unit {0}
 IsBelow (Some size) n = size < n
@@ -334,9 +325,9 @@ pub record FellShort (past : List Entry) (r j peer : ℕ) (key : List ℕ) : Typ
   pub own : is_job r j entry ≡ true
   pub closes : list_any (shuts peer) entry.sent ≡ true
   pub place : ℕ
-  pub short : IsBelow (size_of before r key) place
+  pub short : IsBelow (content before r key) place
   pub why' : ((f : FrameView) × (entry.taken ≡ Some f) × (message_in f.body ≡ Says (PutFrom place)))
-      ⊎ ((x : Entry) × (then' : List Entry) × (Occurs before x then') × (is_job r j x ≡ true) × (size_of then' r key ≡ Some place))
+      ⊎ ((x : Entry) × (then' : List Entry) × (Occurs before x then') × (is_job r j x ≡ true) × (content then' r key ≡ Some place))
 
 pub record WasClosed (past : List Entry) (r j : ℕ) : Type 0 where
   pub d : JobOf past r j
