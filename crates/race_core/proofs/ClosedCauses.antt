@@ -38,6 +38,7 @@ use Rattle.race_core.proofs.TalkFacts.{Fits}
 use Rattle.race_core.proofs.WorkFits.{step_runs, works_fit}
 use Rattle.race_core.proofs.ClientCounts.{LastIs}
 use Rattle.race_core.proofs.EndReasons.{Reason, ShutOn, kind_reason}
+use Rattle.race_core.proofs.CopiesInPlace.{copies_in_place}
 use Rattle.race_core.proofs.Carried.{AddsWord, Causes, kind_carries}
 use Rattle.race_core.proofs.Refusals.{answers_grow, answers_now, hears_grows, stepped_own, target_in, target_is, took_peer}
 use Rattle.race_core.proofs.Speaks.{hears}
@@ -80,7 +81,7 @@ module _ (r : ℕ) (e : Entry) (past : List Entry) (j : Running) where
 
 abbrev pub ShutOutcome : ℕ → List Entry → Running → Outcome → Type 0
 ShutOutcome r past j (Refused (refusals.Lost ordered)) = ClosedWith past r j.number (target_in r j)
-ShutOutcome r past j (TransferRefused failures.Closed) = (peer : ℕ) × (ClosedWith past r j.number peer ⊎ FellShort past r j.number peer j.what.key)
+ShutOutcome r past j (TransferRefused failures.Closed) = (peer : ℕ) × (j.what.peer ≡ Some peer) × (ClosedWith past r j.number peer ⊎ FellShort past r j.number peer j.what.key)
 ShutOutcome r past j o = Unit {0}
 
 abbrev pub ShutStands : ℕ → List Entry → Running → Phase → Type 0
@@ -89,16 +90,16 @@ ShutStands r past j phase = Unit {0}
 
 shut_grows : (r : ℕ) (e : Entry) (past : List Entry) (j : Running) (phase : Phase) → ShutStands r past j phase → ShutStands r (e ∷ past) j phase
 shut_grows r e past j (Ends (Refused (refusals.Lost ordered))) x = closed_grows r e past j (target_in r j) x
-shut_grows r e past j (Ends (TransferRefused failures.Closed)) x = (x.0, elim (x.1) [ inl a ↦ inl (closed_grows r e past j x.0 a) | inr a ↦ inr (short_grows r e past j x.0 j.what.key a) ])
+shut_grows r e past j (Ends (TransferRefused failures.Closed)) x = (x.0, x.1, elim (x.2) [ inl a ↦ inl (closed_grows r e past j x.0 a) | inr a ↦ inr (short_grows r e past j x.0 j.what.key a) ])
 shut_grows r e past j phase x = tt
 
-shut_now : (s : SetUp) (p : List Entry) (e : Entry) (x : Work) (b : Steps s p e x) → ShutTold s p e → (phase : Phase) → Reason (rows_at p s.number) s.number b.by.w e e.kind phase → ShutStands s.number (e ∷ p) (running b.by.w) phase
-shut_now s p e x b told (Ends (Refused (refusals.Lost ordered))) z = elim (told x b z.0) [
+shut_now : (s : SetUp) (p : List Entry) (e : Entry) → OwnRun s p → (x : Work) (b : Steps s p e x) → ShutTold s p e → (phase : Phase) → Reason (rows_at p s.number) s.number b.by.w e e.kind phase → ShutStands s.number (e ∷ p) (running b.by.w) phase
+shut_now s p e run x b told (Ends (Refused (refusals.Lost ordered))) z = elim (told x b z.0) [
   | inl closed ↦ subst (ClosedWith (e ∷ p) s.number b.by.w.number) (sym (target_is s.number b.by.w ∙ z.2)) closed
   | inr y ↦ absurd (let both : Puts ≡ Drops = sym y.0 ∙ z.1 in cc)
 ]
-shut_now s p e x b told (Ends (TransferRefused failures.Closed)) z = (z.0.peer, elim (told x b z.0) [ inl closed ↦ inl closed | inr y ↦ inr y.1 ])
-shut_now s p e x b told phase z = tt
+shut_now s p e run x b told (Ends (TransferRefused failures.Closed)) z = (z.0.peer, copies_in_place s p run b.by.w (step_runs s p e x b) z.1 z.0.peer z.0.on, elim (told x b z.0) [ inl closed ↦ inl closed | inr y ↦ inr y.1 ])
+shut_now s p e run x b told phase z = tt
 
 same_job : (s : SetUp) (p : List Entry) (e : Entry) (x : Work) (b : Steps s p e x) → running x ≡ running b.by.w
 same_job s p e x b = ap running b.work_is ∙ kind_kept (rows_at p s.number) s.number b.by.w e e.kind
@@ -116,7 +117,7 @@ shut_stands s past run told w m = invariant s (λ p x. ShutsTold s p → ShutSta
         let y = work_kind (rows_at p s.number) s.number v e e.kind in
         let new : ShutStands s.number (e ∷ p) (running v) y.phase = elim (kind_reason (rows_at p s.number) s.number v e e.kind) [
           | inl same ↦ subst (ShutStands s.number (e ∷ p) (running v)) (sym same) (shut_grows s.number e p (running v) v.phase (was v (step_runs s p e x b) told.1))
-          | inr reason ↦ shut_now s p e x b told.0 y.phase reason
+          | inr reason ↦ shut_now s p e run.1 x b told.0 y.phase reason
         ] in
         subst (λ (j : Running). ShutStands s.number (e ∷ p) j x.phase) (sym (same_job s p e x b)) (subst (λ (z : Work). ShutStands s.number (e ∷ p) (running v) z.phase) (sym b.work_is) new)
 

@@ -145,7 +145,7 @@ module _ (s : SetUp) (past : List Entry) (words : ℕ → Option Word) (e : Entr
           go : (phase : Phase) → w.phase ≡ phase → TransferRefused failures.Closed ≡ outcome_of t phase → WasClosed past r w.number
           go (Ends (TransferRefused failures.Closed)) at o =
               let z = subst (ShutStands r past (running w)) at (shut_stands s past h.run told w x.runs) in
-              record { d = job_of s past h w x.runs; peer = z.0; closed = z.1 }
+              record { d = job_of s past h w x.runs; peer = z.0; peer_is = z.1; closed = z.2 }
           go (Ends q) at o = absurd (cc)
           go Removed at o = absurd (by_side (side_of t.w) o)
           go Denied at o = absurd (cc)

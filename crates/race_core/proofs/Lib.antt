@@ -74,7 +74,9 @@ pub mod GetsBegin
 pub mod DropReads
 pub mod JobOpens
 pub mod PartnerCloses
-pub mod GetSpeaks
+pub mod TransfersSpeak
+pub mod JobMoves
+pub mod CopiesInPlace
 pub mod OwnTried
 pub mod OpenEnds
 pub mod SaidByClock

@@ -309,6 +309,7 @@ pub record FoundFilled (past : List Entry) (r j : ℕ) : Type 0 where
 pub record WasBusy (past : List Entry) (r j : ℕ) : Type 0 where
   pub d : JobOf past r j
   pub peer : ℕ
+  pub peer_is : d.what.peer ≡ Some peer
   pub file : List ℕ
   pub busy : Answers past r j peer (Says (Put file d.what.key)) (Says (Error (codes "busy")))
 
@@ -329,9 +330,11 @@ pub record FellShort (past : List Entry) (r j peer : ℕ) (key : List ℕ) : Typ
   pub why' : ((f : FrameView) × (entry.taken ≡ Some f) × (message_in f.body ≡ Says (PutFrom place)))
       ⊎ ((x : Entry) × (then' : List Entry) × (Occurs before x then') × (is_job r j x ≡ true) × (content then' r key ≡ Some place))
 
+-- a copy's connection with its peer was closed
 pub record WasClosed (past : List Entry) (r j : ℕ) : Type 0 where
   pub d : JobOf past r j
   pub peer : ℕ
+  pub peer_is : d.what.peer ≡ Some peer
   pub closed : ClosedWith past r j peer ⊎ FellShort past r j peer d.what.key
 
 abbrev pub rejects : EntryKind → Bool
@@ -339,10 +342,11 @@ rejects (Talk None) = true
 rejects (Fault call by) = true
 rejects _ = false
 
--- the peer answered FAILURE, to PUT or to VALID: the bytes didn't match, or a call of its store failed
+-- a copy's peer answered FAILURE, to PUT or to VALID: the bytes didn't match, or a call of its store failed
 pub record WasRejected (past : List Entry) (r j : ℕ) : Type 0 where
   pub d : JobOf past r j
   pub peer : ℕ
+  pub peer_is : d.what.peer ≡ Some peer
   pub asked : Said
   pub asked_is : (asked ≡ Says Valid) ⊎ ((file : List ℕ) × (asked ≡ Says (Put file d.what.key)))
   pub refused : Answers past r j peer asked (Says Failure)
