@@ -35,6 +35,8 @@ pub mod EndMoves
 pub mod NewSessions
 pub mod Guarding
 pub mod Filling
+pub mod Giving
+pub mod InvalidsTurn
 pub mod TurnFits
 pub mod InTurn
 pub mod SessionSays
