@@ -74,7 +74,7 @@ order_fails : (deadline : Option ℕ) (key : List ℕ) (kind : EntryKind) → Fa
 order_fails None key kind x = x
 order_fails (Some n) key kind x = x
 
-own_of : (r j : ℕ) (e : Entry) → is_job r j e ≡ true → is_of r e ≡ true
+pub own_of : (r j : ℕ) (e : Entry) → is_job r j e ≡ true → is_of r e ≡ true
 own_of r j e h = (and_true (is_of r e) _ h).0
 
 module _ (s : SetUp) (past : List Entry) (words : ℕ → Option Word) (e : Entry) (h : OwnPast s past) (own : OwnPart s past words e) (j : ℕ) where

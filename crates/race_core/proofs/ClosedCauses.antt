@@ -22,7 +22,7 @@ use Rattle.p2p_wire.specs.declared.message.Message.TheVariants.{Failure, Get, In
 use Rattle.p2p_wire.specs.Messages.{message_of}
 use Rattle.run_model.specs.Said.{Says, CloseIt}
 use Rattle.run_model.specs.Frames.{says}
-use Rattle.run_model.specs.Causes.{Answers, ClosedWith, FellShort, SourceCauseOf, is_failure}
+use Rattle.run_model.specs.Causes.{Answers, ClosedWith, FellShort, Hears, is_failure}
 use Rattle.node_model.specs.SetUp.{SetUp}
 use Rattle.run_model.specs.States.{rows_at, works}
 use Rattle.node_model.specs.Sessions.{line_in}
@@ -57,6 +57,13 @@ ShutTold s past e = (w : Work) (b : Steps s past e w) (z : ShutOn (rows_at past 
 abbrev pub ShutsTold : SetUp → List Entry → Type 0
 ShutsTold s past = Always (ShutTold s) past
 
+-- why a peer gave a get nothing, as the get's own entries tell
+abbrev pub SourceToldOf : List Entry → ℕ → ℕ → List ℕ → ℕ → SourceCause → Type 0
+SourceToldOf past r j key peer sources.Closed = ClosedWith past r j peer
+SourceToldOf past r j key peer sources.Wrong = (h : Hears past r j peer (Says Valid)) × (list_any (says is_failure) h.entry.sent ≡ true)
+SourceToldOf past r j key peer sources.Absent = (file : List ℕ) × Answers past r j peer (Says (Get 0 file key)) (Says Invalid)
+SourceToldOf past r j key peer sources.Invalid = (start : ℕ) × (file : List ℕ) × (start ≢ 0) × Answers past r j peer (Says (Get start file key)) (Says Invalid)
+
 -- ---- more entries change nothing
 
 module _ (r : ℕ) (e : Entry) (past : List Entry) (j : Running) where
@@ -67,13 +74,13 @@ module _ (r : ℕ) (e : Entry) (past : List Entry) (j : Running) where
   short_grows : (peer : ℕ) (key : List ℕ) → FellShort past r j.number peer key → FellShort (e ∷ past) r j.number peer key
   short_grows peer key x = record { entry = x.entry; before = x.before; occurs = inr x.occurs; own = x.own; closes = x.closes; place = x.place; short = x.short; why' = x.why' }
 
-  source_grows : (key : List ℕ) (peer : ℕ) (cause : SourceCause) → SourceCauseOf past r j.number key peer cause → SourceCauseOf (e ∷ past) r j.number key peer cause
+  source_grows : (key : List ℕ) (peer : ℕ) (cause : SourceCause) → SourceToldOf past r j.number key peer cause → SourceToldOf (e ∷ past) r j.number key peer cause
   source_grows key peer sources.Closed x = closed_grows peer x
   source_grows key peer sources.Wrong x = (record { entry = x.0.entry; before = x.0.before; occurs = inr x.0.occurs; own = x.0.own; f = x.0.f; takes_it = x.0.takes_it; peer_is = x.0.peer_is; down = x.0.down; says = x.0.says }, x.1)
   source_grows key peer sources.Absent x = (x.0, answers_grow r e past j peer (Says (Get 0 x.0 key)) (Says Invalid) x.1)
   source_grows key peer sources.Invalid x = (x.0, x.1, x.2, answers_grow r e past j peer (Says (Get x.0 x.1 key)) (Says Invalid) x.3)
 
-  sources_grow : (key : List ℕ) (xs : List SourceFailure) → Each (λ x. SourceCauseOf past r j.number key x.repo x.cause) xs → Each (λ x. SourceCauseOf (e ∷ past) r j.number key x.repo x.cause) xs
+  sources_grow : (key : List ℕ) (xs : List SourceFailure) → Each (λ x. SourceToldOf past r j.number key x.repo x.cause) xs → Each (λ x. SourceToldOf (e ∷ past) r j.number key x.repo x.cause) xs
   sources_grow key [] a = tt
   sources_grow key (x ∷ xs) a = (source_grows key x.repo x.cause a.0, sources_grow key xs a.1)
 
@@ -179,7 +186,7 @@ word_taken_by t m p start size at part e = go (end_with t p).opened (subst (λ (
 
 -- the causes of a get's peers
 abbrev pub SourcesTold : ℕ → List Entry → Running → List SourceFailure → Type 0
-SourcesTold r past j xs = Each (λ x. SourceCauseOf past r j.number j.what.key x.repo x.cause) xs
+SourcesTold r past j xs = Each (λ x. SourceToldOf past r j.number j.what.key x.repo x.cause) xs
 
 each_more : (P : SourceFailure → Type 0) (xs : List SourceFailure) (x : SourceFailure) → Each P xs → P x → Each P (xs ++ x ∷ [])
 each_more P [] x a p = (p, tt)
@@ -192,10 +199,10 @@ module _ (s : SetUp) (p : List Entry) (e : Entry) (h : OwnPast s (e ∷ p)) (is 
   before : OwnPast s p
   before = earlier s p e h
 
-  invalid_cause : (start peer : ℕ) → Answers (e ∷ p) s.number v.number peer (Says (Get start [] v.what.key)) (Says Invalid) → SourceCauseOf (e ∷ p) s.number v.number v.what.key peer (if start == 0 then sources.Absent else sources.Invalid)
+  invalid_cause : (start peer : ℕ) → Answers (e ∷ p) s.number v.number peer (Says (Get start [] v.what.key)) (Says Invalid) → SourceToldOf (e ∷ p) s.number v.number v.what.key peer (if start == 0 then sources.Absent else sources.Invalid)
   invalid_cause start peer a = go (start == 0) refl
     where
-      go : (c : Bool) → (start == 0) ≡ c → SourceCauseOf (e ∷ p) s.number v.number v.what.key peer (if c then sources.Absent else sources.Invalid)
+      go : (c : Bool) → (start == 0) ≡ c → SourceToldOf (e ∷ p) s.number v.number v.what.key peer (if c then sources.Absent else sources.Invalid)
       go true at = ([], subst (λ n. Answers (e ∷ p) s.number v.number peer (Says (Get n [] v.what.key)) (Says Invalid)) (zero_is start at) a)
         where
           zero_is : (n : ℕ) → (n == 0) ≡ true → n ≡ 0
@@ -205,19 +212,19 @@ module _ (s : SetUp) (p : List Entry) (e : Entry) (h : OwnPast s (e ∷ p)) (is 
           not_zero : (n : ℕ) → (n == 0) ≡ false → n ≢ 0
           not_zero n e same = absurd (grind (arith, nat_tests))
 
-  word_cause : (z : AddsWord v e x) → SourceCauseOf (e ∷ p) s.number v.number v.what.key z.peer (source_cause z.start (taken_message e.taken))
+  word_cause : (z : AddsWord v e x) → SourceToldOf (e ∷ p) s.number v.number v.what.key z.peer (source_cause z.start (taken_message e.taken))
   word_cause z =
       let part = only_word v.part z.peer z.start z.size (subst (Fits v.part) z.phase_is (works_fit s p before.run v (step_runs s p e x b))) in
       let sent : b.by.made.sent ≡ z.says.f ∷ z.says.rest = sym (ap (λ (y : Entry). y.sent) b.by.is) ∙ z.says.sent_is in
       let w = word_taken_by (turn_at s p e b.by) b.by.made z.peer z.start z.size z.phase_is part b.by.does z.says.f z.says.rest sent z.says.told in
       let took : e.taken ≡ Some w.f = ap (λ (y : Entry). y.taken) b.by.is ∙ w.takes_it in
       let on : partner v.what.peer v.phase ≡ Some z.peer = ap (partner v.what.peer) z.phase_is in
-      subst (λ o. SourceCauseOf (e ∷ p) s.number v.number v.what.key z.peer (source_cause z.start (taken_message o))) (sym took) (elim (w.word) [
-        | inl valid ↦ subst (λ m. SourceCauseOf (e ∷ p) s.number v.number v.what.key z.peer (source_cause z.start m)) (sym valid) (valid_now w.f took valid on)
-        | inr invalid ↦ subst (λ m. SourceCauseOf (e ∷ p) s.number v.number v.what.key z.peer (source_cause z.start m)) (sym invalid) (invalid_cause z.start z.peer (asked_now w.f took invalid on))
+      subst (λ o. SourceToldOf (e ∷ p) s.number v.number v.what.key z.peer (source_cause z.start (taken_message o))) (sym took) (elim (w.word) [
+        | inl valid ↦ subst (λ m. SourceToldOf (e ∷ p) s.number v.number v.what.key z.peer (source_cause z.start m)) (sym valid) (valid_now w.f took valid on)
+        | inr invalid ↦ subst (λ m. SourceToldOf (e ∷ p) s.number v.number v.what.key z.peer (source_cause z.start m)) (sym invalid) (invalid_cause z.start z.peer (asked_now w.f took invalid on))
       ])
     where
-      valid_now : (f : FrameView) → e.taken ≡ Some f → line_in f.body ≡ Some Valid → partner v.what.peer v.phase ≡ Some z.peer → SourceCauseOf (e ∷ p) s.number v.number v.what.key z.peer sources.Wrong
+      valid_now : (f : FrameView) → e.taken ≡ Some f → line_in f.body ≡ Some Valid → partner v.what.peer v.phase ≡ Some z.peer → SourceToldOf (e ∷ p) s.number v.number v.what.key z.peer sources.Wrong
       valid_now f took valid on =
           let first : list_any (says is_failure) e.sent ≡ true = subst (λ fs. list_any (says is_failure) fs ≡ true) (sym z.says.sent_is) (yes_first (says is_failure z.says.f) (list_any (says is_failure) z.says.rest) (ap is_failure (said_is z.says.f.body Failure z.says.told))) in
           (record { entry = e; before = p; occurs = inl (refl, refl); own = stepped_own s p e b.by is; f = f; takes_it = took; peer_is = took_peer s p e b.by is f took z.peer on; down = (hears s p e b.by f took).1; says = said_is f.body Valid valid }, first)
@@ -235,10 +242,10 @@ module _ (s : SetUp) (p : List Entry) (e : Entry) (h : OwnPast s (e ∷ p)) (is 
   causes_now : ShutTold s p e → SourcesTold s.number p (running v) v.causes → Causes (rows_at p s.number) v e x → SourcesTold s.number (e ∷ p) (running v) x.causes
   causes_now told was (inl same) = subst (SourcesTold s.number (e ∷ p) (running v)) (sym same) (sources_grow s.number e p (running v) v.what.key v.causes was)
   causes_now told was (inr (inl a)) = subst (SourcesTold s.number (e ∷ p) (running v)) (sym a.list)
-      (each_more (λ y. SourceCauseOf (e ∷ p) s.number v.number v.what.key y.repo y.cause) v.causes (record { repo = a.peer; cause = a.cause }) (sources_grow s.number e p (running v) v.what.key v.causes was)
-      (subst (SourceCauseOf (e ∷ p) s.number v.number v.what.key a.peer) (sym a.why.0) (subst (ClosedWith (e ∷ p) s.number v.number) a.why.2 (elim (told x b a.why.1) [ inl closed ↦ closed | inr y ↦ absurd (let both : Puts ≡ Gets = sym y.0 ∙ a.gets in cc) ]))))
+      (each_more (λ y. SourceToldOf (e ∷ p) s.number v.number v.what.key y.repo y.cause) v.causes (record { repo = a.peer; cause = a.cause }) (sources_grow s.number e p (running v) v.what.key v.causes was)
+      (subst (SourceToldOf (e ∷ p) s.number v.number v.what.key a.peer) (sym a.why.0) (subst (ClosedWith (e ∷ p) s.number v.number) a.why.2 (elim (told x b a.why.1) [ inl closed ↦ closed | inr y ↦ absurd (let both : Puts ≡ Gets = sym y.0 ∙ a.gets in cc) ]))))
   causes_now told was (inr (inr a)) = subst (SourcesTold s.number (e ∷ p) (running v)) (sym a.list)
-      (each_more (λ y. SourceCauseOf (e ∷ p) s.number v.number v.what.key y.repo y.cause) v.causes (record { repo = a.peer; cause = source_cause a.start (taken_message e.taken) }) (sources_grow s.number e p (running v) v.what.key v.causes was) (word_cause a))
+      (each_more (λ y. SourceToldOf (e ∷ p) s.number v.number v.what.key y.repo y.cause) v.causes (record { repo = a.peer; cause = source_cause a.start (taken_message e.taken) }) (sources_grow s.number e p (running v) v.what.key v.causes was) (word_cause a))
 
 -- **each cause of a get's peers stands in its entries**
 pub sources_told : (s : SetUp) (past : List Entry) → OwnPast s past → ShutsTold s past → (w : Work) → Member w (works past s.number) → SourcesTold s.number past (running w) w.causes

@@ -37,6 +37,8 @@ pub mod Guarding
 pub mod Filling
 pub mod Giving
 pub mod InvalidsTurn
+pub mod InvalidsFit
+pub mod Contents
 pub mod TurnFits
 pub mod InTurn
 pub mod SessionSays

@@ -38,7 +38,7 @@ use Rattle.node_model.specs.Rows.{blocks}
 use Rattle.p2p_wire.specs.declared.message.Message.TheVariants.{Error, Failure, Get, Invalid, Put, PutFrom, Valid, Version}
 use Rattle.p2p_wire.specs.Messages.{order_of}
 use Rattle.run_model.specs.Said.{Said, Says, CloseIt, is_request, message_in}
-use Rattle.run_model.specs.Frames.{Flying, Sent, is_job, last_request, said_of, says, sender, taken_if, up_of, way_of}
+use Rattle.run_model.specs.Frames.{Flying, MayTake, Sent, is_job, last_request, said_of, says, sender, taken_if, up_of, way_of}
 use Rattle.run_model.specs.Logs.{before_step, has_stepped, in_drop, need_read}
 use Rattle.run_model.specs.States.{content}
 use Rattle.run_model.specs.Drops.{evidence, asked, in_slot, is_first_step, shuts, standing, why, told_cause}
@@ -251,13 +251,32 @@ abbrev pub is_failure : Said → Bool
 is_failure (Says Failure) = true
 is_failure _ = false
 
--- why a peer gave a get nothing: the connection was closed; the bytes didn't match, which the job answers by FAILURE; or they weren't
--- there from the place on that it asked for
+-- below is the size of a content, if it is there
+abbrev pub IsBelow : Option ℕ → ℕ → Type 0
+IsBelow None n = Unit {0}
+IsBelow (Some size) n = size < n
+
+-- the peer took this GET, and as it took it, its content was absent, or shorter than the place that is asked for
+pub record TookGet (past : List Entry) (peer start : ℕ) (key : List ℕ) (request : Flying) : Type 0 where
+  pub entry : Entry
+  pub before : List Entry
+  pub occurs : Occurs past entry before
+  pub own : is_of peer entry ≡ true
+  pub f : FrameView
+  pub takes_it : entry.taken ≡ Some f
+  pub comes : MayTake before (way_of peer f) f
+  pub request_is : comes.it ≡ request
+  pub short : IsBelow (content before peer key) start
+
+-- why a peer gave a get nothing: the connection was closed; the bytes didn't match, which the job answers by FAILURE; its row was absent; or
+-- its content didn't reach the place from which on it was asked for
 abbrev pub SourceCauseOf : List Entry → ℕ → ℕ → List ℕ → ℕ → SourceCause → Type 0
 SourceCauseOf past r j key peer sources.Closed = ClosedWith past r j peer
 SourceCauseOf past r j key peer sources.Wrong = (h : Hears past r j peer (Says Valid)) × (list_any (says is_failure) h.entry.sent ≡ true)
-SourceCauseOf past r j key peer sources.Absent = (file : List ℕ) × Answers past r j peer (Says (Get 0 file key)) (Says Invalid)
-SourceCauseOf past r j key peer sources.Invalid = (start : ℕ) × (file : List ℕ) × (start ≢ 0) × Answers past r j peer (Says (Get start file key)) (Says Invalid)
+SourceCauseOf past r j key peer sources.Absent =
+    (file : List ℕ) × (a : Answers past r j peer (Says (Get 0 file key)) (Says Invalid)) × (t : TookGet a.hears.before peer 0 key a.request) × (present t.before peer key ≡ false)
+SourceCauseOf past r j key peer sources.Invalid =
+    (start : ℕ) × (file : List ℕ) × (start ≢ 0) × (a : Answers past r j peer (Says (Get start file key)) (Says Invalid)) × TookGet a.hears.before peer start key a.request
 
 -- the peers that a get asks, one after the other
 abbrev pub sources_of : ℕ → ℕ → Option ℕ → List ℕ
@@ -312,10 +331,6 @@ pub record WasBusy (past : List Entry) (r j : ℕ) : Type 0 where
   pub peer_is : d.what.peer ≡ Some peer
   pub file : List ℕ
   pub busy : Answers past r j peer (Says (Put file d.what.key)) (Says (Error (codes "busy")))
-
-abbrev pub IsBelow : Option ℕ → ℕ → Type 0
-IsBelow None n = Unit {0}
-IsBelow (Some size) n = size < n
 
 -- the job itself closes the connection: the content is gone, or shorter than the place that the peer asks for, or than it was as the
 -- job began to send it
