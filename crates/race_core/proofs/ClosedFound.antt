@@ -1,5 +1,5 @@
 -- The causes of Lost, Closed and NoSource, where each connection that is found closed was closed by its peer or by an entry here.
-use Rattle.std.proofs.Common.{◌≡◌, ℕ, zero, suc, Bool, true, false, List, [], ◌∷◌, Option, Some, None, inl, inr, refl, sym, ap, ◌∙◌, subst, arith}
+use Rattle.std.proofs.Common.{◌≡◌, ℕ, zero, suc, Bool, true, false, List, [], ◌∷◌, Option, Some, None, inl, inr, refl, sym, ap, ◌∙◌, subst}
 use Rattle.std.specs.Prelude.{◌&&◌, length, map, slice_get, take}
 use Rattle.std.specs.List.{list_any}
 use Rattle.annex_base.specs.Lists.{Each, Member}
@@ -16,10 +16,10 @@ use Rattle.run_data.specs.declared.job.SourceCause.TheVariants as sources
 use Rattle.run_data.specs.declared.job.SourceFailure.{SourceFailure}
 use Rattle.p2p_wire.specs.declared.message.Message.TheVariants.{Get, Invalid}
 use Rattle.run_data.specs.declared.job.TransferRefusal.TheVariants as failures
-use Rattle.run_model.specs.Past.{Occurs, is_of, present}
+use Rattle.run_model.specs.Past.{Occurs, is_of}
 use Rattle.run_model.specs.Said.{Says, message_in}
 use Rattle.run_model.specs.Frames.{Flying, is_job, last_request, said_of, up_of, way_of}
-use Rattle.run_model.specs.Causes.{Answers, FoundNoSource, IsBelow, SourceCauseOf, TookGet, WasClosed, WasLost, is_order, sources_of}
+use Rattle.run_model.specs.Causes.{Answers, FoundNoSource, SourceCauseOf, TookGet, WasClosed, WasLost, is_order, sources_of}
 use Rattle.node_model.specs.SetUp.{SetUp}
 use Rattle.node_model.specs.Jobs
 use Rattle.node_model.specs.Jobs.{AsksTime, Denied, Drops, Ends, Fresh, Late, Next, Orders, Phase, Removed, Work, partner, running, side_of}
@@ -43,7 +43,7 @@ use Rattle.race_core.proofs.Standing.{stands}
 use Rattle.race_core.proofs.RefusalCauses.{DropSettled, Ending, drop_settled, ending, job_of, transfer_settled}
 use Rattle.race_core.proofs.ClosedCauses.{ShutStands, ShutsTold, SourceToldOf, shut_stands, sources_told}
 use Rattle.race_core.proofs.AnswerCauses.{own_of}
-use Rattle.race_core.proofs.Contents.{content_there, is_there}
+use Rattle.race_core.proofs.Contents.{absent_row}
 use Rattle.race_core.proofs.PhaseFacts.{only_time, only_orders}
 
 -- **what is left of Lost**: it says that the job ordered exactly where an order entry of it stands
@@ -58,14 +58,6 @@ SourcesInOrder s past = (w : Work) → Member w (works past s.number) → w.phas
 abbrev pub InvalidsFit : List Entry → Type 0
 InvalidsFit past = (r : ℕ) (x : Entry) (before : List Entry) → Occurs past x before → is_of r x ≡ true → (f : FrameView) → x.taken ≡ Some f → f.up ≡ false → message_in f.body ≡ Says Invalid
     → (asked : Flying) → last_request before (up_of (way_of r f)) ≡ Some asked → (start : ℕ) (file key : List ℕ) → said_of asked ≡ Says (Get start file key) → TookGet before f.peer start key asked
-
--- a content that doesn't reach the first place isn't there
-absent_row : (past : List Entry) (r : ℕ) (key : List ℕ) → IsBelow (content past r key) 0 → present past r key ≡ false
-absent_row past r key short = sym (content_there past r key) ∙ go (content past r key) short
-  where
-    go : (o : Option ℕ) → IsBelow o 0 → is_there o ≡ false
-    go None short = refl
-    go (Some size) short = absurd (omega (arith, short))
 
 took_get : (past : List Entry) → InvalidsFit past → (r j peer start : ℕ) (file key : List ℕ) (a : Answers past r j peer (Says (Get start file key)) (Says Invalid)) → TookGet a.hears.before peer start key a.request
 took_get past fit r j peer start file key a =

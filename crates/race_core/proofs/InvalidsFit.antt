@@ -1,8 +1,7 @@
 -- In a run the INVALID that a job takes answers a GET that its peer took by an entry that found the content absent, or shorter than the place
 -- asked for.
-use Rattle.std.proofs.Common.{◌≡◌, ℕ, ◌+◌, ◌<◌, true, false, List, length, Option, Some, None, refl, sym, ap, ◌∙◌, subst, arith}
-use Rattle.std.specs.Prelude.{nat_le, slice_get}
-use Rattle.std.proofs.lemmas.Bool.Decides.{nat_tests}
+use Rattle.std.proofs.Common.{◌≡◌, ℕ, ◌+◌, true, false, List, length, Some, refl, sym, ap, ◌∙◌, subst, arith}
+use Rattle.std.specs.Prelude.{slice_get}
 use Rattle.annex_base.specs.Lists.{Each}
 use Rattle.run_data.specs.declared.entry.Entry.{Entry}
 use Rattle.run_data.specs.declared.entry.FrameView.{FrameView}
@@ -12,25 +11,18 @@ use Rattle.p2p_wire.specs.declared.message.Message.TheVariants.{Get, Invalid}
 use Rattle.run_model.specs.Past.{is_of}
 use Rattle.run_model.specs.Said.{Says, is_request, message_in}
 use Rattle.run_model.specs.Frames.{Flying, MayTake, Way, last_request, said_of, sender_of, sent, taken, taken_if, up_of, way_of}
-use Rattle.run_model.specs.Causes.{IsBelow, TookGet}
+use Rattle.run_model.specs.Causes.{TookGet}
 use Rattle.run_model.specs.Run.{RunPast, RunStep, set_up}
 use Rattle.run_model.specs.States.{content}
-use Rattle.node_model.specs.Sessions.{reaches}
 use Rattle.race_core.proofs.AnswersFit.{step_at}
 use Rattle.race_core.proofs.ClosedFound.{InvalidsFit}
+use Rattle.race_core.proofs.Contents.{below}
 use Rattle.race_core.proofs.Flights.{occurs_earlier, sending, some_inj}
 use Rattle.race_core.proofs.FromStep.{meets, message_past, own_past, part_of}
 use Rattle.race_core.proofs.InvalidsTurn.{InvalidInTurn, invalids_turn}
 use Rattle.race_core.proofs.Told.{message_at, one_answers, prefixes, sends_member, sends_on, up_at, way_sent, way_up}
 use Rattle.race_core.proofs.Turns.{turn_of}
 use Rattle.race_core.proofs.Ways.{answers, is_answer, way_from}
-
-below : (o : Option ℕ) (start : ℕ) → reaches o start ≡ false → IsBelow o start
-below None start gone = tt
-below (Some size) start gone = less size start gone
-  where
-    less : (size start : ℕ) → nat_le start size ≡ false → size < start
-    less size start gone = grind (arith, nat_tests)
 
 server_is : (r : ℕ) (f : FrameView) → f.up ≡ false → sender_of (way_of r f) ≡ f.peer
 server_is r f down = rw down refl
@@ -99,7 +91,7 @@ module _ (run : Run) (repos : Each IsSetUp run.repos) where
           takes_it = turn.takes_it;
           comes = comes;
           request_is = refl;
-          short = below (content turn.before r turn.key) turn.start turn.short;
+          short = below (content turn.before r turn.key) turn.start turn.start turn.short (omega arith);
         };
       }
 

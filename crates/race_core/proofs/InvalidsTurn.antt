@@ -25,11 +25,12 @@ use Rattle.node_model.specs.Look.{failing}
 use Rattle.node_model.specs.Sessions.{Doing, Gives, Session, reaches}
 use Rattle.node_model.specs.SessionStep.{Here, Reply, by_of, close_kind, content_of, gives_next, here, on_frame, on_piece, reply, shuts}
 use Rattle.race_core.proofs.AnswersRead.{all_read}
+use Rattle.race_core.proofs.AnswersTurn.{bytes_end, closing_ends}
 use Rattle.race_core.proofs.Cases.{if_found, unless_found}
 use Rattle.race_core.proofs.Counting.{bytes_counts}
 use Rattle.race_core.proofs.Giving.{GetTaken, gets_stand}
 use Rattle.race_core.proofs.InTurn.{AllRead, in_turn}
-use Rattle.race_core.proofs.SaidDown.{Alike, alike, said_bytes, said_closing, said_line-is, said_opening}
+use Rattle.race_core.proofs.SaidDown.{Alike, alike, said_line-is, said_opening}
 use Rattle.race_core.proofs.ServerEnds.{GivesHere, ServerDoes, TakesHere, server_does}
 use Rattle.race_core.proofs.SessionAnswers.{AnswerFits, Answering, counts_answer, line_answer}
 use Rattle.race_core.proofs.SessionOwn.{down_closes, member_frames, taken_up, way_at}
@@ -37,12 +38,6 @@ use Rattle.race_core.proofs.SessionSays.{read_of}
 use Rattle.race_core.proofs.TurnFits.{busy}
 use Rattle.race_core.proofs.WayCounts.{way_in, way_out}
 use Rattle.race_core.proofs.Ways.{answers, down_of, way_from}
-
-closing_not : (b : FrameText) → b ≡ Closing → message_in b ≡ Says Invalid → ⊥
-closing_not b i e = let no' : message_in Closing ≡ Says Invalid = sym (ap message_in i) ∙ e in let no'' = sym said_closing ∙ no' in cc
-
-bytes_not : (b : FrameText) (n : ℕ) → b ≡ Bytes n → message_in b ≡ Says Invalid → ⊥
-bytes_not b n i e = let no' : message_in (Bytes n) ≡ Says Invalid = sym (ap message_in i) ∙ e in let no'' = sym (said_bytes n) ∙ no' in cc
 
 valid_not : (b : FrameText) → b ≡ Line (text_of Valid) → message_in b ≡ Says Invalid → ⊥
 valid_not b i e =
@@ -61,11 +56,11 @@ piece_not h key at n b e = unless_found (λ (x : Reply). Member b x.says → ⊥
     (if_found (λ (x : Reply). Member b x.says → ⊥) (reaches (content_of h key) (at + n)) (record { kind = Talk None; says = Bytes n ∷ [] }) (shuts (close_kind h)) (λ y m. bytes m) (λ y m. closes m))
   where
     closes : Member b (Closing ∷ []) → ⊥
-    closes (inl i) = closing_not b i e
+    closes (inl i) = closing_ends b Invalid i e
     closes (inr i) = i
 
     bytes : Member b (Bytes n ∷ []) → ⊥
-    bytes (inl i) = bytes_not b n i e
+    bytes (inl i) = bytes_end b n Invalid i e
     bytes (inr i) = i
 
 given_refused : (h : Here) (key : List ℕ) (at left : ℕ) (good : Bool) (b : FrameText) → message_in b ≡ Says Invalid
@@ -207,4 +202,4 @@ invalids_turn s past words e g is own m u says' = go (server_does s past words e
 
     go : ServerDoes s past e → InvalidInTurn s.number past g
     go (inl x) = by x.0 x.1 x.3
-    go (inr x) = absurd (closing_not g.body (down_closes e g x m u) says')
+    go (inr x) = absurd (closing_ends g.body Invalid (down_closes e g x m u) says')

@@ -1,5 +1,5 @@
 -- **Each refused job of a run has its cause in it**: no premise is left.
-use Rattle.std.proofs.Common.{◌≡◌, ℕ, ◌+◌, ◌<◌, ◌≤◌, Bool, true, false, List, [], ◌∷◌, Option, Some, None, ◌⊎◌, inl, inr, refl, sym, ap, ◌∙◌, subst, arith}
+use Rattle.std.proofs.Common.{◌≡◌, ℕ, ◌+◌, ◌≤◌, Bool, true, false, List, [], ◌∷◌, Some, None, ◌⊎◌, inl, inr, refl, sym, ap, ◌∙◌, subst, arith}
 use Rattle.std.specs.Prelude.{◌==◌, nat_le}
 use Rattle.std.specs.List.{list_any}
 use Rattle.std.proofs.lemmas.Bool.{true≢false}
@@ -12,12 +12,12 @@ use Rattle.run_data.specs.Repos.{IsSetUp}
 use Rattle.run_model.specs.Past.{is_of}
 use Rattle.run_model.specs.Said.{is_close, message_in}
 use Rattle.run_model.specs.Drops.{shuts}
-use Rattle.run_model.specs.Causes.{ClosedWith, FellShort, HasCauses, IsBelow}
+use Rattle.run_model.specs.Causes.{ClosedWith, FellShort, HasCauses}
 use Rattle.run_model.specs.Frames.{is_job}
 use Rattle.p2p_wire.specs.declared.message.Message.TheVariants.{PutFrom}
 use Rattle.node_model.specs.SetUp.{SetUp}
 use Rattle.run_model.specs.States.{end_at, content, rows_at}
-use Rattle.node_model.specs.Sessions.{is_closing, reaches, line_in}
+use Rattle.node_model.specs.Sessions.{is_closing, line_in}
 use Rattle.node_model.specs.Jobs.{Puts, PutsBytes, Work, job_end, running}
 use Rattle.run_model.specs.Run.{IsRun, RunPast, RunStep, set_up}
 use Rattle.race_core.proofs.Plain.{any_of, each_member, eqb_refl}
@@ -32,17 +32,9 @@ use Rattle.race_core.proofs.HeardCauses.{SentClose, client_sent, shut_by}
 use Rattle.race_core.proofs.ConversationClient
 use Rattle.race_core.proofs.Conversations.{conversing}
 use Rattle.race_core.proofs.ShutTold.{closed_told, took_closes}
+use Rattle.race_core.proofs.Contents.{below}
 use Rattle.race_core.proofs.PutsSizes.{sized}
 use Rattle.race_core.proofs.Caused.{run_causes}
-
--- ---- a content that is gone or too short
-
-below : (o : Option ℕ) (place bound : ℕ) → reaches o place ≡ false → place ≤ bound → IsBelow o bound
-below None place bound gone low = tt
-below (Some size) place bound gone low = less size place bound gone low
-  where
-    less : (size place bound : ℕ) → nat_le place size ≡ false → place ≤ bound → size < bound
-    less size place bound gone low = grind (arith, nat_tests)
 
 -- ---- a step that finds its connection closed
 
