@@ -43,6 +43,7 @@ pub mod TurnFits
 pub mod InTurn
 pub mod SessionSays
 pub mod SessionAnswers
+pub mod NumbersRead
 pub mod SessionTimes
 pub mod SessionReads
 pub mod JobEnds
