@@ -3,6 +3,7 @@ pub mod Knowing
 pub mod Own
 pub mod ServerAnswers
 pub mod Ways
+pub mod Branches
 pub mod LogLemmas
 pub mod OwnPasts
 pub mod Reading
