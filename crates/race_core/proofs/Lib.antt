@@ -4,6 +4,7 @@ pub mod Own
 pub mod ServerAnswers
 pub mod Ways
 pub mod Branches
+pub mod LogFiles
 pub mod LogLemmas
 pub mod OwnPasts
 pub mod Reading

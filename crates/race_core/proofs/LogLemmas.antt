@@ -22,7 +22,7 @@ use Rattle.run_data.specs.declared.entry.EntryKind.TheVariants.{Log, Compact}
 use Rattle.run_data.specs.declared.entry.LogFile.{LogFile}
 use Rattle.run_data.specs.declared.entry.LogFile.TheVariants.{Location, Of, Other}
 use Rattle.run_data.specs.Files.{file_path, kind_of}
-use Rattle.run_data.proofs.FileLemmas.{apart, one_kind}
+use Rattle.race_core.proofs.LogFiles.{apart, one_kind}
 use Rattle.node_model.specs.Files.{compact_lines}
 use Rattle.run_model.specs.Past.{is_of}
 use Rattle.run_model.specs.Logs.{added_by, ever, compact_file, branch_after, branch, kept, settings_of}
@@ -45,7 +45,7 @@ IsOf kind path = (file : LogFile) → file_path file ≡ path → (kind_of file 
 
 name_is_of : (kind : LogKind) → kind ≢ kinds.Location → IsOf kind (file_name kind)
 name_is_of kind other (Location key) is = absurd (apart key kind (sym is))
-name_is_of kind other (Of k) is = inl (ap Some (one_kind k kind other is))
+name_is_of kind other (Of k) is = inl (ap Some (one_kind k kind is))
 name_is_of kind other (Other name) is = inr refl
 
 location_is_of : (key : List ℕ) → IsOf kinds.Location (location_path key)
