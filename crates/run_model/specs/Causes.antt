@@ -251,7 +251,7 @@ abbrev pub is_failure : Said → Bool
 is_failure (Says Failure) = true
 is_failure _ = false
 
--- below is the size of a content, if it is there
+-- the content of this size, if there is one, ends before the place
 abbrev pub IsBelow : Option ℕ → ℕ → Type 0
 IsBelow None n = Unit {0}
 IsBelow (Some size) n = size < n
