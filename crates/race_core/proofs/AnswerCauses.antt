@@ -74,7 +74,7 @@ order_fails : (deadline : Option ℕ) (key : List ℕ) (kind : EntryKind) → Fa
 order_fails None key kind x = x
 order_fails (Some n) key kind x = x
 
-own_of : (r j : ℕ) (e : Entry) → is_job r j e ≡ true → is_of r e ≡ true
+pub own_of : (r j : ℕ) (e : Entry) → is_job r j e ≡ true → is_of r e ≡ true
 own_of r j e h = (and_true (is_of r e) _ h).0
 
 module _ (s : SetUp) (past : List Entry) (words : ℕ → Option Word) (e : Entry) (h : OwnPast s past) (own : OwnPart s past words e) (j : ℕ) where
@@ -146,12 +146,13 @@ module _ (s : SetUp) (past : List Entry) (words : ℕ → Option Word) (e : Entr
           ])
         where
           now : (x : Ending s past e j (TransferRefused failures.Rejected)) → TransferStands r past (running x.by.w) failures.Rejected → WasRejected past r x.by.w.number
-          now x (peer, asked, which, a) =
+          now x (peer, peer_is, asked, which, a) =
               let w = x.by.w in
               let f = flew w.number peer (Says Failure) a.hears in
               record {
                 d = job_of s past h w x.runs;
                 peer = peer;
+                peer_is = peer_is;
                 asked = Says asked;
                 asked_is = elim (which) [ inl v ↦ inl (ap Says v) | inr v ↦ inr ([], ap Says v) ];
                 refused = a;
@@ -177,7 +178,7 @@ module _ (s : SetUp) (past : List Entry) (words : ℕ → Option Word) (e : Entr
           filled = filled_by w.what.key y.3;
         })
         | inr y ↦ elim (transfer_settled (turn_at s past e x.by) past failures.Busy x.by.made.taken (stands s past h w x.runs) y) [
-          | inl z ↦ inr (record { d = job_of s past h w x.runs; peer = z.0; file = []; busy = z.1 })
+          | inl z ↦ inr (record { d = job_of s past h w x.runs; peer = z.0; peer_is = z.1; file = []; busy = z.2 })
           | inr z ↦ absurd (cc)
         ]
       ])

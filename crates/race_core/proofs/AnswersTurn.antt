@@ -61,10 +61,10 @@ invalid_alike k h = absurd h
 as_alike : (b : FrameText) (m k : Message) → b ≡ Line (text_of m) → message_in b ≡ Says k → message_of (text_of m) ≡ Some k
 as_alike b m k i e = read_of (text_of m) k (sym (ap message_in i) ∙ e)
 
-closing_ends : (b : FrameText) (k : Message) → b ≡ Closing → message_in b ≡ Says k → ⊥
+pub closing_ends : (b : FrameText) (k : Message) → b ≡ Closing → message_in b ≡ Says k → ⊥
 closing_ends b k i e = let no' : message_in Closing ≡ Says k = sym (ap message_in i) ∙ e in let no'' = sym said_closing ∙ no' in cc
 
-bytes_end : (b : FrameText) (n : ℕ) (k : Message) → b ≡ Bytes n → message_in b ≡ Says k → ⊥
+pub bytes_end : (b : FrameText) (n : ℕ) (k : Message) → b ≡ Bytes n → message_in b ≡ Says k → ⊥
 bytes_end b n k i e = let no' : message_in (Bytes n) ≡ Says k = sym (ap message_in i) ∙ e in let no'' = sym (said_bytes n) ∙ no' in cc
 
 -- a session that gives says no other answer

@@ -30,7 +30,7 @@ use Rattle.race_core.proofs.MovesLate.{moves_late}
 use Rattle.race_core.proofs.Standing.{stands}
 use Rattle.race_core.proofs.RefusalCauses.{DropSettled, Ending, absent_found, barred_found, drop_settled, ending, fault_found, held_found, not_here_found, transfer_fault_found, transfer_settled}
 use Rattle.race_core.proofs.ClosedCauses.{ShutsTold}
-use Rattle.race_core.proofs.ClosedFound.{OrdersTold, SourcesInOrder, closed_found, lost_found, no_source_found}
+use Rattle.race_core.proofs.ClosedFound.{InvalidsFit, OrdersTold, SourcesInOrder, closed_found, lost_found, no_source_found}
 use Rattle.race_core.proofs.Own.{MessagePast}
 use Rattle.race_core.proofs.Lists.{eqb_true}
 use Rattle.race_core.proofs.EvidenceCauses.{CausesTold, expired_found, lacking_found, old_found}
@@ -38,6 +38,7 @@ use Rattle.race_core.proofs.AnswerCauses.{FailuresFit, SessionsFill, busy_found,
 use Rattle.race_core.proofs.AnswersFit.{failures_fit}
 use Rattle.race_core.proofs.ToldValues.{run_told}
 use Rattle.race_core.proofs.SessionsFill.{sessions_fill}
+use Rattle.race_core.proofs.InvalidsFit.{invalids_fit}
 use Rattle.race_core.proofs.OrdersTold.{orders_told}
 use Rattle.race_core.proofs.SourcesInOrder.{sources_in_order}
 use Rattle.race_core.proofs.FromStep.{message_past, own_past, part_of}
@@ -50,6 +51,7 @@ pub record Grounds (s : SetUp) (past : List Entry) : Type 0 where
   pub shut' : ShutsTold s past
   pub orders : OrdersTold s past
   pub order : SourcesInOrder s past
+  pub invalids : InvalidsFit past
 
 -- nothing is required yet
 required_none : (settings : Settings) (repo key : List ℕ) (paths : List (List ℕ)) → required settings repo key paths ≡ None
@@ -107,7 +109,7 @@ module _ (s : SetUp) (past : List Entry) (words : ℕ → Option Word) (e : Entr
 
   transfer_caused : (refusal : TransferRefusal) → e.kind ≡ ends_job j (TransferRefused refusal) → TransferCauseOf s.repos past s.number j refusal
   transfer_caused failures.NotHere is = not_here_found s past words e h own j is
-  transfer_caused (failures.NoSource reasons) is = no_source_found s past words e h own left.shut' j left.order reasons is
+  transfer_caused (failures.NoSource reasons) is = no_source_found s past words e h own left.shut' j left.order left.invalids reasons is
   transfer_caused failures.Busy is = busy_found s past words e h own j left.fill is
   transfer_caused failures.Closed is = closed_found s past words e h own left.shut' j is
   transfer_caused failures.Rejected is = rejected_found s past words e h own j run left.fit is
@@ -144,6 +146,7 @@ module _ (run : Run) (repos : Each IsSetUp run.repos) (left : (r : ℕ) (past : 
     shut' = l.shut';
     orders = orders_told (set_up run r) past (own_past run repos r past h);
     order = sources_in_order (set_up run r) past (own_past run repos r past h);
+    invalids = invalids_fit run repos past h;
   }
 
   entry_caused : (past : List Entry) (e : Entry) → RunPast (set_up run) past → RunStep (set_up run) past e → IsCaused run.repos past e

@@ -22,7 +22,7 @@ use Rattle.p2p_wire.specs.declared.message.Message.TheVariants.{Failure, Get, In
 use Rattle.p2p_wire.specs.Messages.{message_of}
 use Rattle.run_model.specs.Said.{Says, CloseIt}
 use Rattle.run_model.specs.Frames.{says}
-use Rattle.run_model.specs.Causes.{Answers, ClosedWith, FellShort, SourceCauseOf, is_failure}
+use Rattle.run_model.specs.Causes.{Answers, ClosedWith, FellShort, Hears, is_failure}
 use Rattle.node_model.specs.SetUp.{SetUp}
 use Rattle.run_model.specs.States.{rows_at, works}
 use Rattle.node_model.specs.Sessions.{line_in}
@@ -38,6 +38,7 @@ use Rattle.race_core.proofs.TalkFacts.{Fits}
 use Rattle.race_core.proofs.WorkFits.{step_runs, works_fit}
 use Rattle.race_core.proofs.ClientCounts.{LastIs}
 use Rattle.race_core.proofs.EndReasons.{Reason, ShutOn, kind_reason}
+use Rattle.race_core.proofs.CopiesInPlace.{copies_in_place}
 use Rattle.race_core.proofs.Carried.{AddsWord, Causes, kind_carries}
 use Rattle.race_core.proofs.Refusals.{answers_grow, answers_now, hears_grows, stepped_own, target_in, target_is, took_peer}
 use Rattle.race_core.proofs.Speaks.{hears}
@@ -56,6 +57,13 @@ ShutTold s past e = (w : Work) (b : Steps s past e w) (z : ShutOn (rows_at past 
 abbrev pub ShutsTold : SetUp → List Entry → Type 0
 ShutsTold s past = Always (ShutTold s) past
 
+-- why a peer gave a get nothing, as the get's own entries tell
+abbrev pub SourceToldOf : List Entry → ℕ → ℕ → List ℕ → ℕ → SourceCause → Type 0
+SourceToldOf past r j key peer sources.Closed = ClosedWith past r j peer
+SourceToldOf past r j key peer sources.Wrong = (h : Hears past r j peer (Says Valid)) × (list_any (says is_failure) h.entry.sent ≡ true)
+SourceToldOf past r j key peer sources.Absent = (file : List ℕ) × Answers past r j peer (Says (Get 0 file key)) (Says Invalid)
+SourceToldOf past r j key peer sources.Invalid = (start : ℕ) × (file : List ℕ) × (start ≢ 0) × Answers past r j peer (Says (Get start file key)) (Says Invalid)
+
 -- ---- more entries change nothing
 
 module _ (r : ℕ) (e : Entry) (past : List Entry) (j : Running) where
@@ -66,13 +74,13 @@ module _ (r : ℕ) (e : Entry) (past : List Entry) (j : Running) where
   short_grows : (peer : ℕ) (key : List ℕ) → FellShort past r j.number peer key → FellShort (e ∷ past) r j.number peer key
   short_grows peer key x = record { entry = x.entry; before = x.before; occurs = inr x.occurs; own = x.own; closes = x.closes; place = x.place; short = x.short; why' = x.why' }
 
-  source_grows : (key : List ℕ) (peer : ℕ) (cause : SourceCause) → SourceCauseOf past r j.number key peer cause → SourceCauseOf (e ∷ past) r j.number key peer cause
+  source_grows : (key : List ℕ) (peer : ℕ) (cause : SourceCause) → SourceToldOf past r j.number key peer cause → SourceToldOf (e ∷ past) r j.number key peer cause
   source_grows key peer sources.Closed x = closed_grows peer x
   source_grows key peer sources.Wrong x = (record { entry = x.0.entry; before = x.0.before; occurs = inr x.0.occurs; own = x.0.own; f = x.0.f; takes_it = x.0.takes_it; peer_is = x.0.peer_is; down = x.0.down; says = x.0.says }, x.1)
   source_grows key peer sources.Absent x = (x.0, answers_grow r e past j peer (Says (Get 0 x.0 key)) (Says Invalid) x.1)
   source_grows key peer sources.Invalid x = (x.0, x.1, x.2, answers_grow r e past j peer (Says (Get x.0 x.1 key)) (Says Invalid) x.3)
 
-  sources_grow : (key : List ℕ) (xs : List SourceFailure) → Each (λ x. SourceCauseOf past r j.number key x.repo x.cause) xs → Each (λ x. SourceCauseOf (e ∷ past) r j.number key x.repo x.cause) xs
+  sources_grow : (key : List ℕ) (xs : List SourceFailure) → Each (λ x. SourceToldOf past r j.number key x.repo x.cause) xs → Each (λ x. SourceToldOf (e ∷ past) r j.number key x.repo x.cause) xs
   sources_grow key [] a = tt
   sources_grow key (x ∷ xs) a = (source_grows key x.repo x.cause a.0, sources_grow key xs a.1)
 
@@ -80,7 +88,7 @@ module _ (r : ℕ) (e : Entry) (past : List Entry) (j : Running) where
 
 abbrev pub ShutOutcome : ℕ → List Entry → Running → Outcome → Type 0
 ShutOutcome r past j (Refused (refusals.Lost ordered)) = ClosedWith past r j.number (target_in r j)
-ShutOutcome r past j (TransferRefused failures.Closed) = (peer : ℕ) × (ClosedWith past r j.number peer ⊎ FellShort past r j.number peer j.what.key)
+ShutOutcome r past j (TransferRefused failures.Closed) = (peer : ℕ) × (j.what.peer ≡ Some peer) × (ClosedWith past r j.number peer ⊎ FellShort past r j.number peer j.what.key)
 ShutOutcome r past j o = Unit {0}
 
 abbrev pub ShutStands : ℕ → List Entry → Running → Phase → Type 0
@@ -89,16 +97,16 @@ ShutStands r past j phase = Unit {0}
 
 shut_grows : (r : ℕ) (e : Entry) (past : List Entry) (j : Running) (phase : Phase) → ShutStands r past j phase → ShutStands r (e ∷ past) j phase
 shut_grows r e past j (Ends (Refused (refusals.Lost ordered))) x = closed_grows r e past j (target_in r j) x
-shut_grows r e past j (Ends (TransferRefused failures.Closed)) x = (x.0, elim (x.1) [ inl a ↦ inl (closed_grows r e past j x.0 a) | inr a ↦ inr (short_grows r e past j x.0 j.what.key a) ])
+shut_grows r e past j (Ends (TransferRefused failures.Closed)) x = (x.0, x.1, elim (x.2) [ inl a ↦ inl (closed_grows r e past j x.0 a) | inr a ↦ inr (short_grows r e past j x.0 j.what.key a) ])
 shut_grows r e past j phase x = tt
 
-shut_now : (s : SetUp) (p : List Entry) (e : Entry) (x : Work) (b : Steps s p e x) → ShutTold s p e → (phase : Phase) → Reason (rows_at p s.number) s.number b.by.w e e.kind phase → ShutStands s.number (e ∷ p) (running b.by.w) phase
-shut_now s p e x b told (Ends (Refused (refusals.Lost ordered))) z = elim (told x b z.0) [
+shut_now : (s : SetUp) (p : List Entry) (e : Entry) → OwnRun s p → (x : Work) (b : Steps s p e x) → ShutTold s p e → (phase : Phase) → Reason (rows_at p s.number) s.number b.by.w e e.kind phase → ShutStands s.number (e ∷ p) (running b.by.w) phase
+shut_now s p e run x b told (Ends (Refused (refusals.Lost ordered))) z = elim (told x b z.0) [
   | inl closed ↦ subst (ClosedWith (e ∷ p) s.number b.by.w.number) (sym (target_is s.number b.by.w ∙ z.2)) closed
   | inr y ↦ absurd (let both : Puts ≡ Drops = sym y.0 ∙ z.1 in cc)
 ]
-shut_now s p e x b told (Ends (TransferRefused failures.Closed)) z = (z.0.peer, elim (told x b z.0) [ inl closed ↦ inl closed | inr y ↦ inr y.1 ])
-shut_now s p e x b told phase z = tt
+shut_now s p e run x b told (Ends (TransferRefused failures.Closed)) z = (z.0.peer, copies_in_place s p run b.by.w (step_runs s p e x b) z.1 z.0.peer z.0.on, elim (told x b z.0) [ inl closed ↦ inl closed | inr y ↦ inr y.1 ])
+shut_now s p e run x b told phase z = tt
 
 same_job : (s : SetUp) (p : List Entry) (e : Entry) (x : Work) (b : Steps s p e x) → running x ≡ running b.by.w
 same_job s p e x b = ap running b.work_is ∙ kind_kept (rows_at p s.number) s.number b.by.w e e.kind
@@ -116,7 +124,7 @@ shut_stands s past run told w m = invariant s (λ p x. ShutsTold s p → ShutSta
         let y = work_kind (rows_at p s.number) s.number v e e.kind in
         let new : ShutStands s.number (e ∷ p) (running v) y.phase = elim (kind_reason (rows_at p s.number) s.number v e e.kind) [
           | inl same ↦ subst (ShutStands s.number (e ∷ p) (running v)) (sym same) (shut_grows s.number e p (running v) v.phase (was v (step_runs s p e x b) told.1))
-          | inr reason ↦ shut_now s p e x b told.0 y.phase reason
+          | inr reason ↦ shut_now s p e run.1 x b told.0 y.phase reason
         ] in
         subst (λ (j : Running). ShutStands s.number (e ∷ p) j x.phase) (sym (same_job s p e x b)) (subst (λ (z : Work). ShutStands s.number (e ∷ p) (running v) z.phase) (sym b.work_is) new)
 
@@ -178,7 +186,7 @@ word_taken_by t m p start size at part e = go (end_with t p).opened (subst (λ (
 
 -- the causes of a get's peers
 abbrev pub SourcesTold : ℕ → List Entry → Running → List SourceFailure → Type 0
-SourcesTold r past j xs = Each (λ x. SourceCauseOf past r j.number j.what.key x.repo x.cause) xs
+SourcesTold r past j xs = Each (λ x. SourceToldOf past r j.number j.what.key x.repo x.cause) xs
 
 each_more : (P : SourceFailure → Type 0) (xs : List SourceFailure) (x : SourceFailure) → Each P xs → P x → Each P (xs ++ x ∷ [])
 each_more P [] x a p = (p, tt)
@@ -191,10 +199,10 @@ module _ (s : SetUp) (p : List Entry) (e : Entry) (h : OwnPast s (e ∷ p)) (is 
   before : OwnPast s p
   before = earlier s p e h
 
-  invalid_cause : (start peer : ℕ) → Answers (e ∷ p) s.number v.number peer (Says (Get start [] v.what.key)) (Says Invalid) → SourceCauseOf (e ∷ p) s.number v.number v.what.key peer (if start == 0 then sources.Absent else sources.Invalid)
+  invalid_cause : (start peer : ℕ) → Answers (e ∷ p) s.number v.number peer (Says (Get start [] v.what.key)) (Says Invalid) → SourceToldOf (e ∷ p) s.number v.number v.what.key peer (if start == 0 then sources.Absent else sources.Invalid)
   invalid_cause start peer a = go (start == 0) refl
     where
-      go : (c : Bool) → (start == 0) ≡ c → SourceCauseOf (e ∷ p) s.number v.number v.what.key peer (if c then sources.Absent else sources.Invalid)
+      go : (c : Bool) → (start == 0) ≡ c → SourceToldOf (e ∷ p) s.number v.number v.what.key peer (if c then sources.Absent else sources.Invalid)
       go true at = ([], subst (λ n. Answers (e ∷ p) s.number v.number peer (Says (Get n [] v.what.key)) (Says Invalid)) (zero_is start at) a)
         where
           zero_is : (n : ℕ) → (n == 0) ≡ true → n ≡ 0
@@ -204,19 +212,19 @@ module _ (s : SetUp) (p : List Entry) (e : Entry) (h : OwnPast s (e ∷ p)) (is 
           not_zero : (n : ℕ) → (n == 0) ≡ false → n ≢ 0
           not_zero n e same = absurd (grind (arith, nat_tests))
 
-  word_cause : (z : AddsWord v e x) → SourceCauseOf (e ∷ p) s.number v.number v.what.key z.peer (source_cause z.start (taken_message e.taken))
+  word_cause : (z : AddsWord v e x) → SourceToldOf (e ∷ p) s.number v.number v.what.key z.peer (source_cause z.start (taken_message e.taken))
   word_cause z =
       let part = only_word v.part z.peer z.start z.size (subst (Fits v.part) z.phase_is (works_fit s p before.run v (step_runs s p e x b))) in
       let sent : b.by.made.sent ≡ z.says.f ∷ z.says.rest = sym (ap (λ (y : Entry). y.sent) b.by.is) ∙ z.says.sent_is in
       let w = word_taken_by (turn_at s p e b.by) b.by.made z.peer z.start z.size z.phase_is part b.by.does z.says.f z.says.rest sent z.says.told in
       let took : e.taken ≡ Some w.f = ap (λ (y : Entry). y.taken) b.by.is ∙ w.takes_it in
       let on : partner v.what.peer v.phase ≡ Some z.peer = ap (partner v.what.peer) z.phase_is in
-      subst (λ o. SourceCauseOf (e ∷ p) s.number v.number v.what.key z.peer (source_cause z.start (taken_message o))) (sym took) (elim (w.word) [
-        | inl valid ↦ subst (λ m. SourceCauseOf (e ∷ p) s.number v.number v.what.key z.peer (source_cause z.start m)) (sym valid) (valid_now w.f took valid on)
-        | inr invalid ↦ subst (λ m. SourceCauseOf (e ∷ p) s.number v.number v.what.key z.peer (source_cause z.start m)) (sym invalid) (invalid_cause z.start z.peer (asked_now w.f took invalid on))
+      subst (λ o. SourceToldOf (e ∷ p) s.number v.number v.what.key z.peer (source_cause z.start (taken_message o))) (sym took) (elim (w.word) [
+        | inl valid ↦ subst (λ m. SourceToldOf (e ∷ p) s.number v.number v.what.key z.peer (source_cause z.start m)) (sym valid) (valid_now w.f took valid on)
+        | inr invalid ↦ subst (λ m. SourceToldOf (e ∷ p) s.number v.number v.what.key z.peer (source_cause z.start m)) (sym invalid) (invalid_cause z.start z.peer (asked_now w.f took invalid on))
       ])
     where
-      valid_now : (f : FrameView) → e.taken ≡ Some f → line_in f.body ≡ Some Valid → partner v.what.peer v.phase ≡ Some z.peer → SourceCauseOf (e ∷ p) s.number v.number v.what.key z.peer sources.Wrong
+      valid_now : (f : FrameView) → e.taken ≡ Some f → line_in f.body ≡ Some Valid → partner v.what.peer v.phase ≡ Some z.peer → SourceToldOf (e ∷ p) s.number v.number v.what.key z.peer sources.Wrong
       valid_now f took valid on =
           let first : list_any (says is_failure) e.sent ≡ true = subst (λ fs. list_any (says is_failure) fs ≡ true) (sym z.says.sent_is) (yes_first (says is_failure z.says.f) (list_any (says is_failure) z.says.rest) (ap is_failure (said_is z.says.f.body Failure z.says.told))) in
           (record { entry = e; before = p; occurs = inl (refl, refl); own = stepped_own s p e b.by is; f = f; takes_it = took; peer_is = took_peer s p e b.by is f took z.peer on; down = (hears s p e b.by f took).1; says = said_is f.body Valid valid }, first)
@@ -234,10 +242,10 @@ module _ (s : SetUp) (p : List Entry) (e : Entry) (h : OwnPast s (e ∷ p)) (is 
   causes_now : ShutTold s p e → SourcesTold s.number p (running v) v.causes → Causes (rows_at p s.number) v e x → SourcesTold s.number (e ∷ p) (running v) x.causes
   causes_now told was (inl same) = subst (SourcesTold s.number (e ∷ p) (running v)) (sym same) (sources_grow s.number e p (running v) v.what.key v.causes was)
   causes_now told was (inr (inl a)) = subst (SourcesTold s.number (e ∷ p) (running v)) (sym a.list)
-      (each_more (λ y. SourceCauseOf (e ∷ p) s.number v.number v.what.key y.repo y.cause) v.causes (record { repo = a.peer; cause = a.cause }) (sources_grow s.number e p (running v) v.what.key v.causes was)
-      (subst (SourceCauseOf (e ∷ p) s.number v.number v.what.key a.peer) (sym a.why.0) (subst (ClosedWith (e ∷ p) s.number v.number) a.why.2 (elim (told x b a.why.1) [ inl closed ↦ closed | inr y ↦ absurd (let both : Puts ≡ Gets = sym y.0 ∙ a.gets in cc) ]))))
+      (each_more (λ y. SourceToldOf (e ∷ p) s.number v.number v.what.key y.repo y.cause) v.causes (record { repo = a.peer; cause = a.cause }) (sources_grow s.number e p (running v) v.what.key v.causes was)
+      (subst (SourceToldOf (e ∷ p) s.number v.number v.what.key a.peer) (sym a.why.0) (subst (ClosedWith (e ∷ p) s.number v.number) a.why.2 (elim (told x b a.why.1) [ inl closed ↦ closed | inr y ↦ absurd (let both : Puts ≡ Gets = sym y.0 ∙ a.gets in cc) ]))))
   causes_now told was (inr (inr a)) = subst (SourcesTold s.number (e ∷ p) (running v)) (sym a.list)
-      (each_more (λ y. SourceCauseOf (e ∷ p) s.number v.number v.what.key y.repo y.cause) v.causes (record { repo = a.peer; cause = source_cause a.start (taken_message e.taken) }) (sources_grow s.number e p (running v) v.what.key v.causes was) (word_cause a))
+      (each_more (λ y. SourceToldOf (e ∷ p) s.number v.number v.what.key y.repo y.cause) v.causes (record { repo = a.peer; cause = source_cause a.start (taken_message e.taken) }) (sources_grow s.number e p (running v) v.what.key v.causes was) (word_cause a))
 
 -- **each cause of a get's peers stands in its entries**
 pub sources_told : (s : SetUp) (past : List Entry) → OwnPast s past → ShutsTold s past → (w : Work) → Member w (works past s.number) → SourcesTold s.number past (running w) w.causes

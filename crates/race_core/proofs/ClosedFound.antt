@@ -1,5 +1,5 @@
 -- The causes of Lost, Closed and NoSource, where each connection that is found closed was closed by its peer or by an entry here.
-use Rattle.std.proofs.Common.{◌≡◌, ℕ, zero, suc, Bool, List, [], ◌∷◌, Option, Some, None, inl, inr, refl, sym, ap, ◌∙◌, subst}
+use Rattle.std.proofs.Common.{◌≡◌, ℕ, zero, suc, Bool, true, false, List, [], ◌∷◌, Option, Some, None, inl, inr, refl, sym, ap, ◌∙◌, subst}
 use Rattle.std.specs.Prelude.{◌&&◌, length, map, slice_get, take}
 use Rattle.std.specs.List.{list_any}
 use Rattle.annex_base.specs.Lists.{Each, Member}
@@ -10,14 +10,20 @@ use Rattle.run_data.specs.declared.entry.Entry.{Entry}
 use Rattle.run_data.specs.declared.entry.EntryKind.TheVariants.{End as ends_job}
 use Rattle.run_data.specs.declared.job.Outcome.TheVariants.{Refused, TransferRefused}
 use Rattle.run_data.specs.declared.job.DropRefusal.TheVariants as refusals
+use Rattle.run_data.specs.declared.entry.FrameView.{FrameView}
+use Rattle.run_data.specs.declared.job.SourceCause.{SourceCause}
+use Rattle.run_data.specs.declared.job.SourceCause.TheVariants as sources
 use Rattle.run_data.specs.declared.job.SourceFailure.{SourceFailure}
+use Rattle.p2p_wire.specs.declared.message.Message.TheVariants.{Get, Invalid}
 use Rattle.run_data.specs.declared.job.TransferRefusal.TheVariants as failures
-use Rattle.run_model.specs.Frames.{is_job}
-use Rattle.run_model.specs.Causes.{FoundNoSource, SourceCauseOf, WasClosed, WasLost, is_order, sources_of}
+use Rattle.run_model.specs.Past.{Occurs, is_of}
+use Rattle.run_model.specs.Said.{Says, message_in}
+use Rattle.run_model.specs.Frames.{Flying, is_job, last_request, said_of, up_of, way_of}
+use Rattle.run_model.specs.Causes.{Answers, FoundNoSource, SourceCauseOf, TookGet, WasClosed, WasLost, is_order, sources_of}
 use Rattle.node_model.specs.SetUp.{SetUp}
 use Rattle.node_model.specs.Jobs
 use Rattle.node_model.specs.Jobs.{AsksTime, Denied, Drops, Ends, Fresh, Late, Next, Orders, Phase, Removed, Work, partner, running, side_of}
-use Rattle.run_model.specs.States.{works}
+use Rattle.run_model.specs.States.{content, works}
 use Rattle.node_model.specs.Knows.{obeyed, proof_by}
 use Rattle.node_model.specs.JobStep.{Turn}
 use Rattle.node_model.specs.DropStep
@@ -35,7 +41,9 @@ use Rattle.race_core.proofs.NotClosed.{AtRest, NotKind, rest_not}
 use Rattle.race_core.proofs.Refusals.{Stands, side_in, side_is}
 use Rattle.race_core.proofs.Standing.{stands}
 use Rattle.race_core.proofs.RefusalCauses.{DropSettled, Ending, drop_settled, ending, job_of, transfer_settled}
-use Rattle.race_core.proofs.ClosedCauses.{ShutStands, ShutsTold, shut_stands, sources_told}
+use Rattle.race_core.proofs.ClosedCauses.{ShutStands, ShutsTold, SourceToldOf, shut_stands, sources_told}
+use Rattle.race_core.proofs.AnswerCauses.{own_of}
+use Rattle.race_core.proofs.Contents.{absent_row}
 use Rattle.race_core.proofs.PhaseFacts.{only_time, only_orders}
 
 -- **what is left of Lost**: it says that the job ordered exactly where an order entry of it stands
@@ -45,6 +53,26 @@ OrdersTold s past = (w : Work) → Member w (works past s.number) → (ordered :
 -- **what is left of NoSource**: a get has the causes of the first of its peers, in order
 abbrev pub SourcesInOrder : SetUp → List Entry → Type 0
 SourcesInOrder s past = (w : Work) → Member w (works past s.number) → w.phase ≡ Next → map (λ x. x.repo) w.causes ≡ take (length w.causes) (sources_of s.number (length s.repos) w.what.peer)
+
+-- **what is left of a source's absent and invalid**: INVALID answers a GET by whose entry the content was absent, or shorter than the place asked for
+abbrev pub InvalidsFit : List Entry → Type 0
+InvalidsFit past = (r : ℕ) (x : Entry) (before : List Entry) → Occurs past x before → is_of r x ≡ true → (f : FrameView) → x.taken ≡ Some f → f.up ≡ false → message_in f.body ≡ Says Invalid
+    → (asked : Flying) → last_request before (up_of (way_of r f)) ≡ Some asked → (start : ℕ) (file key : List ℕ) → said_of asked ≡ Says (Get start file key) → TookGet before f.peer start key asked
+
+took_get : (past : List Entry) → InvalidsFit past → (r j peer start : ℕ) (file key : List ℕ) (a : Answers past r j peer (Says (Get start file key)) (Says Invalid)) → TookGet a.hears.before peer start key a.request
+took_get past fit r j peer start file key a =
+    let x = a.hears in
+    subst (λ p. TookGet x.before p start key a.request) x.peer_is (fit r x.entry x.before x.occurs (own_of r j x.entry x.own) x.f x.takes_it x.down x.says a.request a.last start file key a.asked_is)
+
+source_found : (past : List Entry) → InvalidsFit past → (r j : ℕ) (key : List ℕ) (peer : ℕ) (cause : SourceCause) → SourceToldOf past r j key peer cause → SourceCauseOf past r j key peer cause
+source_found past fit r j key peer sources.Closed x = x
+source_found past fit r j key peer sources.Wrong x = x
+source_found past fit r j key peer sources.Absent x = let t = took_get past fit r j peer 0 x.0 key x.1 in (x.0, x.1, t, absent_row t.before peer key t.short)
+source_found past fit r j key peer sources.Invalid x = (x.0, x.1, x.2, x.3, took_get past fit r j peer x.0 x.1 key x.3)
+
+sources_found : (past : List Entry) → InvalidsFit past → (r j : ℕ) (key : List ℕ) (xs : List SourceFailure) → Each (λ x. SourceToldOf past r j key x.repo x.cause) xs → Each (λ x. SourceCauseOf past r j key x.repo x.cause) xs
+sources_found past fit r j key [] a = tt
+sources_found past fit r j key (x ∷ xs) a = (source_found past fit r j key x.repo x.cause a.0, sources_found past fit r j key xs a.1)
 
 take_all : {X : Type 0} (xs : List X) (n : ℕ) → slice_get xs n ≡ None → take n xs ≡ xs
 take_all [] zero e = refl
@@ -83,8 +111,8 @@ module _ (s : SetUp) (past : List Entry) (words : ℕ → Option Word) (e : Entr
           apart (Some m) c e = cc
 
   -- **NoSource**
-  pub no_source_found : SourcesInOrder s past → (reasons : List SourceFailure) → e.kind ≡ ends_job j (TransferRefused (failures.NoSource reasons)) → FoundNoSource s.repos past r j reasons
-  no_source_found order reasons is =
+  pub no_source_found : SourcesInOrder s past → InvalidsFit past → (reasons : List SourceFailure) → e.kind ≡ ends_job j (TransferRefused (failures.NoSource reasons)) → FoundNoSource s.repos past r j reasons
+  no_source_found order fit reasons is =
       let x = ending s past words e own j (TransferRefused (failures.NoSource reasons)) is in
       let w = x.by.w in
       let t = turn_at s past e x.by in
@@ -93,7 +121,7 @@ module _ (s : SetUp) (past : List Entry) (words : ℕ → Option Word) (e : Entr
           d = job_of s past h w x.runs;
           all = ap (map (λ (z : SourceFailure). z.repo)) y.2 ∙ order w x.runs y.0
               ∙ take_all (sources_of r (length s.repos) w.what.peer) (length w.causes) (ap (λ xs. slice_get xs (length w.causes)) (sym (sources_same t w.what.peer)) ∙ y.1);
-          causes = subst (Each (λ z. SourceCauseOf past r w.number w.what.key z.repo z.cause)) (sym y.2) (sources_told s past h told w x.runs);
+          causes = subst (Each (λ z. SourceCauseOf past r w.number w.what.key z.repo z.cause)) (sym y.2) (sources_found past fit r w.number w.what.key w.causes (sources_told s past h told w x.runs));
         }
         | inr y ↦ elim (transfer_settled t past (failures.NoSource reasons) x.by.made.taken (stands s past h w x.runs) y) [ inl z ↦ absurd z | inr z ↦ absurd (cc) ]
       ])
@@ -145,7 +173,7 @@ module _ (s : SetUp) (past : List Entry) (words : ℕ → Option Word) (e : Entr
           go : (phase : Phase) → w.phase ≡ phase → TransferRefused failures.Closed ≡ outcome_of t phase → WasClosed past r w.number
           go (Ends (TransferRefused failures.Closed)) at o =
               let z = subst (ShutStands r past (running w)) at (shut_stands s past h.run told w x.runs) in
-              record { d = job_of s past h w x.runs; peer = z.0; closed = z.1 }
+              record { d = job_of s past h w x.runs; peer = z.0; peer_is = z.1; closed = z.2 }
           go (Ends q) at o = absurd (cc)
           go Removed at o = absurd (by_side (side_of t.w) o)
           go Denied at o = absurd (cc)

@@ -203,7 +203,7 @@ later r past e a key same none g = record {
   last = none g.f.epoch ∙ g.last;
 }
 
-plus_none : (x y : ℕ) → y ≡ 0 → x + y ≡ x
+pub plus_none : (x y : ℕ) → y ≡ 0 → x + y ≡ x
 plus_none x y z = omega (arith, z)
 
 off_hits : (n : ℕ) (f : FrameView) → is_request (message_in f.body) ≡ false → one_if (hits is_request n (Some f)) ≡ 0
@@ -213,7 +213,7 @@ off_hits n f e = ap (λ b. one_if ((f.epoch == n) && b)) e ∙ go (f.epoch == n)
     go true = refl
     go false = refl
 
-on_hits : (f : FrameView) → is_request (message_in f.body) ≡ true → one_if (hits is_request f.epoch (Some f)) ≡ 1
+pub on_hits : (f : FrameView) → is_request (message_in f.body) ≡ true → one_if (hits is_request f.epoch (Some f)) ≡ 1
 on_hits f e = let self : (f.epoch == f.epoch) ≡ true = grind arith in rw (self, e) refl
 
 module _ (s : SetUp) (past : List Entry) (e : Entry) (a : EndName) (is : is_of s.number e ≡ true)

@@ -3,6 +3,8 @@ pub mod Knowing
 pub mod Own
 pub mod ServerAnswers
 pub mod Ways
+pub mod Branches
+pub mod LogFiles
 pub mod LogLemmas
 pub mod OwnPasts
 pub mod Reading
@@ -35,10 +37,15 @@ pub mod EndMoves
 pub mod NewSessions
 pub mod Guarding
 pub mod Filling
+pub mod Giving
+pub mod InvalidsTurn
+pub mod InvalidsFit
+pub mod Contents
 pub mod TurnFits
 pub mod InTurn
 pub mod SessionSays
 pub mod SessionAnswers
+pub mod NumbersRead
 pub mod SessionTimes
 pub mod SessionReads
 pub mod JobEnds
@@ -74,7 +81,9 @@ pub mod GetsBegin
 pub mod DropReads
 pub mod JobOpens
 pub mod PartnerCloses
-pub mod GetSpeaks
+pub mod TransfersSpeak
+pub mod JobMoves
+pub mod CopiesInPlace
 pub mod OwnTried
 pub mod OpenEnds
 pub mod SaidByClock

@@ -7,12 +7,11 @@ use Rattle.log_lines.specs.declared.entry.LogKind.{LogKind}
 use Rattle.log_lines.specs.declared.entry.LogKind.TheVariants as kinds
 use Rattle.log_lines.specs.Newest.{newest, ReadAlike}
 use Rattle.log_lines.proofs.NewestLemmas.{alike_by_members}
-use Rattle.log_lines.proofs.CompactLemmas.{member_append, append_first, append_second, compacted_alike, alike_both}
+use Rattle.annex_base.proofs.Lists.{Member-append_cases, Member-append_left, Member-append_right}
+use Rattle.log_lines.proofs.CompactLemmas.{compacted_alike, alike_both}
 use Rattle.union_merge.specs.LineSet.{union}
 use Rattle.union_merge.specs.Branch.{Files, file_at, or_none, lines_at, with_file, merged_file}
-use Rattle.union_merge.proofs.SetLemmas.{Member-union, union-left, union-right}
-use Rattle.union_merge.proofs.BranchLemmas.{lines_at-with_file_same, lines_at-with_file_other}
-use Rattle.union_merge.proofs.MergeLemmas.{lines_at-merged_file_same, lines_at-merged_file_other}
+use Rattle.race_core.proofs.Branches.{in_both, merged_elsewhere, of_both, merged_there, set_elsewhere, set_there}
 use Rattle.hash_dirs.specs.LogPath.{location_path}
 use Rattle.log_lines.specs.Files.{file_name}
 use Rattle.trust_groups.specs.Settings.{settings}
@@ -23,7 +22,7 @@ use Rattle.run_data.specs.declared.entry.EntryKind.TheVariants.{Log, Compact}
 use Rattle.run_data.specs.declared.entry.LogFile.{LogFile}
 use Rattle.run_data.specs.declared.entry.LogFile.TheVariants.{Location, Of, Other}
 use Rattle.run_data.specs.Files.{file_path, kind_of}
-use Rattle.run_data.proofs.FileLemmas.{apart, one_kind}
+use Rattle.race_core.proofs.LogFiles.{apart, one_kind}
 use Rattle.node_model.specs.Files.{compact_lines}
 use Rattle.run_model.specs.Past.{is_of}
 use Rattle.run_model.specs.Logs.{added_by, ever, compact_file, branch_after, branch, kept, settings_of}
@@ -46,7 +45,7 @@ IsOf kind path = (file : LogFile) → file_path file ≡ path → (kind_of file 
 
 name_is_of : (kind : LogKind) → kind ≢ kinds.Location → IsOf kind (file_name kind)
 name_is_of kind other (Location key) is = absurd (apart key kind (sym is))
-name_is_of kind other (Of k) is = inl (ap Some (one_kind k kind other is))
+name_is_of kind other (Of k) is = inl (ap Some (one_kind k kind is))
 name_is_of kind other (Other name) is = inr refl
 
 location_is_of : (key : List ℕ) → IsOf kinds.Location (location_path key)
@@ -58,17 +57,17 @@ location_is_of key (Other name) is = inr refl
 
 union_alike : (kind : LogKind) (xs ys : Lines) → ReadAlike kind (union xs ys) (ys ++ xs)
 union_alike kind xs ys = alike_by_members kind (union xs ys) (ys ++ xs) (λ z. (
-  λ among. elim (Member-union z xs ys among) [ inl one ↦ append_second ys xs z one | inr other ↦ append_first ys xs z other ],
-  λ among. elim (member_append ys xs z among) [ inl other ↦ union-right z xs ys other | inr one ↦ union-left z xs ys one ],
+  λ among. elim (of_both z xs ys among) [ inl one ↦ Member-append_right ys xs z one | inr other ↦ Member-append_left ys xs z other ],
+  λ among. elim (Member-append_cases ys xs z among) [ inl other ↦ in_both z xs ys (inr other) | inr one ↦ in_both z xs ys (inl one) ],
 ))
 
 log_alike : (kind : LogKind) (path : List ℕ) (file : LogFile) (files : Files) (lines all : Lines) → ReadAlike kind (lines_at files path) all → ReadAlike kind (lines_at (merged_file files (file_path file) lines) path) (added_by path (Log file) lines ++ all)
 log_alike kind path file files lines all alike = elim (bytes_eq_tells (file_path file) path) [
   | inl same ↦ rw same.0
-      (ap (newest kind) (ap (λ p. lines_at (merged_file files p lines) path) same.1 ∙ lines_at-merged_file_same files path lines)
+      (ap (newest kind) (ap (λ p. lines_at (merged_file files p lines) path) same.1 ∙ merged_there files path lines)
       ∙ union_alike kind (lines_at files path) lines
       ∙ alike_both kind lines lines (lines_at files path) all refl alike)
-  | inr other ↦ rw other.0 (ap (newest kind) (lines_at-merged_file_other files (file_path file) path lines (λ same. other.1 (sym same))) ∙ alike)
+  | inr other ↦ rw other.0 (ap (newest kind) (merged_elsewhere files (file_path file) path lines (λ same. other.1 (sym same))) ∙ alike)
 ]
 
 lines_alike : (kind : LogKind) (of : Option LogKind) (lines : Lines) → (of ≡ Some kind) ⊎ (of ≡ None) → ReadAlike kind (compact_lines of lines) lines
@@ -80,10 +79,10 @@ compact_alike kind path file files None of found = refl
 compact_alike kind path file files (Some lines) of found =
     let less = compact_lines (kind_of file) lines in
     elim (bytes_eq_tells (file_path file) path) [
-      | inl same ↦ ap (newest kind) (ap (λ p. lines_at (with_file files p less) path) same.1 ∙ lines_at-with_file_same files path less)
+      | inl same ↦ ap (newest kind) (ap (λ p. lines_at (with_file files p less) path) same.1 ∙ set_there files path less)
           ∙ lines_alike kind (kind_of file) lines (of file same.1)
           ∙ ap (newest kind) (sym (ap (λ p. lines_at files p) (sym same.1) ∙ ap or_none found))
-      | inr other ↦ ap (newest kind) (lines_at-with_file_other files (file_path file) path less (λ same. other.1 (sym same)))
+      | inr other ↦ ap (newest kind) (set_elsewhere files (file_path file) path less (λ same. other.1 (sym same)))
     ]
 
 after_alike : (kind : LogKind) (path : List ℕ) (files : Files) (what : EntryKind) (lines all : Lines) → IsOf kind path → ReadAlike kind (lines_at files path) all → ReadAlike kind (lines_at (branch_after files what lines) path) (added_by path what lines ++ all)

@@ -2,9 +2,8 @@
 use Rattle.std.proofs.Common.{◌≡◌, ℕ, ◌+◌, ◌-◌, ◌/◌, ◌^◌, ◌<◌, ◌≤◌, Bool, true, false, List, Option, Some, None, refl, ap, subst, arith}
 use Rattle.std.specs.Prelude.{if◌then◌else◌, ◌&&◌, nat_lt, bytes_eq, is_none, option_and_then, option_map, codes}
 use Rattle.std.specs.Fmt.{decimal}
-use Rattle.std.specs.Str.Parse.{AllDigits, digits_value}
+use Rattle.std.specs.Str.Parse.{digits_value}
 use Rattle.std.proofs.lemmas.Bool.Decides.{nat_tests}
-use Rattle.std.proofs.lemmas.Str.Parse.{IsNumeralModel, numerals_by_value, tells_digits}
 use Rattle.std.proofs.lemmas.Fmt.{digits_decimal, digits_value-decimal}
 use Rattle.annex_base.specs.Lists.{Member}
 use Rattle.annex_key.specs.View.{first_fault}
@@ -15,7 +14,7 @@ use Rattle.run_data.specs.declared.entry.FrameText.TheVariants.{Opening, Closing
 use Rattle.p2p_wire.specs.declared.message.Message.{Message}
 use Rattle.p2p_wire.specs.declared.message.Message.TheVariants.{AuthSuccess, Version, CheckPresent, LockContent, UnlockContent, Remove, RemoveBefore, GetTimestamp, Timestamp, Get, Put, PutFrom, AlreadyHave, Data, Valid, Invalid, Success, Failure, Error}
 use Rattle.p2p_wire.specs.Messages.{alone, key_in, message_by, message_of, number_in, order_of, rest_in, text_in, text_of, then_in, with_file, with_key, with_number, with_one, word_in}
-use Rattle.p2p_wire.proofs.MessageFacts.{rest_reads, word_reads}
+use Rattle.race_core.proofs.NumbersRead.{numerals, rest_reads, word_reads}
 use Rattle.node_model.specs.SetUp.{SetUp}
 use Rattle.node_model.specs.Sessions.{line_in}
 use Rattle.run_model.specs.States.{state_of, works}
@@ -100,16 +99,13 @@ time_small (Line text) n e = subst TimeSmall e (short_cases TimeSmall text tt (b
 
 -- ---- an order
 
-own : IsNumeralModel (AllDigits 10) (digits_value 10)
-own = numerals_by_value (AllDigits 10) tells_digits
-
 -- whatever is read of an order with a deadline is that order
 abbrev IsBefore : ℕ → List ℕ → Option Message → Type 0
 IsBefore n key o = (x : Message) → o ≡ Some x → x ≡ RemoveBefore n key
 
 before_as : (n : ℕ) (key : List ℕ) → n < 2 ^ 64 → IsBefore n key (message_of (text_of (RemoveBefore n key)))
 before_as n key small = short_cases (IsBefore n key) (text_of (RemoveBefore n key)) (λ x e. absurd (cc))
-    (rw (rest_reads (decimal n) key (digits_decimal own n small), word_reads (decimal n) key (digits_decimal own n small), digits_value-decimal own n small)
+    (rw (rest_reads (decimal n) key (digits_decimal numerals n small), word_reads (decimal n) key (digits_decimal numerals n small), digits_value-decimal numerals n small)
     (go (nat_lt n (2 ^ 63) && bytes_eq (decimal n) (decimal n)) (is_none (first_fault key))))
   where
     go : (a b : Bool) → IsBefore n key (option_and_then (λ k. option_map (RemoveBefore k) (if b then Some key else None)) (if a then Some n else None))

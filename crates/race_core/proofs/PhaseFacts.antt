@@ -88,7 +88,7 @@ only_puts Gets peer start at left f = absurd f
 only_puts Puts peer start at left f = refl
 only_puts Drops peer start at left f = absurd f
 
-only_answer : (part : Part) (peer start : ℕ) → Fits part (PutsAnswer peer start) → part ≡ Puts
+pub only_answer : (part : Part) (peer start : ℕ) → Fits part (PutsAnswer peer start) → part ≡ Puts
 only_answer Gets peer start f = absurd f
 only_answer Puts peer start f = refl
 only_answer Drops peer start f = absurd f

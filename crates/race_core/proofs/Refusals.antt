@@ -134,8 +134,8 @@ DropStands r past j (refusals.Lost ordered) = Unit {0}
 DropStands r past j refusal = ⊥
 
 abbrev pub TransferStands : ℕ → List Entry → Running → TransferRefusal → Type 0
-TransferStands r past j failures.Busy = (peer : ℕ) × Answers past r j.number peer (Says (Put [] j.what.key)) (Says (Error (codes "busy")))
-TransferStands r past j failures.Rejected = (peer : ℕ) × (asked : Message) × ((asked ≡ Valid) ⊎ (asked ≡ Put [] j.what.key)) × Answers past r j.number peer (Says asked) (Says Failure)
+TransferStands r past j failures.Busy = (peer : ℕ) × (j.what.peer ≡ Some peer) × Answers past r j.number peer (Says (Put [] j.what.key)) (Says (Error (codes "busy")))
+TransferStands r past j failures.Rejected = (peer : ℕ) × (j.what.peer ≡ Some peer) × (asked : Message) × ((asked ≡ Valid) ⊎ (asked ≡ Put [] j.what.key)) × Answers past r j.number peer (Says asked) (Says Failure)
 TransferStands r past j failures.StoreFault = FailedCall past r j.number
 TransferStands r past j failures.Closed = Unit {0}
 TransferStands r past j refusal = ⊥
@@ -183,8 +183,8 @@ module _ (r : ℕ) (e : Entry) (past : List Entry) (j : Running) where
   drop_grows refusal x = absurd x
 
   transfer_grows : (refusal : TransferRefusal) → TransferStands r past j refusal → TransferStands r (e ∷ past) j refusal
-  transfer_grows failures.Busy x = (x.0, answers_grow x.0 (Says (Put [] j.what.key)) (Says (Error (codes "busy"))) x.1)
-  transfer_grows failures.Rejected x = (x.0, x.1, x.2, answers_grow x.0 (Says x.1) (Says Failure) x.3)
+  transfer_grows failures.Busy x = (x.0, x.1, answers_grow x.0 (Says (Put [] j.what.key)) (Says (Error (codes "busy"))) x.2)
+  transfer_grows failures.Rejected x = (x.0, x.1, x.2, x.3, answers_grow x.0 (Says x.2) (Says Failure) x.4)
   transfer_grows failures.StoreFault x = failed_grows x
   transfer_grows failures.Closed x = tt
   transfer_grows refusal x = absurd x

@@ -1,26 +1,23 @@
 -- **Each refused job of a run has its cause in it**: no premise is left.
-use Rattle.std.proofs.Common.{◌≡◌, ℕ, ◌+◌, ◌<◌, ◌≤◌, Bool, true, false, List, [], ◌∷◌, Option, Some, None, ◌⊎◌, inl, inr, refl, sym, ap, ◌∙◌, subst, arith}
-use Rattle.std.specs.Prelude.{if◌then◌else◌, ◌==◌, nat_le}
+use Rattle.std.proofs.Common.{◌≡◌, ℕ, ◌+◌, ◌≤◌, Bool, true, false, List, [], ◌∷◌, Some, None, ◌⊎◌, inl, inr, refl, sym, ap, ◌∙◌, subst, arith}
+use Rattle.std.specs.Prelude.{◌==◌, nat_le}
 use Rattle.std.specs.List.{list_any}
 use Rattle.std.proofs.lemmas.Bool.{true≢false}
 use Rattle.std.proofs.lemmas.Bool.Decides.{nat_tests}
 use Rattle.annex_base.specs.Lists.{Each, Member}
 use Rattle.run_data.specs.declared.entry.Entry.{Entry}
-use Rattle.run_data.specs.declared.entry.EntryKind.{EntryKind}
-use Rattle.run_data.specs.declared.entry.EntryKind.TheVariants.{Gain, Gone}
 use Rattle.run_data.specs.declared.entry.FrameView.{FrameView}
 use Rattle.run_data.specs.declared.run.Run.{Run}
 use Rattle.run_data.specs.Repos.{IsSetUp}
 use Rattle.run_model.specs.Past.{is_of}
 use Rattle.run_model.specs.Said.{is_close, message_in}
 use Rattle.run_model.specs.Drops.{shuts}
-use Rattle.run_model.specs.Causes.{ClosedWith, FellShort, HasCauses, IsBelow, size_after, size_of}
+use Rattle.run_model.specs.Causes.{ClosedWith, FellShort, HasCauses}
 use Rattle.run_model.specs.Frames.{is_job}
 use Rattle.p2p_wire.specs.declared.message.Message.TheVariants.{PutFrom}
 use Rattle.node_model.specs.SetUp.{SetUp}
 use Rattle.run_model.specs.States.{end_at, content, rows_at}
-use Rattle.node_model.specs.Rows.{content_after}
-use Rattle.node_model.specs.Sessions.{is_closing, reaches, line_in}
+use Rattle.node_model.specs.Sessions.{is_closing, line_in}
 use Rattle.node_model.specs.Jobs.{Puts, PutsBytes, Work, job_end, running}
 use Rattle.run_model.specs.Run.{IsRun, RunPast, RunStep, set_up}
 use Rattle.race_core.proofs.Plain.{any_of, each_member, eqb_refl}
@@ -35,30 +32,9 @@ use Rattle.race_core.proofs.HeardCauses.{SentClose, client_sent, shut_by}
 use Rattle.race_core.proofs.ConversationClient
 use Rattle.race_core.proofs.Conversations.{conversing}
 use Rattle.race_core.proofs.ShutTold.{closed_told, took_closes}
+use Rattle.race_core.proofs.Contents.{below}
 use Rattle.race_core.proofs.PutsSizes.{sized}
 use Rattle.race_core.proofs.Caused.{run_causes}
-
--- ---- sizes
-
-size_step : (key : List ℕ) (was : Option ℕ) (kind : EntryKind) → size_after key was kind ≡ content_after key was kind
-size_step key was (Gain source size k) = refl
-size_step key was (Gone source k) = refl
-size_step key was kind = refl
-
-same_size : (past : List Entry) (r : ℕ) (key : List ℕ) → size_of past r key ≡ content past r key
-same_size [] r key = refl
-same_size (e ∷ past) r key = go (same_size past r key) (is_of r e)
-  where
-    go : size_of past r key ≡ content past r key → (b : Bool) → (if b then size_after key (size_of past r key) e.kind else size_of past r key) ≡ (if b then content_after key (content past r key) e.kind else content past r key)
-    go same true = ap (λ o. size_after key o e.kind) same ∙ size_step key (content past r key) e.kind
-    go same false = same
-
-below : (o : Option ℕ) (place bound : ℕ) → reaches o place ≡ false → place ≤ bound → IsBelow o bound
-below None place bound gone low = tt
-below (Some size) place bound gone low = less size place bound gone low
-  where
-    less : (size place bound : ℕ) → nat_le place size ≡ false → place ≤ bound → size < bound
-    less size place bound gone low = grind (arith, nat_tests)
 
 -- ---- a step that finds its connection closed
 
@@ -104,7 +80,7 @@ module _ (run : Run) (repos : Each IsSetUp run.repos) (past : List Entry) (e : E
           own = mine;
           closes = closes;
           place = short.place;
-          short = subst (λ o. IsBelow o short.place) (sym (same_size past r b.by.w.what.key)) (below (content past r b.by.w.what.key) short.place short.place short.short (omega arith));
+          short = below (content past r b.by.w.what.key) short.place short.place short.short (omega arith);
           why' = inl (x.0, ap (λ (y : Entry). y.taken) b.by.is ∙ x.1, said_is x.0.body (PutFrom short.place) x.2);
         }
         go (inr x) =
@@ -116,8 +92,8 @@ module _ (run : Run) (repos : Each IsSetUp run.repos) (past : List Entry) (e : E
               own = mine;
               closes = closes;
               place = x.2 + x.3;
-              short = subst (λ o. IsBelow o (x.2 + x.3)) (sym (same_size past r b.by.w.what.key)) (below (content past r b.by.w.what.key) short.place (x.2 + x.3) short.short (low short.place x.2 x.3 x.4 x.8 x.6));
-              why' = inr (old.entry, old.before, old.occurs, old.own, same_size old.before r b.by.w.what.key ∙ old.size_is);
+              short = below (content past r b.by.w.what.key) short.place (x.2 + x.3) short.short (low short.place x.2 x.3 x.4 x.8 x.6);
+              why' = inr (old.entry, old.before, old.occurs, old.own, old.size_is);
             }
 
     told : (z : ShutOn (rows_at past r) v e) → ClosedWith (e ∷ past) r v.number z.peer ⊎ ((v.part ≡ Puts) × FellShort (e ∷ past) r v.number z.peer v.what.key)

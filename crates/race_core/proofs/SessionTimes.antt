@@ -12,7 +12,7 @@ use Rattle.p2p_wire.specs.declared.message.Message.{Message}
 use Rattle.p2p_wire.specs.declared.message.Message.TheVariants.{AuthSuccess, Version, Timestamp, PutFrom, AlreadyHave, Data, Valid, Invalid, Success, Failure, Error}
 use Rattle.p2p_wire.specs.Messages.{message_by, message_of, rest_in, text_of, word_in}
 use Rattle.run_model.specs.Said.{Says, message_in}
-use Rattle.p2p_wire.proofs.MessageFacts.{reads_back}
+use Rattle.race_core.proofs.NumbersRead.{time_reads}
 use Rattle.node_model.specs.Sessions.{Doing}
 use Rattle.node_model.specs.SessionStep.{Here, now_of, refuses}
 use Rattle.node_model.specs.Found.{AnswersAbsent, Checked, IsTalk, SaysClose, SaysFault, SaysTalk, SessionKind, agrees}
@@ -27,7 +27,7 @@ time_back : (k n : ℕ) → k < 2 ^ 63 → message_of (text_of (Timestamp k)) �
 time_back k n small e = go (nat_le (length (text_of (Timestamp k))) 8192) refl
   where
     go : (b : Bool) → nat_le (length (text_of (Timestamp k))) 8192 ≡ b → n ≡ k
-    go true i = let both : Some (Timestamp k) ≡ Some (Timestamp n) = sym (reads_back (Timestamp k) small i) ∙ e in cc
+    go true i = let both : Some (Timestamp k) ≡ Some (Timestamp n) = sym (time_reads k small i) ∙ e in cc
     go false i = absurd (let no' : None ≡ Some (Timestamp n) = sym (ap (λ b. if b then message_by (word_in (text_of (Timestamp k))) (rest_in (text_of (Timestamp k))) else None) i) ∙ e in cc)
 
 talk_time : (clock : ℕ) (m : Message) → clock / 1000 < 2 ^ 63 → IsTalk clock m → (n : ℕ) → message_of (text_of m) ≡ Some (Timestamp n) → n ≡ clock / 1000

@@ -31,7 +31,7 @@ use Rattle.race_core.proofs.LogLemmas.{bytes_eq_tells}
 use Rattle.node_model.specs.SetUp.{SetUp}
 use Rattle.run_model.specs.States.{state_of, rows_at, works}
 use Rattle.node_model.specs.Jobs
-use Rattle.node_model.specs.Jobs.{AsksTime, Denied, Drops, Ends, Greets, Late, Next, Orders, Phase, PutsOffer, Work, partner, running, work_kind}
+use Rattle.node_model.specs.Jobs.{AsksTime, Denied, Drops, Ends, Greets, Late, Next, Orders, Phase, Puts, PutsOffer, Work, partner, running, work_kind}
 use Rattle.node_model.specs.Look.{Made}
 use Rattle.node_model.specs.JobStep.{Turn, end_with}
 use Rattle.race_core.proofs.Knowing.{knows_enough, next_of}
@@ -40,10 +40,11 @@ use Rattle.node_model.specs.Turns.{by_partner, takes_frame}
 use Rattle.run_model.specs.Run.{OwnPast, OwnRun}
 use Rattle.race_core.proofs.JobSteps.{Origin, Steps, invariant, turn_at}
 use Rattle.race_core.proofs.JobKept.{kind_kept}
-use Rattle.race_core.proofs.PhaseFacts.{is_fresh, only_offer, only_orders}
+use Rattle.race_core.proofs.PhaseFacts.{is_fresh, only_answer, only_offer, only_orders}
 use Rattle.race_core.proofs.WorkFits.{step_kind, step_runs, works_fit}
 use Rattle.race_core.proofs.TalkFacts.{Fits}
 use Rattle.race_core.proofs.Aims.{aims}
+use Rattle.race_core.proofs.CopiesInPlace.{copies_in_place}
 use Rattle.race_core.proofs.PhasesFit.{target_peer}
 use Rattle.race_core.proofs.ClientCounts.{LastIs, Request, request}
 use Rattle.race_core.proofs.HeardSteps.{took_as}
@@ -208,20 +209,20 @@ module _ (s : SetUp) (p : List Entry) (e : Entry) (h : OwnPast s (e ∷ p)) (is 
       let same : text ≡ codes "busy" = elim (bytes_eq_tells text (codes "busy")) [ inl y ↦ y.1 | inr y ↦ absurd (let both : true ≡ false = sym busy ∙ y.0 in cc) ] in
       let a = answers_now s p e b.by is before hr.f hr.takes_it (Error text) (λ m. m ≡ Put [] v.what.key) hr.told busy peer on
       (λ last l. let y = subst (λ (q : Phase). LastIs v.what.key v.what.peer q peer last) at l refl in (y.0, Put [] v.what.key, refl, y.1)) in
-      (peer, subst (λ z. Answers (e ∷ p) r v.number peer (Says (Put [] v.what.key)) (Says (Error z))) same (subst (λ m. Answers (e ∷ p) r v.number peer (Says m) (Says (Error text))) a.1 a.2))
+      (peer, copies_in_place s p before.run v runs part peer on, subst (λ z. Answers (e ∷ p) r v.number peer (Says (Put [] v.what.key)) (Says (Error z))) same (subst (λ m. Answers (e ∷ p) r v.number peer (Says m) (Says (Error text))) a.1 a.2))
 
-  rejected_now : (peer : ℕ) (P : Message → Type 0) → ((m : Message) → P m → (m ≡ Valid) ⊎ (m ≡ Put [] v.what.key)) → partner v.what.peer v.phase ≡ Some peer → HearsOnly e Failure
+  rejected_now : (peer : ℕ) (P : Message → Type 0) → ((m : Message) → P m → (m ≡ Valid) ⊎ (m ≡ Put [] v.what.key)) → v.part ≡ Puts → partner v.what.peer v.phase ≡ Some peer → HearsOnly e Failure
       → ((last : Option Request) → LastIs v.what.key v.what.peer v.phase peer last → (time : ℕ) × (asked : Message) × P asked × (last ≡ Some (request time (Some asked))))
       → TransferStands r (e ∷ p) (running v) failures.Rejected
-  rejected_now peer P which on hr last =
+  rejected_now peer P which part on hr last =
       let a = answers_now s p e b.by is before hr.f hr.takes_it Failure P hr.told refl peer on last in
-      (peer, a.0, which a.0 a.1, a.2)
+      (peer, copies_in_place s p before.run v runs part peer on, a.0, which a.0 a.1, a.2)
 
   transfer_now : (refusal : TransferRefusal) → TransferReason (rows_at p r) v e e.kind refusal → TransferStands r (e ∷ p) (running v) refusal
   transfer_now failures.Busy z = busy_now z.0 z.1 z.2 z.3
-  transfer_now failures.Rejected (peer, inl at, hr) = rejected_now peer (λ m. m ≡ Put [] v.what.key) (λ m same. inr same) (ap (partner v.what.peer) at) hr
+  transfer_now failures.Rejected (peer, inl at, hr) = rejected_now peer (λ m. m ≡ Put [] v.what.key) (λ m same. inr same) (only_offer v.part peer (subst (Fits v.part) at fits)) (ap (partner v.what.peer) at) hr
       (λ last l. let y = subst (λ (q : Phase). LastIs v.what.key v.what.peer q peer last) at l refl in (y.0, Put [] v.what.key, refl, y.1))
-  transfer_now failures.Rejected (peer, inr at, hr) = rejected_now peer (λ m. m ≡ Valid) (λ m same. inl same) (ap (partner v.what.peer) at.1) hr
+  transfer_now failures.Rejected (peer, inr at, hr) = rejected_now peer (λ m. m ≡ Valid) (λ m same. inl same) (only_answer v.part peer at.0 (subst (Fits v.part) at.1 fits)) (ap (partner v.what.peer) at.1) hr
       (λ last l. let y = subst (λ (q : Phase). LastIs v.what.key v.what.peer q peer last) at.1 l refl in (y.0, Valid, refl, y.1))
   transfer_now failures.StoreFault z = failed z.1
   transfer_now failures.Closed z = tt

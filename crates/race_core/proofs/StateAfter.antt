@@ -3,8 +3,7 @@ use Rattle.std.proofs.Common.{◌≡◌, ℕ, ◌+◌, Bool, true, false, List, 
 use Rattle.std.specs.Prelude.{if◌then◌else◌, bytes_eq, ◌&&◌}
 use Rattle.log_lines.specs.declared.entry.LogKind.{LogKind}
 use Rattle.union_merge.specs.Branch.{Files, file_at, lines_at, or_none}
-use Rattle.union_merge.proofs.BranchLemmas.{lines_at-with_file_same, lines_at-with_file_other}
-use Rattle.union_merge.proofs.MergeLemmas.{lines_at-merged_file_same, lines_at-merged_file_other}
+use Rattle.race_core.proofs.Branches.{merged_elsewhere, merged_there, set_elsewhere, set_there}
 use Rattle.trust_groups.specs.Settings.{settings}
 use Rattle.run_data.specs.declared.entry.Entry.{Entry}
 use Rattle.run_data.specs.declared.entry.EntryKind.{EntryKind}
@@ -42,15 +41,15 @@ compact_same path file files None none = elim (bytes_eq_tells (file_path file) p
 compact_same path file files (Some lines) found =
     let less = compact_lines (kind_of file) lines in
     elim (bytes_eq_tells (file_path file) path) [
-      | inl same ↦ rw same.0 (ap (λ p. lines_at (Rattle.union_merge.specs.Branch.with_file files p less) path) same.1 ∙ lines_at-with_file_same files path less
+      | inl same ↦ rw same.0 (ap (λ p. lines_at (Rattle.union_merge.specs.Branch.with_file files p less) path) same.1 ∙ set_there files path less
           ∙ ap (compact_lines (kind_of file)) (sym (ap (lines_at files) (sym same.1) ∙ ap or_none found)))
-      | inr other ↦ rw other.0 (lines_at-with_file_other files (file_path file) path less (λ same. other.1 (sym same)))
+      | inr other ↦ rw other.0 (set_elsewhere files (file_path file) path less (λ same. other.1 (sym same)))
     ]
 
 lines_same : (path : List ℕ) (files : Files) (kind : EntryKind) (lines : List (List ℕ)) → lines_at (branch_after files kind lines) path ≡ lines_after path (lines_at files path) kind lines
 lines_same path files (Log file) lines = elim (bytes_eq_tells (file_path file) path) [
-  | inl same ↦ rw same.0 (ap (λ p. lines_at (Rattle.union_merge.specs.Branch.merged_file files p lines) path) same.1 ∙ lines_at-merged_file_same files path lines)
-  | inr other ↦ rw other.0 (lines_at-merged_file_other files (file_path file) path lines (λ same. other.1 (sym same)))
+  | inl same ↦ rw same.0 (ap (λ p. lines_at (Rattle.union_merge.specs.Branch.merged_file files p lines) path) same.1 ∙ merged_there files path lines)
+  | inr other ↦ rw other.0 (merged_elsewhere files (file_path file) path lines (λ same. other.1 (sym same)))
 ]
 lines_same path files (Compact file) lines = compact_same path file files (file_at files (file_path file)) refl
 lines_same path files _ lines = refl

@@ -195,20 +195,26 @@ place_of q (e ∷ past) w k it one h = go (λ g. place_of q past w k it one.1 g)
     go ih false is = ih (rw is at h)
     go ih true is = new ih (filter (says q) (on_way w e)) (one.0 is) (subst (λ xs. slice_get xs k ≡ Some it) (sent_if-step q e past w is) h)
 
--- the answer that a client may take is to its last request
+-- the answer that a client may take is to its last request, where its sender had answered as many as it had taken at an entry, which took that one
+pub turn_of : (past : List Entry) (w : Way) (f g : FrameView) → Always (Prefix w) past → Always (Prefix (up_of w)) past → Always (OneEach is_answer w) past
+    → (t : MayTake past w f) → says is_answer f ≡ true → length (requests past (up_of w)) ≡ taken_if is_answer past w + 1
+    → (x : Entry) (before : List Entry) → Occurs past x before → length (answers t.it.before w) ≡ taken_if is_request before (up_of w) → (asked : MayTake before (up_of w) g) → says is_request g ≡ true
+    → last_request past (up_of w) ≡ Some asked.it
+turn_of past w f g down up one t answer awaits x before occurs turn asked request =
+    let a : slice_get (answers past w) (taken_if is_answer past w) ≡ Some t.it = next_of is_answer past w f down t answer in
+    let b : length (answers t.it.before w) ≡ taken_if is_answer past w = place_of is_answer past w (taken_if is_answer past w) t.it one a in
+    let c : slice_get (requests before (up_of w)) (taken_if is_request before (up_of w)) ≡ Some asked.it = next_of is_request before (up_of w) g (always_before (Prefix (up_of w)) past x before up occurs) asked request in
+    let d : taken_if is_request before (up_of w) ≡ taken_if is_answer past w = sym turn ∙ b in
+    let e = sent_if-prefix is_request past x before (up_of w) occurs in
+    let at : slice_get (requests past (up_of w)) (taken_if is_answer past w) ≡ Some asked.it =
+    subst (λ xs. slice_get xs (taken_if is_answer past w) ≡ Some asked.it) (sym e.1)
+    (get_left (requests before (up_of w)) e.0 (taken_if is_answer past w) asked.it (subst (λ k. slice_get (requests before (up_of w)) k ≡ Some asked.it) d c)) in
+    last_get (requests past (up_of w)) (taken_if is_answer past w) asked.it at awaits
+
+-- that entry is the one that sends the answer
 pub right_turn : (past : List Entry) (w : Way) (f g : FrameView) → Always (Prefix w) past → Always (Prefix (up_of w)) past → Always (OneEach is_answer w) past
     → (t : MayTake past w f) → says is_answer f ≡ true → length (requests past (up_of w)) ≡ taken_if is_answer past w + 1
     → length (answers t.it.before w) ≡ taken_if is_request t.it.before (up_of w) → (asked : MayTake t.it.before (up_of w) g) → says is_request g ≡ true
     → last_request past (up_of w) ≡ Some asked.it
 right_turn past w f g down up one t answer awaits turn asked request =
-    let s = sending past w (taken past w) t.it t.next in
-    let a : slice_get (answers past w) (taken_if is_answer past w) ≡ Some t.it = next_of is_answer past w f down t answer in
-    let b : length (answers t.it.before w) ≡ taken_if is_answer past w = place_of is_answer past w (taken_if is_answer past w) t.it one a in
-    let c : slice_get (requests t.it.before (up_of w)) (taken_if is_request t.it.before (up_of w)) ≡ Some asked.it =
-    next_of is_request t.it.before (up_of w) g (always_before (Prefix (up_of w)) past t.it.entry t.it.before up s.occurs) asked request in
-    let d : taken_if is_request t.it.before (up_of w) ≡ taken_if is_answer past w = sym turn ∙ b in
-    let e = sent_if-prefix is_request past t.it.entry t.it.before (up_of w) s.occurs in
-    let at : slice_get (requests past (up_of w)) (taken_if is_answer past w) ≡ Some asked.it =
-    subst (λ xs. slice_get xs (taken_if is_answer past w) ≡ Some asked.it) (sym e.1)
-    (get_left (requests t.it.before (up_of w)) e.0 (taken_if is_answer past w) asked.it (subst (λ k. slice_get (requests t.it.before (up_of w)) k ≡ Some asked.it) d c)) in
-    last_get (requests past (up_of w)) (taken_if is_answer past w) asked.it at awaits
+    turn_of past w f g down up one t answer awaits t.it.entry t.it.before (sending past w (taken past w) t.it t.next).occurs turn asked request

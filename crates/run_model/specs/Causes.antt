@@ -1,5 +1,5 @@
 -- Why a drop or a transfer was refused: the entries and the values that its outcome rests on stand in the run (own).
-use Rattle.std.specs.Prelude.{◌≡◌, ◌≢◌, ◌⊎◌, ℕ, ◌+◌, ◌<◌, ◌≤◌, Bool, true, false, not, ◌&&◌, if◌then◌else◌, max, List, [], ◌∷◌, filter, fold, length, map, reverse, Option, Some, None, bytes_eq, codes}
+use Rattle.std.specs.Prelude.{◌≡◌, ◌≢◌, ◌⊎◌, ℕ, ◌+◌, ◌<◌, ◌≤◌, Bool, true, false, not, ◌&&◌, if◌then◌else◌, max, List, [], ◌∷◌, filter, fold, length, map, reverse, Option, Some, None, codes}
 use Rattle.std.specs.List.{list_any, range_with_len}
 use Rattle.annex_base.specs.Lists.{Each, Member}
 use Rattle.annex_base.specs.declared.kinds.Call.{Call}
@@ -14,7 +14,7 @@ use Rattle.run_data.specs.declared.run.RepoView.{RepoView}
 use Rattle.run_data.specs.declared.entry.By.TheVariants.{Job as by_job}
 use Rattle.run_data.specs.declared.entry.Entry.{Entry}
 use Rattle.run_data.specs.declared.entry.EntryKind.{EntryKind}
-use Rattle.run_data.specs.declared.entry.EntryKind.TheVariants.{Check, Close, End, Fault, Gain, Gone, Order, Talk}
+use Rattle.run_data.specs.declared.entry.EntryKind.TheVariants.{Check, Close, End, Fault, Order, Talk}
 use Rattle.run_data.specs.declared.entry.FrameView.{FrameView}
 use Rattle.run_data.specs.declared.job.CandidateCause.{CandidateCause}
 use Rattle.run_data.specs.declared.job.Denial.{Denial}
@@ -38,8 +38,9 @@ use Rattle.node_model.specs.Rows.{blocks}
 use Rattle.p2p_wire.specs.declared.message.Message.TheVariants.{Error, Failure, Get, Invalid, Put, PutFrom, Valid, Version}
 use Rattle.p2p_wire.specs.Messages.{order_of}
 use Rattle.run_model.specs.Said.{Said, Says, CloseIt, is_request, message_in}
-use Rattle.run_model.specs.Frames.{Flying, Sent, is_job, last_request, said_of, says, sender, taken_if, up_of, way_of}
+use Rattle.run_model.specs.Frames.{Flying, MayTake, Sent, is_job, last_request, said_of, says, sender, taken_if, up_of, way_of}
 use Rattle.run_model.specs.Logs.{before_step, has_stepped, in_drop, need_read}
+use Rattle.run_model.specs.States.{content}
 use Rattle.run_model.specs.Drops.{evidence, asked, in_slot, is_first_step, shuts, standing, why, told_cause}
 use Rattle.node_model.specs.Evidence.{candidates, but, is_locked, proof_of, Fails, Ignored}
 
@@ -250,13 +251,32 @@ abbrev pub is_failure : Said → Bool
 is_failure (Says Failure) = true
 is_failure _ = false
 
--- why a peer gave a get nothing: the connection was closed; the bytes didn't match, which the job answers by FAILURE; or they weren't
--- there from the place on that it asked for
+-- the content of this size, if there is one, ends before the place
+abbrev pub IsBelow : Option ℕ → ℕ → Type 0
+IsBelow None n = Unit {0}
+IsBelow (Some size) n = size < n
+
+-- the peer took this GET, and as it took it, its content was absent, or shorter than the place that is asked for
+pub record TookGet (past : List Entry) (peer start : ℕ) (key : List ℕ) (request : Flying) : Type 0 where
+  pub entry : Entry
+  pub before : List Entry
+  pub occurs : Occurs past entry before
+  pub own : is_of peer entry ≡ true
+  pub f : FrameView
+  pub takes_it : entry.taken ≡ Some f
+  pub comes : MayTake before (way_of peer f) f
+  pub request_is : comes.it ≡ request
+  pub short : IsBelow (content before peer key) start
+
+-- why a peer gave a get nothing: the connection was closed; the bytes didn't match, which the job answers by FAILURE; its row was absent; or
+-- its content didn't reach the place from which on it was asked for
 abbrev pub SourceCauseOf : List Entry → ℕ → ℕ → List ℕ → ℕ → SourceCause → Type 0
 SourceCauseOf past r j key peer sources.Closed = ClosedWith past r j peer
 SourceCauseOf past r j key peer sources.Wrong = (h : Hears past r j peer (Says Valid)) × (list_any (says is_failure) h.entry.sent ≡ true)
-SourceCauseOf past r j key peer sources.Absent = (file : List ℕ) × Answers past r j peer (Says (Get 0 file key)) (Says Invalid)
-SourceCauseOf past r j key peer sources.Invalid = (start : ℕ) × (file : List ℕ) × (start ≢ 0) × Answers past r j peer (Says (Get start file key)) (Says Invalid)
+SourceCauseOf past r j key peer sources.Absent =
+    (file : List ℕ) × (a : Answers past r j peer (Says (Get 0 file key)) (Says Invalid)) × (t : TookGet a.hears.before peer 0 key a.request) × (present t.before peer key ≡ false)
+SourceCauseOf past r j key peer sources.Invalid =
+    (start : ℕ) × (file : List ℕ) × (start ≢ 0) × (a : Answers past r j peer (Says (Get start file key)) (Says Invalid)) × TookGet a.hears.before peer start key a.request
 
 -- the peers that a get asks, one after the other
 abbrev pub sources_of : ℕ → ℕ → Option ℕ → List ℕ
@@ -308,22 +328,9 @@ pub record FoundFilled (past : List Entry) (r j : ℕ) : Type 0 where
 pub record WasBusy (past : List Entry) (r j : ℕ) : Type 0 where
   pub d : JobOf past r j
   pub peer : ℕ
+  pub peer_is : d.what.peer ≡ Some peer
   pub file : List ℕ
   pub busy : Answers past r j peer (Says (Put file d.what.key)) (Says (Error (codes "busy")))
-
--- the size of a content, if it is there
-abbrev pub size_after : List ℕ → Option ℕ → EntryKind → Option ℕ
-size_after key was (Gain source size k) = if bytes_eq k key then Some size else was
-size_after key was (Gone source k) = if bytes_eq k key then None else was
-size_after key was _ = was
-
-abbrev pub size_of : List Entry → ℕ → List ℕ → Option ℕ
-size_of [] r key = None
-size_of (e ∷ past) r key = if is_of r e then size_after key (size_of past r key) e.kind else size_of past r key
-
-abbrev pub IsBelow : Option ℕ → ℕ → Type 0
-IsBelow None n = Unit {0}
-IsBelow (Some size) n = size < n
 
 -- the job itself closes the connection: the content is gone, or shorter than the place that the peer asks for, or than it was as the
 -- job began to send it
@@ -334,13 +341,15 @@ pub record FellShort (past : List Entry) (r j peer : ℕ) (key : List ℕ) : Typ
   pub own : is_job r j entry ≡ true
   pub closes : list_any (shuts peer) entry.sent ≡ true
   pub place : ℕ
-  pub short : IsBelow (size_of before r key) place
+  pub short : IsBelow (content before r key) place
   pub why' : ((f : FrameView) × (entry.taken ≡ Some f) × (message_in f.body ≡ Says (PutFrom place)))
-      ⊎ ((x : Entry) × (then' : List Entry) × (Occurs before x then') × (is_job r j x ≡ true) × (size_of then' r key ≡ Some place))
+      ⊎ ((x : Entry) × (then' : List Entry) × (Occurs before x then') × (is_job r j x ≡ true) × (content then' r key ≡ Some place))
 
+-- a copy's connection with its peer was closed
 pub record WasClosed (past : List Entry) (r j : ℕ) : Type 0 where
   pub d : JobOf past r j
   pub peer : ℕ
+  pub peer_is : d.what.peer ≡ Some peer
   pub closed : ClosedWith past r j peer ⊎ FellShort past r j peer d.what.key
 
 abbrev pub rejects : EntryKind → Bool
@@ -348,10 +357,11 @@ rejects (Talk None) = true
 rejects (Fault call by) = true
 rejects _ = false
 
--- the peer answered FAILURE, to PUT or to VALID: the bytes didn't match, or a call of its store failed
+-- a copy's peer answered FAILURE, to PUT or to VALID: the bytes didn't match, or a call of its store failed
 pub record WasRejected (past : List Entry) (r j : ℕ) : Type 0 where
   pub d : JobOf past r j
   pub peer : ℕ
+  pub peer_is : d.what.peer ≡ Some peer
   pub asked : Said
   pub asked_is : (asked ≡ Says Valid) ⊎ ((file : List ℕ) × (asked ≡ Says (Put file d.what.key)))
   pub refused : Answers past r j peer asked (Says Failure)
