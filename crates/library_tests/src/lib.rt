@@ -10,8 +10,6 @@ mod branch_bundle_tests;
 #[cfg(test)]
 mod drop_proof_tests;
 #[cfg(test)]
-mod glob_match_tests;
-#[cfg(test)]
 mod hash_dirs_tests;
 #[cfg(test)]
 mod log_lines_tests;
