@@ -18,8 +18,6 @@ use Rattle.run_model.specs.Frames.{is_job, sender}
 use Rattle.run_model.specs.Safety.{past_at}
 use Rattle.race_core.specs.Readings.{Judge}
 
--- ---- asking and being told
-
 -- the entry sends this to the server c
 pub record SendsUp (e : Entry) (c : ℕ) (said : Said) : Type 0 where
   pub g : FrameView
@@ -35,8 +33,6 @@ pub record IsToldBy (past : List Entry) (a j : ℕ) (e : Entry) (earlier : List 
   pub heard : Occurs past hearing before
   pub job_is : is_job a j hearing ≡ true
   pub took : sender before a hearing.taken ≡ Some (record { entry = e; before = earlier })
-
--- ---- locks
 
 -- the entry takes the share of job j of its own repository
 pub record TakesShare (e : Entry) (j : ℕ) (key : List ℕ) : Type 0 where
@@ -79,8 +75,6 @@ pub record IsHeld (run : Run) (key : List ℕ) (place : ℕ) (judge : Judge) (re
   pub told : (repo ≡ judge.repo) ⊎ IsToldBy judge.past judge.repo judge.job share earlier
   pub recorded : Member hold (holds (past_at run place) repo)
   pub lasts : clock run.repos (past_at run place) repo (asking.time + hold_time) ≤ hold.end
-
--- ---- looks
 
 -- A recent item: its judge's job asked the item's repository whether the content is present; this looked after that, and found it present
 -- and without a bar; and the job was told so before it judged.

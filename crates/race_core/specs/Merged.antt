@@ -21,8 +21,6 @@ use Rattle.run_model.specs.States.{works}
 use Rattle.run_model.specs.Words.{awaits_of, word_of_kind}
 use Rattle.run_model.specs.Run.{IsSmall, Ordered, OwnPart, paths_at, paths_begun, repo_number, tree_at}
 
--- ---- the order of entries
-
 -- when an entry was made, and by which repository
 abbrev pub stamp_of : Entry → EntryStamp
 stamp_of e = record { time = e.time; count = e.count; repo = repo_number e.repo }
@@ -33,8 +31,6 @@ earlier a b = nat_lt a.time b.time || ((a.time == b.time) && (nat_lt a.count b.c
 
 abbrev pub stands_before : Entry → Entry → Bool
 stands_before e f = earlier (stamp_of e) (stamp_of f)
-
--- ---- the merge
 
 -- the entry is put before the first that is later
 abbrev pub insert : Entry → List Entry → List Entry
@@ -142,8 +138,6 @@ pub record MayMerge (run : Run) (news : List (List Entry)) (got : ℕ → Way �
   pub kept : (r : ℕ) → r < length run.repos → Kept (set_up_with run news r) (got r) (history run news r)
   pub follow : (r : ℕ) → r < length run.repos → Follow (reverse run.entries) (reverse (new_of news r))
   pub came : (r c : ℕ) (w : Way) → r < length run.repos → taker_of w ≡ r → sender_of w ≡ c → Came (got r w) (history run news c) w
-
--- ---- any other way to merge
 
 -- each entry stands before all that come after it
 abbrev pub Rising : List Entry → Type 0

@@ -30,8 +30,6 @@ pub record IsAt (run : Run) (place r : ℕ) (kind : EntryKind) : Type 0 where
   pub repo_is : is_of r entry ≡ true
   pub kind_is : entry.kind ≡ kind
 
--- ---- the job of a drop
-
 -- job j of r begins at one place of the run, which is before this one: it is a drop or a move of the key, and removes on this side, at
 -- this target
 pub record HasJob (run : Run) (place r j : ℕ) (key : List ℕ) (side : Side) (target : ℕ) : Type 0 where
@@ -44,8 +42,6 @@ pub record HasJob (run : Run) (place r j : ℕ) (key : List ℕ) (side : Side) (
   pub target_is : or_own r side what.peer ≡ target
   pub key_is : what.key ≡ key
   pub only : (other : ℕ) (also : Job) → IsAt run other r (Begin j also) → other ≡ at
-
--- ---- the order of a removal
 
 -- the entry at this place sent frame number n of the way: so many frames went there with it, and fewer before it
 pub record Sends (run : Run) (place : ℕ) (w : Way) (n : ℕ) : Type 0 where
@@ -84,8 +80,6 @@ pub record HasOrder (run : Run) (place r a : ℕ) (key : List ℕ) : Type 0 wher
   pub judge_is : judge_at run place taken.entry ≡ Some (record { repo = a; job = j; past = past_at run at })
   pub one_order : (other : ℕ) → Sends run other w n → other ≡ at
   pub once : (other : ℕ) → Takes run other r w n → other ≡ place
-
--- ---- claims
 
 -- the removal is that of an entry before this place
 pub record IsRemovalBefore (run : Run) (key : List ℕ) (place : ℕ) (x : Removal) : Type 0 where
