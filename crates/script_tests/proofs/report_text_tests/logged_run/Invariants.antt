@@ -1,9 +1,6 @@
 use Rattle.annex_base.specs.Lists.{Each}
 use Rattle.report_text.specs.Walk.{IsLogged}
-use Rattle.library_tests.proofs.report_text_tests.dropped_run.Given as goal
+use Rattle.script_tests.proofs.report_text_tests.logged_run.Given as goal
 
 abbrev pub invariant-loop-repo : goal.invariant-loop-repo
 invariant-loop-repo l = Each IsLogged l.entries.items
-
-abbrev pub invariant-loop-step : goal.invariant-loop-step
-invariant-loop-step l = Each IsLogged l.entries.items

@@ -1,6 +1,6 @@
 use Rattle.annex_base.specs.Lists.{Each}
 use Rattle.report_text.specs.Walk.{ShowsKnown}
-use Rattle.library_tests.proofs.report_text_tests.show_lines.Given as goal
+use Rattle.script_tests.proofs.report_text_tests.show_lines.Given as goal
 
 abbrev pub invariant-loop-word : goal.invariant-loop-word
 invariant-loop-word l = Each (ShowsKnown 3) l.script.items

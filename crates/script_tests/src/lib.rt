@@ -1,0 +1,7 @@
+//! Tests of scripts, and of the text of their reports, by public functions; nothing else stands here.
+#![tactic(auto)]
+
+#[cfg(test)]
+mod report_text_tests;
+#[cfg(test)]
+mod script_lang_tests;
