@@ -3,5 +3,3 @@
 
 #[cfg(test)]
 mod glob_match_tests;
-#[cfg(test)]
-mod wanted_expr_tests;
