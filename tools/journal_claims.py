@@ -1,14 +1,15 @@
 #!/usr/bin/env python3
 """Turns journals into claims that the step of a repository makes their entries; each claim is proved by computation.
 
-    tools/journal_claims.py FOLDER OUT [NAME..]    writes OUT/NAME.antt for each FOLDER/NAME.journal, and OUT/Lib.antt
+    tools/journal_claims.py FOLDER OUT [NAME..]    writes OUT/NAME.antt for each FOLDER/NAME.journal; OUT/Lib.antt
+                                                   names the modules, and is written by hand
     tools/journal_claims.py --check FOLDER OUT     says whether the files are as it would write them
 
 FOLDER has journals beside the scripts (NAME.annex) whose runs they are. A journal tells what each turn made, and not what it
 found; this tool reads that off the journal: the frames that were sent and not yet taken, the room of the rings, the store call
 of a fault entry, the size of a part that an answer names, and the words beside the answers of a job. Where a script begins no
 job by `begin` and takes no turns one by one, its rounds are known too, and each turn that made nothing is claimed to have no
-step. Unproved, and no part of the program: a wrong look only makes a claim fail.
+step. Unproved, and no part of the program: each claim is proved by itself, so a wrong look can only make one fail, or say less.
 """
 import os
 import re
@@ -266,6 +267,10 @@ class Claims:
         transfer = kind in ("get", "copy")
         return f"(outcomes.{'TransferRefused' if transfer else 'Refused'} {self.refusal(words[1:], transfer)})"
 
+    def closed_end(self, e):
+        """The peer, the slot and the side of the end that a close is of."""
+        return f"{self.journal.names[e.field('peer')]} {e.field('slot')} {'true' if e.field('side') == 'client' else 'false'}"
+
     def kind(self, e, place):
         """The entry's kind."""
         f = e.fields
@@ -298,7 +303,7 @@ class Claims:
         if e.kind == "talk":
             return f"kinds.Talk {optional(None if f == '-' else f)}"
         if e.kind == "close":
-            return f"kinds.Close {self.journal.names[e.field('peer')]} {e.field('slot')} {'true' if e.field('side') == 'client' else 'false'}"
+            return f"kinds.Close {self.closed_end(e)}"
         if e.kind == "crash":
             return f"kinds.Crash {e.field('clock')}"
         if e.kind == "wait":
@@ -470,7 +475,7 @@ class Claims:
             if step:
                 self.claim(f"claim{place}", f"Makes s{e.repo} {past} {look} e{place}")
             elif e.kind == "close":
-                self.claim(f"claim{place}", f"Closes s{e.repo} {past} e{place} ({self.kind(e, place)[12:].replace(' ', ' ')})".replace("(", "(end ", 1))
+                self.claim(f"claim{place}", f"Closes s{e.repo} {past} e{place} (end {self.closed_end(e)})")
             elif e.kind == "crash":
                 self.claim(f"claim{place}", f"Crashes s{e.repo} {past} e{place}")
             self.pass_on(e)
