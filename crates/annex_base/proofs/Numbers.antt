@@ -46,7 +46,7 @@ decimal-all p digit n = onto_all p digit 64 n [] refl
 places_all : (p : ℕ → Bool) → PassesDigits p → (k n : ℕ) → n < 10 ^ k → list_all p (digits_after_point k n) ≡ true
 places_all p digit k n small = list_all_weaker is_ascii_digit p digit (digits_after_point k n) (list_all-from_AllPass is_ascii_digit (digits_after_point k n) (places_digits k n small))
 
-fraction_all : (p : ℕ → Bool) → p 46 ≡ true → (ds : List ℕ) → list_all p ds ≡ true → list_all p (fraction_text ds) ≡ true
+pub fraction_all : (p : ℕ → Bool) → p 46 ≡ true → (ds : List ℕ) → list_all p ds ≡ true → list_all p (fraction_text ds) ≡ true
 fraction_all p point [] h = refl
 fraction_all p point (d ∷ ds) h = and_from (p 46) (list_all p (d ∷ ds)) point h
 
