@@ -7,6 +7,7 @@ use Rattle.std.proofs.lemmas.Bool.{eqb-true, and_parts, and_from}
 use Rattle.std.proofs.lemmas.Bool.Decides.{Decides-eqb}
 use Rattle.std.proofs.lemmas.Slice.Eq.{slice_eq-Decides}
 use Rattle.annex_base.specs.declared.kinds.Level.{Level}
+use Rattle.log_lines.proofs.OrderLemmas.{other}
 use Rattle.annex_base.specs.declared.kinds.Level.TheVariants as levels
 use Rattle.annex_base.specs.contracts.kinds.LevelPartialEq.TheImpl as level_impl
 use Rattle.annex_base.specs.contracts.stamp.StampPartialEq.TheImpl as stamp_impl
@@ -18,9 +19,6 @@ use Rattle.log_lines.specs.declared.entry.Entry.{Entry}
 use Rattle.log_lines.specs.contracts.entry.TopicPartialEq.TheImpl as topic_impl
 use Rattle.log_lines.specs.contracts.entry.ValuePartialEq.TheImpl as value_impl
 use Rattle.log_lines.specs.contracts.entry.EntryPartialEq.TheImpl as entry_impl
-
-other : {A : Type 0} → false ≡ true → A
-other e = absurd (true≢false (sym e))
 
 level_same : (l m : Level) → level_impl.ghosts.eq l m ≡ true → l ≡ m
 level_same levels.Dead levels.Dead e = refl

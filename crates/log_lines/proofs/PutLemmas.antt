@@ -1,5 +1,5 @@
 -- Entries in order of topic, and one more of them.
-use Rattle.std.proofs.Common.{inl, inr, ◌≡◌, true, false, List, [], ◌∷◌, map, Option, Some, None, refl, sym, ap, subst, ◌∙◌}
+use Rattle.std.proofs.Common.{inl, inr, ◌≡◌, ◌↔◌, true, false, List, [], ◌∷◌, map, Option, Some, None, refl, sym, ap, subst, ◌∙◌}
 use Rattle.std.specs.declared.cmp.Ordering.TheVariants.{Less, Greater}
 use Rattle.std.specs.Ordering.{is_eq, is_lt, ordering_reverse}
 use Rattle.std.specs.List.{AllByRecursion}
@@ -144,6 +144,12 @@ member_at (x ∷ xs) e h (inr among) =
     let below = past_member x.topic xs e parts.0 among in
     let apart : same_topic e.topic x.topic ≡ false = ap is_eq (topic_total.antisymm e.topic x.topic ∙ ap ordering_reverse below) in
     rw apart (member_at xs e parts.1 among)
+
+pub found_by_topic : (es : List Entry) (topic : Topic) (e : Entry) → IsRising es → (entry_at es topic ≡ Some e) ↔ (Member e es × (e.topic ≡ topic))
+found_by_topic es topic e rising = (
+  λ found. let is = at_member es topic e found in (is.0, sym is.1),
+  λ is. subst (λ (t : Topic). entry_at es t ≡ Some e) is.1 (member_at es e rising is.0),
+)
 
 -- two lists in order with the same members are the same
 pub rising_same : (xs ys : List Entry) → IsRising xs → IsRising ys → ((e : Entry) → Member e xs → Member e ys) → ((e : Entry) → Member e ys → Member e xs) → xs ≡ ys

@@ -12,7 +12,7 @@ use Rattle.std.proofs.lemmas.Option.{same_Some}
 use Rattle.annex_base.specs.RepoText.{repo_text}
 use Rattle.annex_base.specs.StampText.{IsStamp, stamp_text}
 use Rattle.annex_base.proofs.StampLemmas.{stamp_written}
-use Rattle.annex_base.proofs.Lists.{list_all_append}
+use Rattle.annex_base.proofs.Lists.{list_all_append, nil_cons}
 use Rattle.log_lines.specs.declared.entry.LogKind.{LogKind}
 use Rattle.log_lines.specs.declared.entry.LogKind.TheVariants as kinds
 use Rattle.log_lines.specs.declared.entry.Topic.{Topic}
@@ -175,9 +175,6 @@ last_plain line front None ends = plain_nil
 last_plain line front (Some time) ends =
     plain_append (space ∷ stamp_mark) (stamp_text time) (plain_low (space ∷ stamp_mark) refl) (stamp_plain (stamp_text time) time (stamp_written time (stamp_below ends.stamp time ends.is)))
 
-nothing : (x : ℕ) (xs : List ℕ) → [] ≡ x ∷ xs → ⊥
-nothing x xs e = cc
-
 -- after the last space stands one word
 two_words : (a b : List ℕ × List ℕ) → Some a ≡ Some b → a.1 ≡ b.1
 two_words a b e = ap (λ (x : List ℕ × List ℕ). x.1) (same_Some a b e)
@@ -185,7 +182,7 @@ two_words a b e = ap (λ (x : List ℕ × List ℕ). x.1) (same_Some a b e)
 space_unmarked : (repo : List ℕ) → ¬ EndsMarked (repo ++ (space ∷ []))
 space_unmarked repo = λ has.
     let last = sym (last_again repo [] refl) ∙ ap last_word has.spelled ∙ last_again has.front (stamp_mark ++ has.rest) (list_all_append is_not_space stamp_mark has.rest refl has.word) in
-    nothing 116 _ (two_words (repo, []) (has.front, stamp_mark ++ has.rest) last)
+    nil_cons 116 _ (two_words (repo, []) (has.front, stamp_mark ++ has.rest) last)
 
 same_unmarked : (line repo body body' : List ℕ) → ¬ EndsMarked line → line ≡ repo ++ body → SameBody body' body → ¬ EndsMarked (repo ++ body')
 same_unmarked line repo body body' other spelled same =
