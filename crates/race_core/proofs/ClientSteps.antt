@@ -30,8 +30,9 @@ use Rattle.node_model.specs.Ends.{may_take, takes_at}
 use Rattle.node_model.specs.Sessions.{line_in, reaches}
 use Rattle.node_model.specs.Jobs
 use Rattle.node_model.specs.Jobs.{Part, Gets, Puts, Drops, Phase, Rows, Fresh, Next, Opens, Greets, GetsData, GetsBytes, GetsWord, PutsOffer, PutsBytes, PutsWord, PutsAnswer, AsksLock, AsksLook, AsksTime, Removed, Denied, Late, Ends, Work, fault_of, fault_phase, first_look, gets_more, puts_more, is_move, job_end, listens, partner, quiet, says, side_of, taken_message, took, transferred, unreleased}
-use Rattle.node_model.specs.Calls.{to_commit, to_hold, to_release}
-use Rattle.node_model.specs.Look.{Made, failing, same_call, unless, waiting}
+use Rattle.node_model.specs.Calls.{to_commit, to_hold, to_release, to_resume, to_read}
+use Rattle.node_model.specs.Look.{Made, failing, unless, waiting}
+use Rattle.annex_base.specs.Calls.{same_call}
 use Rattle.node_model.specs.SessionStep.{bytes_left}
 use Rattle.node_model.specs.Knows.{enough_by, next_by}
 use Rattle.node_model.specs.JobStep.{Turn, hears, attempts, bar_there, by_me, clock_of, end_with, ends, farewells, is_there, key_of, me, owns_share, quietly, says_to, sends_to, talk, wrong}
@@ -96,6 +97,11 @@ plain_in : (call : Call) (cs : List Call) → list_any (same_call calls.PutFile)
 plain_in calls.PutFile cs a b e = absurd (true≢false (sym e ∙ a))
 plain_in calls.Unhold cs a b e = absurd (true≢false (sym e ∙ b))
 plain_in call cs a b e = refl
+
+-- so is each of those that ask for a part
+resume_plain : (reads : Bool) (call : Call) → list_any (same_call call) (calls.PartSize ∷ to_read reads) ≡ true → is_plain call ≡ true
+resume_plain true call e = plain_in call (calls.PartSize ∷ to_read true) refl refl e
+resume_plain false call e = plain_in call (calls.PartSize ∷ to_read false) refl refl e
 
 fault_is : (r : ℕ) (w : Work) (time : ℕ) (call : Call) → is_plain call ≡ true → fault_of r w time call ≡ fault_phase r w w.part (side_of w) w.phase
 fault_is r w time calls.PutFile e = absurd (cc)
@@ -198,7 +204,7 @@ copy_even t version taken peer speaks part asker old Remote is =
 first_asks : (t : Turn) (version : ℕ) (taken : Option FrameView) (peer : ℕ) → Speaks t → Asks t taken peer → EvenMade t (quietly (talk t) taken)
     → ((call : Call) → is_plain call ≡ true → EvenMade t (quietly (Fault call (by_me t)) taken)) → (part : Part) → t.w.part ≡ part → EvenMade t (asks t version taken peer part)
 first_asks t version taken peer speaks asker old faults Gets is =
-    attempts_even (EvenMade t) t (calls.PartSize ∷ []) taken (says_to t (talk t) taken peer (Get t.look.part [] (key_of t))) (λ call e. faults call (plain_in call (calls.PartSize ∷ []) refl refl e))
+    attempts_even (EvenMade t) t (to_resume t.look.part) taken (says_to t (talk t) taken peer (Get t.look.part [] (key_of t))) (λ call e. faults call (resume_plain (nat_lt 0 t.look.part) call e))
     (asker (talk t) (Get t.look.part [] (key_of t)) (GetsData peer t.look.part) speaks.get refl refl (inr refl) (awaits_true t.w.what.peer (GetsData peer t.look.part) peer refl refl) (λ e. (t.look.time, refl)))
 first_asks t version taken peer speaks asker old faults Puts is =
     asker (talk t) (Put [] (key_of t)) (PutsOffer peer) speaks.put refl refl (inr refl) (awaits_true t.w.what.peer (PutsOffer peer) peer refl refl) (λ e. (t.look.time, refl))

@@ -108,7 +108,7 @@ request_counts h v (RemoveBefore n key) g = with_version h (nat_le 3 v) (on_remo
 request_counts h v GetTimestamp g = with_version h (nat_le 3 v) (reply (Talk None) (Timestamp (now_of h / 1000))) (answer Waits (Timestamp (now_of h / 1000)) refl refl)
 request_counts h v (Get n file key) g = absurd (cc)
 request_counts h v (Put file key) g = with_version h (nat_le 1 v) (on_put h key)
-    (tries_counts h true Waits (to_offer (is_here h key) (h.filled key)) refuses (reply (Talk None) (put_answer h.part (is_here h key) (h.filled key))) (refused Waits refl)
+    (tries_counts h true Waits (to_offer h.part (is_here h key) (h.filled key)) refuses (reply (Talk None) (put_answer h.part (is_here h key) (h.filled key))) (refused Waits refl)
     (put_counts h.part (is_here h key) (h.filled key)))
 request_counts h v m g = odd h (wants_answer m) Waits
 

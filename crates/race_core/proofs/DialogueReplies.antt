@@ -179,7 +179,7 @@ module _ (size : List ℕ → Option ℕ) (h : Here) (spot : Spot h) (z : Sessio
     -- PUT
     pub put_served : (file key : List ℕ) → 1 ≤ z.version → Served Dialogue.AtPut (Put file key) (on_request h z.version (Put file key))
     put_served file key speaks = if_either (Served Dialogue.AtPut (Put file key)) (nat_le 1 z.version) (on_put h key) (unexpected h)
-        (λ e. try Dialogue.AtPut (Put file key) (to_offer (is_here h key) (h.filled key)) refuses (reply (Talk None) (put_answer h.part (is_here h key) (h.filled key)))
+        (λ e. try Dialogue.AtPut (Put file key) (to_offer h.part (is_here h key) (h.filled key)) refuses (reply (Talk None) (put_answer h.part (is_here h key) (h.filled key)))
         (λ call. answers Dialogue.AtPut (λ z up down x. x) (Put file key) (Fault call (by_of h)) Failure refl (idle (Put file key) (Fault call (by_of h)) Failure refl speaks) (λ g. refl))
         (go (is_here h key) (h.filled key)))
         (λ e. absurd (too_old speaks e))

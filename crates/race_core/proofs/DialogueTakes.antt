@@ -28,7 +28,8 @@ use Rattle.node_model.specs.Sessions.{Session, line_in, reaches}
 use Rattle.node_model.specs.Jobs
 use Rattle.node_model.specs.Jobs.{Part, Gets, Puts, Drops, Phase, Fresh, Next, Opens, Greets, GetsData, GetsBytes, GetsWord, PutsOffer, PutsBytes, PutsWord, PutsAnswer, AsksLock, AsksLook, AsksTime, Removed, Denied, Late, Ends, Heard, Held, Work, gets_more, puts_more, is_move, job_end, listens, partner, side_of, took, transferred, unreleased}
 use Rattle.node_model.specs.Calls.{to_commit, to_release}
-use Rattle.node_model.specs.Look.{Made, same_call, waiting}
+use Rattle.node_model.specs.Look.{Made, waiting}
+use Rattle.annex_base.specs.Calls.{same_call}
 use Rattle.node_model.specs.SessionStep.{bytes_left}
 use Rattle.node_model.specs.JobStep.{Turn, hears, attempts, by_me, clock_of, end_with, ends, farewells, key_of, owns_share, quietly, says_to, sends_to, talk, wrong, is_held}
 use Rattle.node_model.specs.DropStep.{takes_drop, takes_time, first_end, orders, target, times}

@@ -29,8 +29,9 @@ use Rattle.p2p_wire.specs.Messages.{order_of, message_of, text_of}
 use Rattle.node_model.specs.Sessions.{Session, line_in}
 use Rattle.node_model.specs.Jobs
 use Rattle.node_model.specs.Jobs.{Part, Gets, Puts, Drops, Phase, Rows, Fresh, Next, GetsData, PutsOffer, AsksLock, AsksTime, Removed, Ends, Heard, Held, Work, heard_of, fault_of, fault_phase, first_look, is_move, listens, partner, quiet, says, side_of, taken_message, took, unreleased}
-use Rattle.node_model.specs.Calls.{to_hold, to_release}
-use Rattle.node_model.specs.Look.{Made, same_call}
+use Rattle.node_model.specs.Calls.{to_hold, to_release, to_resume, to_read}
+use Rattle.node_model.specs.Look.{Made}
+use Rattle.annex_base.specs.Calls.{same_call}
 use Rattle.node_model.specs.Knows.{enough_by, is_unasked, next_by, asks_by, candidates_by}
 use Rattle.node_model.specs.JobStep.{Turn, attempts, bar_there, by_me, clock_of, end_with, ends, farewells, is_there, key_of, me, owns_share, quietly, says_to, sends_to, talk, is_held}
 use Rattle.node_model.specs.DropStep.{asks_copy, asks_lock, asks_target, bars, expired, first_drop, first_end, first_remote, held_until, in_time, lacking, need_now, orders, own_share, removes, required_there, row_refusal, target, tries_own}
@@ -87,6 +88,11 @@ pub plain_in : (call : Call) (cs : List Call) → list_any (same_call calls.PutF
 plain_in calls.PutFile cs a b e = absurd (true≢false (sym e ∙ a))
 plain_in calls.Unhold cs a b e = absurd (true≢false (sym e ∙ b))
 plain_in call cs a b e = refl
+
+-- so is each of those that ask for a part
+pub resume_plain : (reads : Bool) (call : Call) → list_any (same_call call) (calls.PartSize ∷ to_read reads) ≡ true → is_plain call ≡ true
+resume_plain true call e = plain_in call (calls.PartSize ∷ to_read true) refl refl e
+resume_plain false call e = plain_in call (calls.PartSize ∷ to_read false) refl refl e
 
 fault_is : (r : ℕ) (w : Work) (time : ℕ) (call : Call) → is_plain call ≡ true → fault_of r w time call ≡ fault_phase r w w.part (side_of w) w.phase
 fault_is r w time calls.PutFile e = absurd (cc)
@@ -194,7 +200,7 @@ copy_good t version taken peer speaks part asker old Remote is =
 pub first_asks : (t : Turn) (version : ℕ) (taken : Option FrameView) (peer : ℕ) → Speaks t → Asks t (IsVersion t version peer) taken peer → GoodMade t (quietly (talk t) taken)
     → ((call : Call) → is_plain call ≡ true → GoodMade t (quietly (Fault call (by_me t)) taken)) → (part : Part) → t.w.part ≡ part → GoodMade t (asks t version taken peer part)
 first_asks t version taken peer speaks asker old faults Gets is =
-    attempts_even (GoodMade t) t (calls.PartSize ∷ []) taken (says_to t (talk t) taken peer (Get t.look.part [] (key_of t))) (λ call e. faults call (plain_in call (calls.PartSize ∷ []) refl refl e))
+    attempts_even (GoodMade t) t (to_resume t.look.part) taken (says_to t (talk t) taken peer (Get t.look.part [] (key_of t))) (λ call e. faults call (resume_plain (nat_lt 0 t.look.part) call e))
     (asker (talk t) (Get t.look.part [] (key_of t)) (GetsData peer t.look.part) speaks.get refl refl
     (λ z up down v x. inl (away_asks Dialogue.AtGet z up down (Get t.look.part [] (key_of t)) x x.1 speaks.get)))
 first_asks t version taken peer speaks asker old faults Puts is =

@@ -17,6 +17,7 @@ use Rattle.run_data.specs.declared.job.Outcome.{Outcome}
 use Rattle.run_data.specs.declared.job.Outcome.TheVariants.{Refused, TransferRefused}
 use Rattle.run_data.specs.declared.job.TransferRefusal.TheVariants as failures
 use Rattle.run_data.specs.declared.job.DropRefusal.TheVariants as refusals
+use Rattle.node_model.specs.Calls.{to_resume}
 use Rattle.node_model.specs.Rows.{is_lost_ordered}
 use Rattle.p2p_wire.specs.declared.message.Message.{Message}
 use Rattle.p2p_wire.specs.declared.message.Message.TheVariants.{Error, Get, GetTimestamp, RemoveBefore, Timestamp, Version}
@@ -75,7 +76,7 @@ attempts_old : (t : Turn) (version : ℕ) (cs : List Call) (taken : Option Frame
 attempts_old t version cs taken m good = attempts_even (QuietOld t version) t cs taken m (λ call e k silent. absurd k) good
 
 asks_old : (t : Turn) (version peer : ℕ) (taken : Option FrameView) (part : Part) → t.w.part ≡ part → IsTalkBy (asks t version taken peer part).kind → Silent (asks t version taken peer part) → Old t version peer
-asks_old t version peer taken Gets is = attempts_even (λ (m : Made). IsTalkBy m.kind → Silent m → Old t version peer) t (calls.PartSize ∷ []) taken (says_to t (talk t) taken peer (Get t.look.part [] (key_of t))) (λ call e k silent. absurd k) (λ k silent. absurd (cc))
+asks_old t version peer taken Gets is = attempts_even (λ (m : Made). IsTalkBy m.kind → Silent m → Old t version peer) t (to_resume t.look.part) taken (says_to t (talk t) taken peer (Get t.look.part [] (key_of t))) (λ call e k silent. absurd k) (λ k silent. absurd (cc))
 asks_old t version peer taken Puts is = λ k silent. absurd (cc)
 asks_old t version peer taken Drops is = λ k silent. copy_old t version peer taken is (side_of t.w) refl silent
 
@@ -216,7 +217,7 @@ copy_enough t version taken peer Local = tt
 copy_enough t version taken peer Remote = if_either (EnoughMade t) (target t == peer) (asks_target t version taken (first_end t)) (asks_lock t taken peer) (λ e. target_enough t version taken (first_end t)) (λ e. tt)
 
 asks_enough : (t : Turn) (version : ℕ) (taken : Option FrameView) (peer : ℕ) (part : Part) → EnoughMade t (asks t version taken peer part)
-asks_enough t version taken peer Gets = attempts_enough t (calls.PartSize ∷ []) taken (says_to t (talk t) taken peer (Get t.look.part [] (key_of t))) tt
+asks_enough t version taken peer Gets = attempts_enough t (to_resume t.look.part) taken (says_to t (talk t) taken peer (Get t.look.part [] (key_of t))) tt
 asks_enough t version taken peer Puts = tt
 asks_enough t version taken peer Drops = copy_enough t version taken peer (side_of t.w)
 

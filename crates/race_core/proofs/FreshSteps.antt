@@ -27,7 +27,8 @@ use Rattle.run_model.specs.Past.{holds, is_of}
 use Rattle.node_model.specs.Rows.{is_lost_ordered}
 use Rattle.node_model.specs.Evidence.{Standing, Asked}
 use Rattle.run_model.specs.Logs.{before_step, has_stepped, in_drop, is_step}
-use Rattle.node_model.specs.Look.{first_of, Made, same_call}
+use Rattle.node_model.specs.Look.{first_of, Made}
+use Rattle.annex_base.specs.Calls.{same_call}
 use Rattle.p2p_wire.specs.declared.message.Message.TheVariants.{Put}
 use Rattle.p2p_wire.specs.Messages.{message_of, text_of}
 use Rattle.node_model.specs.SetUp.{SetUp}

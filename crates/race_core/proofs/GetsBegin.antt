@@ -1,6 +1,6 @@
 -- A get that is to begin has made no step: its first step brings it to another phase, or to its drop.
 use Rattle.std.proofs.Common.{◌≡◌, ◌≢◌, ℕ, ◌<◌, Bool, true, false, List, [], ◌∷◌, Option, Some, None, inl, inr, refl, sym, ap, ◌∙◌, subst}
-use Rattle.std.specs.Prelude.{if◌then◌else◌, ◌&&◌, ◌||◌, filter, map, not}
+use Rattle.std.specs.Prelude.{nat_lt, if◌then◌else◌, ◌&&◌, ◌||◌, filter, map, not}
 use Rattle.std.specs.List.{list_all, list_any}
 use Rattle.std.proofs.lemmas.Bool.{or_parts}
 use Rattle.annex_base.specs.Lists.{Each, Member}
@@ -29,8 +29,9 @@ use Rattle.p2p_wire.specs.Messages.{message_of, text_of}
 use Rattle.node_model.specs.SetUp.{SetUp}
 use Rattle.node_model.specs.Jobs.{Drops, Fresh, Gets, Part, Phase, Puts, Work, first_look, is_move, partner, says_some, work_kind}
 use Rattle.run_model.specs.States.{rows_at, works}
-use Rattle.node_model.specs.Calls.{to_release}
-use Rattle.node_model.specs.Look.{Made, same_call}
+use Rattle.node_model.specs.Calls.{to_release, to_read, to_resume}
+use Rattle.node_model.specs.Look.{Made}
+use Rattle.annex_base.specs.Calls.{same_call}
 use Rattle.node_model.specs.JobStep.{Turn, by_me, end_with, ends, farewells, is_there, key_of, me, owns_share, quietly, says_to, sends_to, talk}
 use Rattle.node_model.specs.Requests.{asks, goes_to}
 use Rattle.node_model.specs.TransferStep.{first_get, next_source}
@@ -157,9 +158,15 @@ module _ (before : Turn) where
         (record { kind = ends_job t.w.number outcome; taken = None; sent = farewells t (is_lost_ordered outcome); lines = [] })
         (λ call e. absurd (no_release (owns_share t) (not (is_lost_ordered outcome)) none call e)) tt
 
+    -- neither of the calls is this one
+    resumes_without : (call : Call) → same_call call calls.PartSize ≡ false → same_call call calls.ReadPart ≡ false → (reads : Bool)
+        → list_any (same_call call) (calls.PartSize ∷ to_read reads) ≡ false
+    resumes_without call a b true = rw a (rw b refl)
+    resumes_without call a b false = rw a refl
+
     goes_leaves : (peer : ℕ) → LeavesBy (goes_to t peer)
     goes_leaves peer = if_either LeavesBy (end_with t peer).opened (asks t t.w.version None peer Gets) (sends_to t (talk t) None peer (Opening ∷ []))
-        (λ e. attempts_even LeavesBy t (calls.PartSize ∷ []) None (says_to t (talk t) None peer (Get t.look.part [] (key_of t))) (fault_leaves (calls.PartSize ∷ []) refl refl)
+        (λ e. attempts_even LeavesBy t (to_resume t.look.part) None (says_to t (talk t) None peer (Get t.look.part [] (key_of t))) (fault_leaves (to_resume t.look.part) (resumes_without calls.PutFile refl refl (nat_lt 0 t.look.part)) (resumes_without calls.Unhold refl refl (nat_lt 0 t.look.part)))
         (λ p. ap (λ o. is_fresh (says_some (record t.w { fills = true }) t.look.time peer None o).phase) read))
         (λ e p. refl)
 

@@ -29,7 +29,7 @@ use Rattle.node_model.specs.Ends.{End, frames, is_opening}
 use Rattle.node_model.specs.Sessions.{reaches}
 use Rattle.node_model.specs.Jobs
 use Rattle.node_model.specs.Jobs.{Work, Part, Phase, Gets, Puts, Drops, Fresh, Next, Opens, Greets, GetsData, GetsBytes, GetsWord, PutsOffer, PutsBytes, PutsWord, PutsAnswer, AsksLock, AsksLook, AsksTime, job_end, partner, side_of, is_move}
-use Rattle.node_model.specs.Calls.{to_commit, to_hold, to_release}
+use Rattle.node_model.specs.Calls.{to_commit, to_hold, to_release, to_resume}
 use Rattle.node_model.specs.State.{State}
 use Rattle.node_model.specs.Look.{Look, Made, failing, waiting}
 use Rattle.node_model.specs.SessionStep.{bytes_left}
@@ -102,7 +102,7 @@ copy_says t version taken peer Remote o =
 
 asks_says : (t : Turn) (version : ℕ) (taken : Option FrameView) (peer : ℕ) (part : Part) → Open t peer → Says t (asks t version taken peer part)
 asks_says t version taken peer Gets o =
-    attempts_says t (calls.PartSize ∷ []) taken (says_to t (talk t) taken peer (Get t.look.part [] (key_of t))) (one_says t (talk t) taken peer (Line (text_of (Get t.look.part [] (key_of t)))) o refl)
+    attempts_says t (to_resume t.look.part) taken (says_to t (talk t) taken peer (Get t.look.part [] (key_of t))) (one_says t (talk t) taken peer (Line (text_of (Get t.look.part [] (key_of t)))) o refl)
 asks_says t version taken peer Puts o = one_says t (talk t) taken peer (Line (text_of (Put [] (key_of t)))) o refl
 asks_says t version taken peer Drops o = copy_says t version taken peer (side_of t.w) o
 

@@ -29,7 +29,7 @@ use Rattle.p2p_wire.specs.Messages.{order_of, message_of, text_of}
 use Rattle.node_model.specs.Sessions.{line_in, reaches}
 use Rattle.node_model.specs.Jobs
 use Rattle.node_model.specs.Jobs.{Part, Gets, Puts, Drops, Phase, Fresh, Next, Opens, Greets, GetsData, GetsBytes, GetsWord, PutsOffer, PutsBytes, PutsWord, PutsAnswer, AsksLock, AsksLook, AsksTime, is_move, Work, job_end, partner, side_of}
-use Rattle.node_model.specs.Calls.{to_commit, to_hold, to_release}
+use Rattle.node_model.specs.Calls.{to_commit, to_hold, to_release, to_resume}
 use Rattle.node_model.specs.Look.{Look, Made, failing, waiting}
 use Rattle.node_model.specs.SessionStep.{bytes_left}
 use Rattle.node_model.specs.Knows.{enough_by, next_by}
@@ -162,7 +162,7 @@ copy_found t version taken peer part Remote side =
 
 asks_found : (t : Turn) (version : ℕ) (taken : Option FrameView) (peer : ℕ) (part : Part) → t.w.part ≡ part → JobFound t taken (asks t version taken peer part)
 asks_found t version taken peer Gets part =
-    attempts_found t (calls.PartSize ∷ []) taken (says_to t (talk t) taken peer (Get t.look.part [] (key_of t)))
+    attempts_found t (to_resume t.look.part) taken (says_to t (talk t) taken peer (Get t.look.part [] (key_of t)))
     (sends_found t taken peer (Line (text_of (Get t.look.part [] (key_of t)))) (Get t.look.part [] (key_of t), refl, tt))
 asks_found t version taken peer Puts part = sends_found t taken peer (Line (text_of (Put [] (key_of t)))) (Put [] (key_of t), refl, tt)
 asks_found t version taken peer Drops part = copy_found t version taken peer part (side_of t.w) refl

@@ -21,7 +21,7 @@ use Rattle.node_model.specs.Rows.{is_lost_ordered}
 use Rattle.node_model.specs.Evidence.{Standing, Asked}
 use Rattle.p2p_wire.specs.declared.message.Message.TheVariants.{Get, GetTimestamp}
 use Rattle.node_model.specs.Jobs.{Drops, Fresh, Gets, Next, Part, Phase, Puts, is_move, partner, side_of}
-use Rattle.node_model.specs.Calls.{to_hold}
+use Rattle.node_model.specs.Calls.{to_hold, to_resume}
 use Rattle.node_model.specs.Look.{Made}
 use Rattle.node_model.specs.Knows.{enough_by, next_by}
 use Rattle.node_model.specs.JobStep.{Turn, attempts, bar_there, by_me, clock_of, end_with, ends, farewells, is_there, key_of, me, quietly, says_to, sends_to, talk}
@@ -57,7 +57,7 @@ copy_not t version taken peer Local = tt
 copy_not t version taken peer Remote = if_either Not (target t == peer) (asks_target t version taken (first_end t)) (asks_lock t taken peer) (λ e. target_not t version taken (first_end t)) (λ e. tt)
 
 asks_not : (t : Turn) (version : ℕ) (taken : Option FrameView) (peer : ℕ) (part : Part) → Not (asks t version taken peer part)
-asks_not t version taken peer Gets = attempts_not t (calls.PartSize ∷ []) taken (says_to t (talk t) taken peer (Get t.look.part [] (key_of t))) tt
+asks_not t version taken peer Gets = attempts_not t (to_resume t.look.part) taken (says_to t (talk t) taken peer (Get t.look.part [] (key_of t))) tt
 asks_not t version taken peer Puts = tt
 asks_not t version taken peer Drops = copy_not t version taken peer (side_of t.w)
 

@@ -30,7 +30,7 @@ use Rattle.node_model.specs.SetUp.{SetUp}
 use Rattle.node_model.specs.Sessions.{reaches}
 use Rattle.node_model.specs.Jobs
 use Rattle.node_model.specs.Jobs.{Part, Gets, Puts, Drops, Phase, Fresh, Next, Opens, Greets, GetsData, GetsBytes, GetsWord, PutsOffer, PutsBytes, PutsWord, PutsAnswer, AsksLock, AsksLook, AsksTime, job_end, partner, side_of, is_move}
-use Rattle.node_model.specs.Calls.{to_commit, to_hold, to_release}
+use Rattle.node_model.specs.Calls.{to_commit, to_hold, to_release, to_resume}
 use Rattle.node_model.specs.Look.{Made, failing, waiting}
 use Rattle.node_model.specs.SessionStep.{bytes_left}
 use Rattle.node_model.specs.Knows.{enough_by, next_by}
@@ -96,7 +96,7 @@ copy_shuts t version taken peer Remote =
 
 asks_shuts : (t : Turn) (version : ℕ) (taken : Option FrameView) (peer : ℕ) (part : Part) → Shuts t (asks t version taken peer part)
 asks_shuts t version taken peer Gets =
-    attempts_shuts t (calls.PartSize ∷ []) taken (says_to t (talk t) taken peer (Get t.look.part [] (key_of t))) (one_shuts t (talk t) taken peer (Line (text_of (Get t.look.part [] (key_of t)))) refl)
+    attempts_shuts t (to_resume t.look.part) taken (says_to t (talk t) taken peer (Get t.look.part [] (key_of t))) (one_shuts t (talk t) taken peer (Line (text_of (Get t.look.part [] (key_of t)))) refl)
 asks_shuts t version taken peer Puts = one_shuts t (talk t) taken peer (Line (text_of (Put [] (key_of t)))) refl
 asks_shuts t version taken peer Drops = copy_shuts t version taken peer (side_of t.w)
 

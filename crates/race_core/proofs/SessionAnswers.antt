@@ -141,7 +141,7 @@ request_replied h v (Get n file key) =
 request_replied h v (Put file key) =
     let good : Reply = reply (Talk None) (put_answer h.part (is_here h key) (h.filled key)) in
     with_version h (Put file key) (nat_le 1 v) (on_put h key)
-    (tries_replied h (Put file key) (to_offer (is_here h key) (h.filled key)) refuses good (λ call. fits (Put file key) (Fault call (by_of h)) Failure refl refl)
+    (tries_replied h (Put file key) (to_offer h.part (is_here h key) (h.filled key)) refuses good (λ call. fits (Put file key) (Fault call (by_of h)) Failure refl refl)
     (put_replied file key h.part (is_here h key) (h.filled key)))
 request_replied h v m = odd h m
 

@@ -104,7 +104,7 @@ request_found h v (Get n file key) =
 request_found h v (Put file key) =
     let here = is_here h key in let filled = h.filled key in
     with_version h (Some (Put file key)) (nat_le 1 v) (on_put h key)
-    (tries_found h Waits (Some (Put file key)) (to_offer here filled) refuses (reply (Talk None) (put_answer h.part here filled)) refused
+    (tries_found h Waits (Some (Put file key)) (to_offer h.part here filled) refuses (reply (Talk None) (put_answer h.part here filled)) refused
     (put_found h file key here filled))
 request_found h v m = unexpected_found h Waits (Some m)
 

@@ -123,7 +123,7 @@ module _ (s : SetUp) (past : List Entry) (h : OwnPast s past) (known : s.number 
   before_ok n key = if_either Read (nat_lt (now_of spot) (1000 * n)) (on_remove spot key) _ (λ e. remove_ok key) (λ e. one_read Failure refl)
 
   put_ok : (key : List ℕ) → Read (on_put spot key)
-  put_ok key = tries_read (to_offer (is_here spot key) (is_filled s (state_of s past) key)) refuses
+  put_ok key = tries_read (to_offer k.part (is_here spot key) (is_filled s (state_of s past) key)) refuses
       (reply (Talk None) (put_answer k.part (is_here spot key) (is_filled s (state_of s past) key))) refuses_read
       (put_read k.part small (is_here spot key) (is_filled s (state_of s past) key))
 

@@ -29,7 +29,7 @@ use Rattle.p2p_wire.specs.Messages.{message_of, text_of}
 use Rattle.node_model.specs.Sessions.{reaches}
 use Rattle.node_model.specs.Jobs
 use Rattle.node_model.specs.Jobs.{Part, Gets, Puts, Drops, Phase, Fresh, Next, Opens, Greets, GetsData, GetsBytes, GetsWord, PutsOffer, PutsBytes, PutsWord, PutsAnswer, AsksLock, AsksLook, AsksTime, Removed, Denied, Late, Ends, is_move, Work, job_end, partner, side_of}
-use Rattle.node_model.specs.Calls.{to_commit, to_hold, to_release}
+use Rattle.node_model.specs.Calls.{to_commit, to_hold, to_release, to_resume}
 use Rattle.node_model.specs.Look.{Look, Made, failing, waiting}
 use Rattle.node_model.specs.SessionStep.{bytes_left}
 use Rattle.node_model.specs.Knows.{enough_by, next_by}
@@ -243,7 +243,7 @@ no_part t part is apart drops = absurd (apart (sym is ∙ drops))
 
 asks_talks : (t : Turn) (version : ℕ) (taken : Option FrameView) (peer : ℕ) (part : Part) → t.w.part ≡ part → (part ≡ Drops → AsksAt t peer) → Talks t (asks t version taken peer part)
 asks_talks t version taken peer Gets part at =
-    attempts_talks t (calls.PartSize ∷ []) taken (says_to t (talk t) taken peer (Get t.look.part [] (key_of t)))
+    attempts_talks t (to_resume t.look.part) taken (says_to t (talk t) taken peer (Get t.look.part [] (key_of t)))
     (says_talks t taken peer (Get t.look.part [] (key_of t)) (no_part t Gets part (λ e. cc)) (subst (λ p. PartAsks t peer p (Get t.look.part [] (key_of t))) (sym part) tt))
 asks_talks t version taken peer Puts part at =
     says_talks t taken peer (Put [] (key_of t)) (no_part t Puts part (λ e. cc)) (subst (λ p. PartAsks t peer p (Put [] (key_of t))) (sym part) tt)

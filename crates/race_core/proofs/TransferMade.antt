@@ -22,7 +22,7 @@ use Rattle.node_model.specs.Jobs
 use Rattle.node_model.specs.Jobs.{Drops, Fresh, Gets, GetsData, GetsWord, Greets, Next, Opens, Part, Phase, Puts, PutsAnswer, PutsBytes, PutsOffer, PutsWord, Work, is_move, job_end, partner}
 use Rattle.node_model.specs.Ends.{frames}
 use Rattle.node_model.specs.Look.{Made, waiting}
-use Rattle.node_model.specs.Calls.{to_release}
+use Rattle.node_model.specs.Calls.{to_release, to_resume}
 use Rattle.node_model.specs.JobStep.{Turn, attempts, by_me, end_with, ends, farewells, hears, is_there, key_of, owns_share, quietly, says_to, sends_to, talk, wrong}
 use Rattle.node_model.specs.Requests.{asks, goes_to}
 use Rattle.node_model.specs.TransferStep.{content_of, first_get, first_put, next_get, next_source, takes_get, takes_put}
@@ -76,7 +76,7 @@ module _ (t : Turn) where
       (λ j kind none sent. absurd (let no_talk : ends_job t.w.number outcome ≡ Talk (Some j) = kind in cc))
 
   asks_quiet : (version : ℕ) (taken : Option FrameView) (peer : ℕ) (part : Part) → part ≢ Drops → Quiet (asks t version taken peer part)
-  asks_quiet version taken peer Gets apart = attempts_quiet (calls.PartSize ∷ []) taken (says_to t (talk t) taken peer (Get t.look.part [] (key_of t))) (sends_quiet taken peer (Line (text_of (Get t.look.part [] (key_of t)))))
+  asks_quiet version taken peer Gets apart = attempts_quiet (to_resume t.look.part) taken (says_to t (talk t) taken peer (Get t.look.part [] (key_of t))) (sends_quiet taken peer (Line (text_of (Get t.look.part [] (key_of t)))))
   asks_quiet version taken peer Puts apart = sends_quiet taken peer (Line (text_of (Put [] (key_of t))))
   asks_quiet version taken peer Drops apart = absurd (apart refl)
 

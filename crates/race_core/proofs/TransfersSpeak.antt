@@ -22,7 +22,7 @@ use Rattle.p2p_wire.specs.declared.message.Message.TheVariants.{AlreadyHave, Aut
 use Rattle.p2p_wire.specs.Messages.{message_of, text_of}
 use Rattle.node_model.specs.SetUp.{SetUp}
 use Rattle.node_model.specs.Jobs.{Part, Gets, Puts, Drops, Phase, Fresh, Next, Opens, Greets, GetsData, GetsBytes, GetsWord, PutsAnswer, PutsBytes, PutsOffer, PutsWord, job_end, partner, is_move}
-use Rattle.node_model.specs.Calls.{to_commit, to_release}
+use Rattle.node_model.specs.Calls.{to_commit, to_release, to_resume}
 use Rattle.node_model.specs.Look.{Made, failing, waiting}
 use Rattle.node_model.specs.JobStep.{Turn, attempts, by_me, end_with, ends, farewells, hears, is_there, key_of, owns_share, quietly, says_to, sends_to, talk, wrong}
 use Rattle.node_model.specs.Sessions.{reaches}
@@ -63,7 +63,7 @@ ends_tells t taken outcome =
 
 asks_tells : (t : Turn) (version : ℕ) (taken : Option FrameView) (peer : ℕ) (part : Part) → Transfers part → Place t peer → Tells t (asks t version taken peer part)
 asks_tells t version taken peer Gets is place =
-    attempts_tells t (calls.PartSize ∷ []) taken (says_to t (talk t) taken peer (Get t.look.part [] (key_of t))) (one_tells t (talk t) taken peer (Line (text_of (Get t.look.part [] (key_of t)))) place)
+    attempts_tells t (to_resume t.look.part) taken (says_to t (talk t) taken peer (Get t.look.part [] (key_of t))) (one_tells t (talk t) taken peer (Line (text_of (Get t.look.part [] (key_of t)))) place)
 asks_tells t version taken peer Puts is place = one_tells t (talk t) taken peer (Line (text_of (Put [] (key_of t)))) place
 asks_tells t version taken peer Drops is place = absurd is
 
