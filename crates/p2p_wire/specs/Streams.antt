@@ -3,6 +3,7 @@
 use Rattle.std.specs.Prelude.{◌≡◌, ℕ, ◌+◌, ◌-◌, ◌^◌, min, Bool, if◌then◌else◌, ◌==◌, nat_lt, List, [], ◌∷◌, ◌++◌, length, take, drop, map, flat_map, Option, Some, None}
 use Rattle.std.specs.List.{before_first, position_or_len}
 use Rattle.annex_base.specs.Lines.{newline, is_newline, IsOneLine}
+use Rattle.annex_base.specs.Lists.{Each}
 use Rattle.p2p_wire.specs.declared.message.Message.{Message}
 use Rattle.p2p_wire.specs.declared.message.Message.TheVariants.{Data, Error}
 use Rattle.p2p_wire.specs.declared.decoder.Next.{Next}
@@ -178,3 +179,24 @@ pub record Decodes (items : List Item) (more : List ℕ) (events : List Event) :
   pub later : List Sign
   pub in_order : flat_map signs_of items ≡ flat_map signs_in (answers events start) ++ later
   pub whole : more ≡ [] → told (after_all events start) ≡ Waits → later ≡ []
+
+-- a message that is given is one of the protocol
+abbrev pub IsToldLine : Told → Type 0
+IsToldLine (Says m) = IsLine m
+IsToldLine t = Unit {0}
+
+-- a refusal tells the fault and the place where the decoder stops
+abbrev pub IsToldFault : Unread → Told → Type 0
+IsToldFault u (Refuses at why) = (u.fault ≡ Some why) × (u.place ≡ at)
+IsToldFault u t = Unit {0}
+
+-- what was fed is what was given, and then what was not given and what came after a fault; a fault is that of the line
+-- with which the bytes that were not given begin
+pub record Accounts (events : List Event) : Type 0 where
+  pub ignored : List ℕ
+  pub bytes : fed_bytes events ≡ flat_map given_in (answers events start) ++ ((after_all events start).bytes ++ ignored)
+  pub kept : (after_all events start).fault ≡ None → ignored ≡ []
+  pub place : (after_all events start).place ≡ min (length (flat_map given_in (answers events start))) (2 ^ 64 - 1)
+  pub lines : Each IsToldLine (answers events start)
+  pub faults : Each (IsToldFault (after_all events start)) (answers events start)
+  pub fault : (why : Why) → (after_all events start).fault ≡ Some why → line_told (after_all events start).place (after_all events start).bytes ≡ Refuses (after_all events start).place why

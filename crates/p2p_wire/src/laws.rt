@@ -4,7 +4,7 @@ ghost use Rattle.std.specs.Prelude.{◌≡◌, ℕ, ◌≤◌, ◌++◌, List, l
 ghost use Rattle.p2p_wire.specs.declared.message.Message.{Message};
 ghost use Rattle.annex_base.specs.Lists.{Each};
 ghost use Rattle.p2p_wire.specs.Messages.{IsShort, IsWire, message_of, text_of};
-ghost use Rattle.p2p_wire.specs.Streams.{Decodes, Event, IsItem, Item, fed_bytes, stream_of};
+ghost use Rattle.p2p_wire.specs.Streams.{Accounts, Decodes, Event, IsItem, Item, fed_bytes, stream_of};
 
 /// Each message that is sent is read from its line, which has at most 8,192 bytes (git-annex P2P protocol; the limit is
 /// the project's own).
@@ -23,4 +23,10 @@ pub fn lines_have_one_message()
 /// (git-annex P2P protocol).
 pub fn streams_are_decoded()
     ensures { (items : List Item) (events : List Event) (more : List ℕ) → Each IsItem items → fed_bytes events ++ more ≡ stream_of items → Decodes items more events }
+{}
+
+/// Whatever a decoder is fed and whenever it is asked, what it gave and then what it did not give is what it was fed;
+/// each message is one of the protocol; and a refusal tells the first line that is none, at the place of its first byte.
+pub fn answers_account_for_the_bytes()
+    ensures { (events : List Event) → Accounts events }
 {}
