@@ -4,7 +4,9 @@ ghost use Rattle.std.specs.Prelude.{◌≡◌, ℕ, ◌≤◌, ◌++◌, List, l
 ghost use Rattle.p2p_wire.specs.declared.message.Message.{Message};
 ghost use Rattle.annex_base.specs.Lists.{Each};
 ghost use Rattle.p2p_wire.specs.Messages.{IsShort, IsWire, message_of, text_of};
-ghost use Rattle.p2p_wire.specs.Streams.{Accounts, Decodes, Event, IsItem, Item, fed_bytes, stream_of};
+ghost use Rattle.p2p_wire.specs.Streams.{Accounts, Decodes, Event, IsItem, IsLine, IsSaidInOneLine, Item, fed_bytes, stream_of};
+
+use annex_key::key_texts_have_no_fault;
 
 /// Each message that is sent is read from its line, which has at most 8,192 bytes (git-annex P2P protocol; the limit is
 /// the project's own).
@@ -12,6 +14,15 @@ pub fn sent_messages_are_read()
     ensures read { (m : Message) → IsWire m → IsShort m → message_of (text_of m) ≡ Some m }
     ensures short { (m : Message) → IsWire m → IsShort m → length (text_of m) ≤ 8192 }
 {}
+
+/// Each message that is sent has a line of the protocol: no newline is in it, and it is read as that message (git-annex
+/// P2P protocol).
+pub fn sent_messages_have_lines()
+    ensures { (m : Message) → IsWire m → IsShort m → IsSaidInOneLine m → IsLine m }
+{
+    // For the proof, which cites it.
+    key_texts_have_no_fault();
+}
 
 /// A line that is read as a message is that message's line (git-annex P2P protocol).
 pub fn lines_have_one_message()
