@@ -143,9 +143,9 @@ said_bytes u m e =
     let cut = split_at_first is_newline u.bytes newline s.within in
     let stop : get_or u.bytes (line_len u.bytes) newline ≡ newline = eqb-true (get_or u.bytes (line_len u.bytes) newline) newline (passes_at_first is_newline u.bytes newline s.within) in
     let whole : u.bytes ≡ line_of m ++ after_first is_newline u.bytes =
-        cut ∙ ap (λ (front : List ℕ). front ++ get_or u.bytes (line_len u.bytes) newline ∷ after_first is_newline u.bytes) s.line
-        ∙ ap (λ (b : ℕ). text_of m ++ b ∷ after_first is_newline u.bytes) stop
-        ∙ sym (append_assoc (text_of m) (newline ∷ []) (after_first is_newline u.bytes)) in
+    cut ∙ ap (λ (front : List ℕ). front ++ get_or u.bytes (line_len u.bytes) newline ∷ after_first is_newline u.bytes) s.line
+    ∙ ap (λ (b : ℕ). text_of m ++ b ∷ after_first is_newline u.bytes) stop
+    ∙ sym (append_assoc (text_of m) (newline ∷ []) (after_first is_newline u.bytes)) in
     ap (λ (rest : List ℕ). line_of m ++ rest) (ap (drop (length (line_of m))) whole ∙ drop_at (line_of m) (after_first is_newline u.bytes) (length (line_of m)) refl) ∙ sym whole
 
 -- so it has no newline
