@@ -1,8 +1,10 @@
 //! Laws on keys and their texts, which no call depends on.
-ghost use Rattle.std.specs.Prelude.{◌≡◌, ◌↔◌, List, ℕ, Some};
+ghost use Rattle.std.specs.Prelude.{◌≡◌, ◌↔◌, List, ℕ, Some, None};
+ghost use Rattle.annex_base.specs.Lines.{IsOneLine};
 ghost use Rattle.annex_key.specs.KeyText.{Parts, IsKey, IsKeyText, key_text};
 ghost use Rattle.annex_key.specs.KeyFile.{file_text};
 ghost use Rattle.annex_key.specs.FileKey.{key_of_file};
+ghost use Rattle.annex_key.specs.View.{first_fault};
 
 /// A text is that of one key at most, and a file name that of one text.
 pub fn names_are_unique()
@@ -13,4 +15,10 @@ pub fn names_are_unique()
 /// The key that is computed of a file name is the one whose file has this name.
 pub fn files_name_their_keys()
     ensures { (file key : List ℕ) → (key_of_file file ≡ Some key) ↔ (IsKeyText key × (file ≡ file_text key)) }
+{}
+
+/// A text has no fault exactly where it is a key's, and then it is one line.
+pub fn key_texts_have_no_fault()
+    ensures sound { (text : List ℕ) → (first_fault text ≡ None) ↔ IsKeyText text }
+    ensures line { (text : List ℕ) → IsKeyText text → IsOneLine text }
 {}
