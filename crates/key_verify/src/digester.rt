@@ -76,7 +76,8 @@ fn hasher_of(method: Method) -> Hasher
 impl Digester {
     /// A digester for the content of this key, which has taken nothing.
     pub fn new(key: &Key) -> Digester
-        ensures { HasTaken result key.now [] }
+        ensures taken { HasTaken result key.now [] }
+        ensures count { bytes_taken result ≡ 0 }
     {
         Digester {
             size: 0,
@@ -87,7 +88,8 @@ impl Digester {
     /// Takes the next piece.
     pub fn update(&mut self, piece: &[u8])
         requires { bytes_taken self.old + length piece.now < 2 ^ 64 }
-        ensures { (key bytes : List ℕ) → HasTaken self.old key bytes → HasTaken self.new key (bytes ++ piece.now) }
+        ensures taken { (key bytes : List ℕ) → HasTaken self.old key bytes → HasTaken self.new key (bytes ++ piece.now) }
+        ensures count { bytes_taken self.new ≡ bytes_taken self.old + length piece.now }
     {
         self.size += piece.len() as u64;
         feed(&mut self.hasher, piece);
