@@ -1,11 +1,11 @@
 -- The key that is made of a content is a key, and the content is its own.
-use Rattle.std.proofs.Common.{inl, inr, ◌≡◌, ℕ, zero, suc, ◌+◌, ◌*◌, ◌<◌, ◌≤◌, ◌^◌, ◌/◌, ◌%◌, Bool, true, ltb, leb, not, List, [], ◌∷◌, ◌++◌, length, take, get_or, Option, Some, None, IfSome, refl, sym, ap, subst, ◌∙◌, arith, length-append}
+use Rattle.std.proofs.Common.{◌≡◌, ℕ, zero, suc, ◌+◌, ◌*◌, ◌<◌, ◌≤◌, ◌^◌, ◌/◌, ◌%◌, Bool, true, ltb, leb, not, List, [], ◌∷◌, ◌++◌, length, take, get_or, Option, Some, None, IfSome, refl, sym, ap, subst, ◌∙◌, arith, length-append}
 use Rattle.std.specs.Prelude.{◌==◌, ◌&&◌, if◌then◌else◌, codes, nat_lt}
 use Rattle.std.specs.Char.{is_ascii_alphanumeric}
 use Rattle.std.specs.Fmt.{decimal}
-use Rattle.std.specs.List.{list_all, list_any, position_or_len, before_first}
+use Rattle.std.specs.List.{after_last, list_all, position_or_len, before_first}
 use Rattle.std.specs.Str.{IsAscii}
-use Rattle.std.proofs.lemmas.Bool.{cases_Bool, and_parts, ltb-true, leb-true}
+use Rattle.std.proofs.lemmas.Bool.{and_parts, ltb-true, leb-true}
 use Rattle.std.proofs.lemmas.Bool.Decides.{nat_tests}
 use Rattle.std.proofs.lemmas.Fmt.{length-decimal-le}
 use Rattle.std.proofs.lemmas.List.{take_at}
@@ -24,21 +24,8 @@ use Rattle.annex_key.specs.View.{backend_part, size_part, name_part}
 use Rattle.key_verify.specs.declared.method.Method.{Method}
 use Rattle.key_verify.specs.declared.method.Method.TheVariants as methods
 use Rattle.key_verify.specs.Digests.{is_dot, told_digest, wanted_digest, key_method, method_of, digest_of, digest_text}
-use Rattle.key_verify.specs.MakingKeys.{after_last, dot, slash, is_extension, component_word, with_dot, extension_word, extension_of, made_key}
+use Rattle.key_verify.specs.MakingKeys.{dot, slash, is_extension, component_word, with_dot, extension_word, extension_of, made_key}
 use Rattle.key_verify.specs.Matching.{MatchesKey}
-
--- ---- the last byte of a kind
-
--- what follows the last byte of the rest, or what followed an earlier one
-abbrev pub or_after_last : ℕ → List ℕ → List ℕ → List ℕ
-or_after_last byte rest last = if list_any (λ x. x == byte) rest then after_last byte rest else last
-
-pub after_last-start : (byte : ℕ) (text : List ℕ) → after_last byte text ≡ or_after_last byte text text
-after_last-start byte [] = refl
-after_last-start byte (b ∷ bs) = elim (cases_Bool (b == byte)) [
-  | inl is ↦ rw is refl
-  | inr other ↦ elim (cases_Bool (list_any (λ x. x == byte) bs)) [ inl some ↦ rw (other, some) refl | inr none ↦ rw (other, none) refl ]
-]
 
 -- ---- the bytes of a name
 
@@ -92,7 +79,7 @@ if_word None h = tt
 if_word (Some word) h = h word refl
 
 word_is : (path : List ℕ) → IfSome (extension_word path) (λ word. is_extension word ≡ true)
-word_is path = if_word (extension_word path) (λ kept e. word_of_extension (after_last slash path) (after_last dot (after_last slash path)) kept e)
+word_is path = if_word (extension_word path) (λ kept e. word_of_extension (after_last (λ b. b == slash) path) (after_last (λ b. b == dot) (after_last (λ b. b == slash) path)) kept e)
 
 -- ---- the name
 

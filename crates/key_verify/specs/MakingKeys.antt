@@ -1,15 +1,10 @@
 -- The key that is made of a content, and the extension that it keeps (git-annex backends; the extension's rule is own).
 use Rattle.std.specs.Prelude.{ℕ, ◌+◌, Bool, List, [], ◌∷◌, ◌++◌, length, Option, Some, None, codes, nat_le, nat_lt, ◌==◌, ◌&&◌, if◌then◌else◌}
 use Rattle.std.specs.Char.{is_ascii_alphanumeric}
-use Rattle.std.specs.List.{list_any, list_all}
+use Rattle.std.specs.List.{after_last, list_all}
 use Rattle.hex.specs.Hex.{encode_lower}
 use Rattle.sha2.specs.Sha256.{sha256}
 use Rattle.annex_key.specs.KeyText.{Parts}
-
--- what follows the last of these bytes, and all of the text where there is none
-abbrev pub after_last : ℕ → List ℕ → List ℕ
-after_last byte [] = []
-after_last byte (b ∷ bs) = if list_any (λ x. x == byte) bs then after_last byte bs else (if b == byte then bs else b ∷ bs)
 
 abbrev pub slash : ℕ
 slash = 47
@@ -27,7 +22,7 @@ component_word component word = if is_extension word && nat_lt (length word + 1)
 
 -- the extension of a path's last component
 abbrev pub extension_word : List ℕ → Option (List ℕ)
-extension_word path = let component = after_last slash path in component_word component (after_last dot component)
+extension_word path = let component = after_last (λ b. b == slash) path in component_word component (after_last (λ b. b == dot) component)
 
 abbrev pub with_dot : Option (List ℕ) → List ℕ
 with_dot None = []

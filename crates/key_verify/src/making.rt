@@ -1,12 +1,12 @@
 //! The key that is made of a content.
-ghost use Rattle.std.specs.Prelude.{◌≡◌, ◌++◌, ◌∷◌, IfOk, OnOk, string_bytes};
-ghost use Rattle.std.specs.List.{list_all};
+ghost use Rattle.std.specs.Prelude.{◌≡◌, ◌==◌, ◌++◌, IfOk, OnOk, not};
+ghost use Rattle.std.specs.List.{after_last, list_all, suffix_len};
 ghost use Rattle.std.specs.Char.{is_ascii_alphanumeric};
 ghost use Rattle.std.specs.Option.{option_copied};
 ghost use Rattle.annex_key.specs.KeyText.{IsKeyText, key_text};
 ghost use Rattle.hex.specs.Hex.{encode_lower};
 ghost use Rattle.sha2.specs.Sha256.{sha256};
-ghost use Rattle.key_verify.specs.MakingKeys.{after_last, is_extension, extension_word, extension_of, made_key};
+ghost use Rattle.key_verify.specs.MakingKeys.{is_extension, extension_word, extension_of, made_key};
 ghost use Rattle.key_verify.specs.Matching.{MatchesKey};
 
 use crate::laws::made_keys_match;
@@ -15,18 +15,18 @@ use annex_key::{Key, KeyFault};
 use sha2::{Digest, Sha256};
 use std::alloc::{AllocError, Global};
 
-fn after_last(byte: u8, text: &[u8]) -> &[u8]
-    ensures { result.now ≡ after_last byte text.now }
+// How many bytes follow the last one of this kind.
+fn last_len(byte: u8, text: &[u8]) -> usize
+    ensures { result ≡ suffix_len (λ b. not (b == byte)) text.now }
 {
-    let mut last = text;
-    let mut rest = text;
-    while let Some((first, after)) = rest.split_first() {
-        if *first == byte {
-            last = after;
-        }
-        rest = after;
-    }
-    last
+    text.iter().rev().take_while(|b| **b != byte).count()
+}
+
+fn after_last(byte: u8, text: &[u8]) -> &[u8]
+    ensures { result.now ≡ after_last (λ b. b == byte) text.now }
+{
+    let count = last_len(byte, text);
+    text.split_at(text.len() - count).1
 }
 
 fn all_alphanumeric(word: &[u8]) -> bool
