@@ -4,7 +4,7 @@ ghost use Rattle.annex_base.specs.Lines.{IsOneLine};
 ghost use Rattle.annex_key.specs.KeyText.{Parts, IsKey, IsKeyText, key_text};
 ghost use Rattle.annex_key.specs.KeyFile.{file_text};
 ghost use Rattle.annex_key.specs.FileKey.{key_of_file};
-ghost use Rattle.annex_key.specs.View.{first_fault};
+ghost use Rattle.annex_key.specs.View.{backend_part, first_fault, name_part, size_part};
 
 /// A text is that of one key at most, and a file name that of one text.
 pub fn names_are_unique()
@@ -21,4 +21,11 @@ pub fn files_name_their_keys()
 pub fn key_texts_have_no_fault()
     ensures sound { (text : List ℕ) → (first_fault text ≡ None) ↔ IsKeyText text }
     ensures line { (text : List ℕ) → IsKeyText text → IsOneLine text }
+{}
+
+/// A key's text says the parts that it was spelled of.
+pub fn texts_say_their_parts()
+    ensures backend { (k : Parts) → IsKey k → backend_part (key_text k) ≡ k.backend }
+    ensures size { (k : Parts) → IsKey k → size_part (key_text k) ≡ k.size }
+    ensures name { (k : Parts) → IsKey k → name_part (key_text k) ≡ k.name }
 {}
