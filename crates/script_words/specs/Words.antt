@@ -18,7 +18,7 @@ is_not_quote b = not (b == quote)
 abbrev pub text_word : ℕ → List ℕ → ℕ → NextWord
 text_word place text after = if is_utf8 text then Word (record { place = place; text = text; after = after }) else BadWord place
 
--- whether a quote closes a word before these bytes: a space or the line's end follows it
+-- whether a space or the line's end comes next
 abbrev pub is_break : List ℕ → Bool
 is_break [] = true
 is_break (b ∷ rest) = b == space
