@@ -9,6 +9,7 @@ use Rattle.std.proofs.lemmas.List.Folds.{length-prefix_len}
 use Rattle.std.proofs.Math.ListN.{drop_of_length-le}
 use Rattle.annex_base.specs.Lines.{space, is_space, is_not_space}
 use Rattle.annex_base.proofs.Conditions.{if_is, by_test}
+use Rattle.script_words.proofs.FrontLemmas.{one_add, not_true, or_parts, front_passes, Stops, rest_stops, front_len, all_len}
 use Rattle.script_words.specs.Places.{LineWord}
 use Rattle.script_words.specs.declared.words.NextWord.{NextWord}
 use Rattle.script_words.specs.declared.words.NextWord.TheVariants.{NoWord, BadWord, Word}
@@ -16,52 +17,11 @@ use Rattle.script_words.specs.Words.{quote, is_not_quote, is_break, closes, text
 use Rattle.script_words.specs.Spelling.{begins_quoted, Spells, IsNext, IsBlank}
 use Rattle.script_words.specs.Spelling.Spells.{Plain, Quoted}
 
-not_true : (b : Bool) → not b ≡ true → b ≡ false
-not_true true e = absurd cc
-not_true false e = refl
-
-or_parts : (a b : Bool) → (a || b) ≡ false → (a ≡ false) × (b ≡ false)
-or_parts true b e = absurd cc
-or_parts false b e = (refl, e)
-
--- ---- the front that passes a test
-
-one_add : (n : ℕ) → 1 + n ≡ suc n
-one_add n = omega arith
-
-front_passes : (p : ℕ → Bool) (xs : List ℕ) → list_all p (take (prefix_len p xs) xs) ≡ true
-front_passes p [] = refl
-front_passes p (x ∷ xs) =
-    cond_both (p x) (1 + prefix_len p xs) 0 (λ n. list_all p (take n (x ∷ xs)) ≡ true)
-    (λ e. rw (one_add (prefix_len p xs)) (and_from (p x) _ e (front_passes p xs)))
-    (λ e. refl)
-
--- nothing, or a byte that doesn't pass
-abbrev Stops : (ℕ → Bool) → List ℕ → Type 0
-Stops p [] = Unit {0}
-Stops p (x ∷ xs) = p x ≡ false
-
-rest_stops : (p : ℕ → Bool) (xs : List ℕ) → Stops p (drop (prefix_len p xs) xs)
-rest_stops p [] = tt
-rest_stops p (x ∷ xs) =
-    cond_both (p x) (1 + prefix_len p xs) 0 (λ n. Stops p (drop n (x ∷ xs)))
-    (λ e. rw (one_add (prefix_len p xs)) (rest_stops p xs))
-    (λ e. e)
-
-none_pass : (p : ℕ → Bool) (rest : List ℕ) → Stops p rest → prefix_len p rest ≡ 0
-none_pass p [] stops = refl
-none_pass p (x ∷ xs) stops = rw stops refl
-
-front_len : (p : ℕ → Bool) (front rest : List ℕ) → list_all p front ≡ true → Stops p rest → prefix_len p (front ++ rest) ≡ length front
-front_len p [] rest all stops = none_pass p rest stops
-front_len p (x ∷ xs) rest all stops =
-    let both = and_parts (p x) (list_all p xs) all in rw (both.0, front_len p xs rest both.1 stops) (one_add (length xs))
+-- ---- a word that is written is found
 
 break_stops : (rest : List ℕ) → is_break rest ≡ true → Stops is_not_space rest
 break_stops [] ends = tt
 break_stops (b ∷ rest) ends = rw ends refl
-
--- ---- a word that is written is found
 
 text_found : (at after : ℕ) (text : List ℕ) → is_utf8 text ≡ true → text_word at text after ≡ Word (record { place = at; text = text; after = after })
 text_found at after text utf8 = rw utf8 refl
@@ -213,10 +173,6 @@ next_written line place w e =
     }
 
 -- ---- no word
-
-all_len : (p : ℕ → Bool) (xs : List ℕ) → list_all p xs ≡ true → prefix_len p xs ≡ length xs
-all_len p [] all = refl
-all_len p (x ∷ xs) all = let both = and_parts (p x) (list_all p xs) all in rw (both.0, all_len p xs both.1) (one_add (length xs))
 
 pub blank_found : (line : List ℕ) (place : ℕ) → IsBlank line place → next_word line place ≡ NoWord
 unfolding next_word word_from
