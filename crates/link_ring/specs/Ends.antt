@@ -77,6 +77,10 @@ pub record ArePaired (a b : EndView) : Type 0 where
   pub first : length b.at_hand + length a.on_way ≤ a.used
   pub second : length a.at_hand + length b.on_way ≤ b.used
 
+-- what is paired with the one is paired with the other
+abbrev pub StaysPaired : EndView → EndView → Type 0
+StaysPaired old new = (other : EndView) → ArePaired old other → ArePaired new other
+
 -- an end after frames were carried between it and the other one
 abbrev pub carried : EndView → EndView → EndView
 carried a b = record a { at_hand = a.at_hand ++ b.on_way; on_way = []; used = length b.at_hand + length a.on_way }
