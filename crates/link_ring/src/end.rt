@@ -115,21 +115,28 @@ impl End {
         self.phase
     }
 
-    /// Whether there is room for a frame other than a Close.
+    fn free(&self) -> usize
+        ensures { result ≡ free self.now }
+    {
+        PLACES - self.used
+    }
+
+    /// Whether there is room for a frame other than a Close: two free places, one of which is kept for the Close.
     pub fn room(&mut self) -> bool
         ensures room { result ≡ nat_le 2 (free self.old) }
         ensures same { self.new ≡ self.old }
     {
-        self.used + 2 <= PLACES
+        self.free() >= 2
     }
 
     fn accepts(&self, frame: &Frame) -> bool
         ensures { result ≡ accepts self.now frame.now }
     {
+        let has_room = self.free() >= 2;
         if frame.is_close() {
             self.phase == Phase::Open
         } else {
-            self.used + 2 <= PLACES
+            has_room
         }
     }
 
