@@ -1,5 +1,5 @@
 //! One end of a connection.
-ghost use Rattle.std.specs.Prelude.{◌≡◌, ◌≤◌, ◌<◌, ◌+◌, ◌-◌, ◌++◌, vec_len, ◌^◌, ◌↔◌, [], false, not, nat_le, IfOk, IfErr, IsErr, OnOk, OnErr, filter, nat_lt, vec_capacity};
+ghost use Rattle.std.specs.Prelude.{◌≡◌, ◌≤◌, ◌<◌, ◌+◌, ◌-◌, ◌++◌, vec_len, ◌^◌, ◌↔◌, [], true, false, not, nat_le, IfOk, IfErr, IsErr, IsOk, OnOk, OnErr, filter, nat_lt, vec_capacity};
 ghost use Rattle.std.specs.List.{find, after_first};
 ghost use Rattle.link_ring.specs.Frames.{is_old, is_close};
 ghost use Rattle.link_ring.specs.Ends.{ArePaired, StaysPaired, carried, fresh, accepts, after_send, next_frame, after_take, after_open, after_close, free, phase_after_send};
@@ -132,21 +132,22 @@ impl End {
     fn accepts(&self, frame: &Frame) -> bool
         ensures { result ≡ accepts self.now frame.now }
     {
-        let has_room = self.free() >= 2;
+        let free = self.free();
         if frame.is_close() {
-            self.phase == Phase::Open
+            self.phase != Phase::Closed && free >= 1
         } else {
-            has_room
+            free >= 2
         }
     }
 
-    /// Sends a frame. A Close is handed back where the end isn't open, another frame where fewer than two places are
-    /// free.
+    /// Sends a frame. A Close is handed back where the end is closed, or has no place free, which an open end has;
+    /// another frame where fewer than two places are free.
     pub fn send(&mut self, frame: Frame) -> Result<(), Frame>
         ensures ok { OnOk result (self.new ≡ after_send self.old frame) }
         ensures err { OnErr result (self.new ≡ self.old) }
         ensures same { IfErr result (λ back. back ≡ frame) }
         ensures handed_back { IsErr result ↔ (accepts self.old frame ≡ false) }
+        ensures close { is_close frame ≡ true → self.old.phase ≡ Phase.Open → IsOk result }
         ensures places { self.new.used ≤ 8 }
         ensures paired { StaysPaired self.old self.new }
     {

@@ -174,7 +174,6 @@ fn a_close_has_its_place(rt: HostRuntime) -> Result<(), Fail> {
         &[
             (Side::Client, Step::HandsBack(0, Kind::Close)),
             (Side::Client, Step::Opens),
-            (Side::Client, Step::HandsBack(1, Kind::Close)),
             (Side::Client, Step::Room(true)),
             (Side::Client, Step::Sends(1, Kind::Open)),
             (Side::Client, Step::Sends(1, Kind::Byte(0))),
@@ -232,6 +231,11 @@ fn a_closed_epoch_is_over(rt: HostRuntime) -> Result<(), Fail> {
             (Side::Client, Step::Closes),
             (Side::Client, Step::TakesNothing),
             (Side::Client, Step::Stands(2, Phase::Closed)),
+            (Side::Client, Step::Opens),
+            (Side::Client, Step::Stands(3, Phase::Opening)),
+            (Side::Client, Step::Sends(3, Kind::Close)),
+            (Side::Client, Step::Stands(3, Phase::Closed)),
+            (Side::Client, Step::HandsBack(3, Kind::Close)),
         ],
     )?;
     assert_eq!(rt; other, None);
