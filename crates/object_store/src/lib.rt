@@ -1,0 +1,9 @@
+//! The store of a repository: contents, parts, hold records and files.
+#![tactic(auto)]
+
+mod crossing;
+mod keeper;
+mod laws;
+
+pub use keeper::{FailingKeeper, HoldRecord, Keeper, KeeperFault};
+pub use laws::new_records_stand_first;
