@@ -36,12 +36,18 @@ read_length bytes at room = min (length bytes - at) room
 abbrev pub room_after_read : List ℕ → ℕ → List ℕ → List ℕ
 room_after_read bytes at room = let n = read_length bytes at (length room) in take n (drop at bytes) ++ drop n room
 
--- each content that is told has fewer than 2 ^ 62 bytes, and so has each part
+-- each content has fewer than 2 ^ 62 bytes, and so has each part
+abbrev pub AreSmall : Contents → Type 0
+AreSmall contents = (key : List ℕ) → ForSome (contents key) (λ bytes. length bytes < 2 ^ 62)
+
+abbrev pub AreShort : Parts → Type 0
+AreShort parts = (key : List ℕ) → length (parts key) < 2 ^ 62
+
 abbrev pub AreSmallContents : Option Contents → Type 0
-AreSmallContents known = ForSome known (λ contents. (key : List ℕ) → ForSome (contents key) (λ bytes. length bytes < 2 ^ 62))
+AreSmallContents known = ForSome known AreSmall
 
 abbrev pub AreSmallParts : Option Parts → Type 0
-AreSmallParts known = ForSome known (λ parts. (key : List ℕ) → length (parts key) < 2 ^ 62)
+AreSmallParts known = ForSome known AreShort
 
 -- the records with one more, which takes the place of an earlier one of its number; they stand in falling order of number
 abbrev pub with_record : List HoldRecord → HoldRecord → List HoldRecord

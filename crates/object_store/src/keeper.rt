@@ -226,7 +226,7 @@ pub trait Keeper: Drop {
         ensures ok { IfOk result (λ v. ForSome (records self.old) (λ rs. v.items ≡ rs)) }
         ensures distinct { IfOk result (λ v. AreDistinct v.items) }
         ensures ends { IfOk result (λ v. AreEarly v.items) }
-        ensures falling { ForSome (records self.old) (λ rs. AreFalling rs) }
+        ensures falling { OnOk result (ForSome (records self.old) AreFalling) }
         ensures contents { contents self.new ≡ contents self.old }
         ensures parts { parts self.new ≡ parts self.old }
         ensures records { records self.new ≡ records self.old }
