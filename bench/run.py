@@ -13,6 +13,7 @@ import time
 TOP = pathlib.Path(__file__).resolve().parent.parent
 PROGRAM = TOP / "crates" / "annex" / "out" / "annex"
 LOGS = TOP / "crates" / "log_bench" / "out" / "log_bench"
+STORE = TOP / "crates" / "store_bench" / "out" / "store_bench"
 RUNS = 5
 
 
@@ -95,6 +96,10 @@ def log_time(work, number):
     return median_time([str(LOGS), work, str(number)])
 
 
+def store_time(work, number):
+    return median_time([str(STORE), work, str(number)])
+
+
 def table(title, rows, timed=run_time):
     print(title)
     print("  %12s %12s %12s %12s" % ("size", "ms", "work", "time"))
@@ -142,6 +147,14 @@ def main():
         ("claims", "location logs, and the claims of one key read"),
     ):
         table(title, [(n, n, n) for n in (100, 1000, 10000, 30000)], lambda n: log_time(work, n))
+    if not STORE.exists():
+        subprocess.run(["rt", "run"], cwd=STORE.parent.parent, stdout=subprocess.DEVNULL, check=True)
+    for work, title in (
+        ("copy", "MiB, put into a plain vector in pieces"),
+        ("append", "MiB, appended to a part in pieces and committed"),
+        ("read", "MiB, appended in pieces, committed and read back in pieces"),
+    ):
+        table(title, [(n, n, n) for n in (1, 4, 16, 64)], lambda n: store_time(work, n))
 
 
 if __name__ == "__main__":

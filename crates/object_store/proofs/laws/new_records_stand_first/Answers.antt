@@ -1,0 +1,5 @@
+use Rattle.object_store.proofs.RecordLemmas.{new_first}
+use Rattle.object_store.proofs.laws.new_records_stand_first.Goals as goal
+
+pub returns : goal.returns
+returns c = new_first
