@@ -13,6 +13,7 @@ import time
 TOP = pathlib.Path(__file__).resolve().parent.parent
 PROGRAM = TOP / "crates" / "annex" / "out" / "annex"
 LOGS = TOP / "crates" / "log_bench" / "out" / "log_bench"
+WIRE = TOP / "crates" / "wire_bench" / "out" / "wire_bench"
 RUNS = 5
 
 
@@ -95,6 +96,10 @@ def log_time(work, number):
     return median_time([str(LOGS), work, str(number)])
 
 
+def wire_time(work, piece, kib):
+    return median_time([str(WIRE), work, str(piece), str(kib)])
+
+
 def table(title, rows, timed=run_time):
     print(title)
     print("  %12s %12s %12s %12s" % ("size", "ms", "work", "time"))
@@ -142,6 +147,15 @@ def main():
         ("claims", "location logs, and the claims of one key read"),
     ):
         table(title, [(n, n, n) for n in (100, 1000, 10000, 30000)], lambda n: log_time(work, n))
+    if not WIRE.exists():
+        subprocess.run(["rt", "run"], cwd=WIRE.parent.parent, stdout=subprocess.DEVNULL, check=True)
+    for work in ("messages", "data"):
+        for piece in (1, 100, 32768):
+            table(
+                "kibibytes of %s, decoded in pieces of %d bytes" % (work, piece),
+                [(n, n, n) for n in (256, 1024, 4096, 16384)],
+                lambda n: wire_time(work, piece, n),
+            )
 
 
 if __name__ == "__main__":
