@@ -14,6 +14,7 @@ TOP = pathlib.Path(__file__).resolve().parent.parent
 PROGRAM = TOP / "crates" / "annex" / "out" / "annex"
 LOGS = TOP / "crates" / "log_bench" / "out" / "log_bench"
 STORE = TOP / "crates" / "store_bench" / "out" / "store_bench"
+WIRE = TOP / "crates" / "wire_bench" / "out" / "wire_bench"
 RUNS = 5
 
 
@@ -98,6 +99,8 @@ def log_time(work, number):
 
 def store_time(work, number):
     return median_time([str(STORE), work, str(number)])
+def wire_time(work, piece, kib):
+    return median_time([str(WIRE), work, str(piece), str(kib)])
 
 
 def table(title, rows, timed=run_time):
@@ -155,6 +158,15 @@ def main():
         ("read", "MiB, appended in pieces, committed and read back in pieces"),
     ):
         table(title, [(n, n, n) for n in (1, 4, 16, 64)], lambda n: store_time(work, n))
+    if not WIRE.exists():
+        subprocess.run(["rt", "run"], cwd=WIRE.parent.parent, stdout=subprocess.DEVNULL, check=True)
+    for work in ("messages", "data"):
+        for piece in (1, 100, 32768):
+            table(
+                "kibibytes of %s, decoded in pieces of %d bytes" % (work, piece),
+                [(n, n, n) for n in (256, 1024, 4096, 16384)],
+                lambda n: wire_time(work, piece, n),
+            )
 
 
 if __name__ == "__main__":
