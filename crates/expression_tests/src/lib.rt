@@ -3,3 +3,5 @@
 
 #[cfg(test)]
 mod glob_match_tests;
+#[cfg(test)]
+mod wanted_expr_tests;

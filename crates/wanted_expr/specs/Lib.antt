@@ -1,0 +1,9 @@
+pub mod Expressions
+pub mod Finding
+pub mod Formula
+pub mod Pieces
+pub mod Reading
+pub mod Syntax
+pub mod Tokens
+pub mod Truth
+pub mod Words
