@@ -1,8 +1,10 @@
 pub mod CopiesLemmas
 pub mod CutLemmas
+pub mod GrammarLemmas
 pub mod NameLemmas
 pub mod ReadLemmas
 pub mod ReadWordLemmas
+pub mod SoundLemmas
 pub mod StackLemmas
 pub mod TokenLemmas
 pub mod WordLemmas

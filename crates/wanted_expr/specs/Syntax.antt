@@ -24,7 +24,7 @@ abbrev pub is_grammatical : Syntax → Bool
 is_grammatical (Plain word) = true
 is_grammatical (Negated s) = is_term s && is_grammatical s
 is_grammatical (Grouped s) = is_grammatical s
-is_grammatical (Joined left between right) = is_grammatical left && is_term right && is_grammatical right
+is_grammatical (Joined left between right) = is_grammatical left && (is_term right && is_grammatical right)
 
 -- how many `(` and `not` are open at once at most
 abbrev pub depth : Syntax → ℕ
