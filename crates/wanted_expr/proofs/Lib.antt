@@ -1,5 +1,6 @@
 pub mod CopiesLemmas
 pub mod CutLemmas
+pub mod FaultLemmas
 pub mod GrammarLemmas
 pub mod NameLemmas
 pub mod ReadLemmas
