@@ -15,7 +15,7 @@ use Rattle.wanted_expr.specs.Finding.{FindsValue}
 use Rattle.wanted_expr.specs.Words.{IsCount, IsAmong, IsCopies}
 use Rattle.wanted_expr.proofs.WordLemmas.{digit_bounds}
 
-abbrev is_colonless : List ℕ → Bool
+abbrev pub is_colonless : List ℕ → Bool
 is_colonless bs = list_all (λ b. not (b == 58)) bs
 
 same_first : (a b : ℕ) (xs ys : List ℕ) → a ∷ xs ≡ b ∷ ys → a ≡ b
@@ -33,16 +33,16 @@ no_colon c e =
     (λ t. let is : c ≡ 58 = eqb-true c 58 t in absurd (omega (arith, is, (digit_bounds c e).1)))
     (λ t. ap not t)
 
-digits_colonless : (w : List ℕ) → list_all is_ascii_digit w ≡ true → is_colonless w ≡ true
+pub digits_colonless : (w : List ℕ) → list_all is_ascii_digit w ≡ true → is_colonless w ≡ true
 digits_colonless w all = list_all_weaker is_ascii_digit (λ b. not (b == 58)) no_colon w all
 
-colon_inside : (front back : List ℕ) → is_colonless (front ++ 58 ∷ back) ≡ true → ⊥
+pub colon_inside : (front back : List ℕ) → is_colonless (front ++ 58 ∷ back) ≡ true → ⊥
 colon_inside front back all =
     let k = list_all_parts (λ b. not (b == 58)) front (58 ∷ back) all in
     let j = and_parts (not (58 == 58)) (is_colonless back) k.1 in
     true≢false (sym j.0)
 
-same_cut : (front back front2 back2 : List ℕ) → front ++ 58 ∷ back ≡ front2 ++ 58 ∷ back2 → is_colonless back ≡ true → is_colonless back2 ≡ true → (front ≡ front2) × (back ≡ back2)
+pub same_cut : (front back front2 back2 : List ℕ) → front ++ 58 ∷ back ≡ front2 ++ 58 ∷ back2 → is_colonless back ≡ true → is_colonless back2 ≡ true → (front ≡ front2) × (back ≡ back2)
 same_cut [] back [] back2 e c c2 = (refl, same_rest 58 58 back back2 e)
 same_cut [] back (y ∷ front2) back2 e c c2 =
     absurd (colon_inside front2 back2 (subst (λ (w : List ℕ). is_colonless w ≡ true) (same_rest 58 y back (front2 ++ 58 ∷ back2) e) c))
@@ -84,7 +84,7 @@ cut_is value kind digits x colon front back is later =
       colonless = colonless_by digits (λ k within e. later (colon + suc k) (omega arith) (omega (arith, long, within)) (sym (place k) ∙ e));
     }
 
-one_colon : (kind digits : List ℕ) → kind ++ codes ":" ++ digits ≡ kind ++ 58 ∷ digits
+pub one_colon : (kind digits : List ℕ) → kind ++ codes ":" ++ digits ≡ kind ++ 58 ∷ digits
 one_colon kind digits = append_assoc kind (codes ":") digits
 
 abbrev IsPair : List ℕ → List ℕ → Among × ℕ → Type 0

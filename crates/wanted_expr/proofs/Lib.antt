@@ -5,7 +5,9 @@ pub mod GrammarLemmas
 pub mod NameLemmas
 pub mod ReadLemmas
 pub mod ReadWordLemmas
+pub mod SameLemmas
 pub mod SoundLemmas
 pub mod StackLemmas
 pub mod TokenLemmas
+pub mod UniqueLemmas
 pub mod WordLemmas

@@ -47,7 +47,7 @@ lacking_tag : (name : List ℕ) → (name ≡ codes "lackingcopies") ⊎ (name �
 lacking_tag name (inl e) = ap name_tag e
 lacking_tag name (inr e) = ap name_tag e
 
-valued_tag : (name value : List ℕ) (w : Word) → IsValued name value w → name_tag name ≡ tag w
+pub valued_tag : (name value : List ℕ) (w : Word) → IsValued name value w → name_tag name ≡ tag w
 valued_tag name value Anything k = absurd k
 valued_tag name value Nothing k = absurd k
 valued_tag name value Present k = absurd k

@@ -10,7 +10,7 @@ use Rattle.wanted_expr.specs.declared.word.WordFault.TheVariants.{Unknown, Value
 use Rattle.wanted_expr.specs.Finding.{FindsNamed}
 use Rattle.wanted_expr.specs.Words.{IsBare, IsValued, IsWord, is_bare_name, is_valued_name, has_name, name_of}
 
-bare_again : (text : List ℕ) (w : Word) → IsBare text w → name_of text ≡ text
+pub bare_again : (text : List ℕ) (w : Word) → IsBare text w → name_of text ≡ text
 bare_again text Anything e = subst (λ (t : List ℕ). name_of t ≡ t) (sym e) refl
 bare_again text Nothing e = subst (λ (t : List ℕ). name_of t ≡ t) (sym e) refl
 bare_again text Present e = subst (λ (t : List ℕ). name_of t ≡ t) (sym e) refl
@@ -27,7 +27,7 @@ bare_again text (InBackend backend) e = absurd e
 bare_again text (LargerThan n) e = absurd e
 bare_again text (SmallerThan n) e = absurd e
 
-valued_again : (name value : List ℕ) (w : Word) → IsValued name value w → name_of (name ++ codes "=" ++ value) ≡ name
+pub valued_again : (name value : List ℕ) (w : Word) → IsValued name value w → name_of (name ++ codes "=" ++ value) ≡ name
 valued_again name value Anything k = absurd k
 valued_again name value Nothing k = absurd k
 valued_again name value Present k = absurd k
@@ -96,7 +96,7 @@ alone_known name e = or_right (is_bare_name name) (is_valued_name name) e
 pub alone_unknown : (name : List ℕ) → ((w : Word) → IsBare name w → ⊥) → is_valued_name name ≡ false → not (is_bare_name name || is_valued_name name) ≡ true
 alone_unknown name h e = neither (is_bare_name name) (is_valued_name name) (unnamed name h) (ap not e)
 
-word_alone_is : (text name : List ℕ) → name ≡ name_of text → text ≡ name → (w : Word) → IsWord text w → IsBare name w
+pub word_alone_is : (text name : List ℕ) → name ≡ name_of text → text ≡ name → (w : Word) → IsWord text w → IsBare name w
 unfolding IsWord
 word_alone_is text name n e w (inl k) = subst (λ (t : List ℕ). IsBare t w) e k
 word_alone_is text name n e w (inr k) =
@@ -110,7 +110,7 @@ found_alone text name (Err Unknown) n e h = ap not (named_as text name n) ∙ h
 found_alone text name (Err Value) n e h = (named_as text name n ∙ h.0, λ w k. h.1 w (word_alone_is text name n e w k))
 found_alone text name (Err NoMemory) n e h = tt
 
-word_valued_is : (text name value : List ℕ) → name ≡ name_of text → text ≡ name ++ codes "=" ++ value → (w : Word) → IsWord text w → IsValued name value w
+pub word_valued_is : (text name value : List ℕ) → name ≡ name_of text → text ≡ name ++ codes "=" ++ value → (w : Word) → IsWord text w → IsValued name value w
 unfolding IsWord
 word_valued_is text name value n e w (inl k) =
     let same : name ≡ text = n ∙ bare_again text w k in

@@ -89,7 +89,7 @@ before_last [] (y ∷ ys) a b c d e = absurd (omega (arith, ap length e, length-
 before_last (x ∷ xs) [] a b c d e = absurd (omega (arith, ap length e, length-append xs (a ∷ b ∷ [])))
 before_last (x ∷ xs) (y ∷ ys) a b c d e = before_last xs ys a b c d (same_rest x y (xs ++ a ∷ b ∷ []) (ys ++ c ∷ d ∷ []) e)
 
-append_nil : (xs : List ℕ) → xs ++ [] ≡ xs
+pub append_nil : (xs : List ℕ) → xs ++ [] ≡ xs
 append_nil [] = refl
 append_nil (x ∷ xs) = ap (λ (w : List ℕ). x ∷ w) (append_nil xs)
 
@@ -129,3 +129,15 @@ ends_gb value number e = record { unit = Gigabytes; spelled = e; sized = refl; o
     only digits Kilobytes is s = absurd (differ 103 107 refl (before_last number digits 103 98 107 98 (sym e ∙ s)))
     only digits Megabytes is s = absurd (differ 103 109 refl (before_last number digits 103 98 109 98 (sym e ∙ s)))
     only digits Gigabytes is s = (append_cancel_right digits number (codes "gb") (sym s ∙ e), refl)
+
+pub kb_only : (value number : List ℕ) → value ≡ number ++ codes "kb" → (digits : List ℕ) (other : SizeUnit) → IsDigits digits → value ≡ digits ++ unit_text other → (digits ≡ number) × (other ≡ Kilobytes)
+unfolding ends_kb
+kb_only value number e = (ends_kb value number e).only
+
+pub mb_only : (value number : List ℕ) → value ≡ number ++ codes "mb" → (digits : List ℕ) (other : SizeUnit) → IsDigits digits → value ≡ digits ++ unit_text other → (digits ≡ number) × (other ≡ Megabytes)
+unfolding ends_mb
+mb_only value number e = (ends_mb value number e).only
+
+pub gb_only : (value number : List ℕ) → value ≡ number ++ codes "gb" → (digits : List ℕ) (other : SizeUnit) → IsDigits digits → value ≡ digits ++ unit_text other → (digits ≡ number) × (other ≡ Gigabytes)
+unfolding ends_gb
+gb_only value number e = (ends_gb value number e).only
