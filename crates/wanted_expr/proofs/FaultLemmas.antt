@@ -1,13 +1,11 @@
 -- Reading stops exactly at the first fault.
-use Rattle.std.proofs.Common.{◌≡◌, ◌⊎◌, inl, inr, ℕ, zero, suc, ◌+◌, ◌<◌, ◌≤◌, Bool, true, false, List, [], ◌∷◌, ◌++◌, length, drop, Option, Some, None, Result, Ok, Err, refl, sym, ap, subst, ◌∙◌, arith, true≢false}
-use Rattle.std.specs.Prelude.{nat_lt, if◌then◌else◌}
+use Rattle.std.proofs.Common.{◌≡◌, ◌⊎◌, inl, inr, ℕ, ◌<◌, false, List, [], ◌∷◌, length, Option, Some, None, Result, Ok, Err, refl, sym, ap, subst, ◌∙◌, arith, true≢false}
+use Rattle.std.specs.Prelude.{nat_lt}
 use Rattle.annex_base.proofs.Conditions.{by_test}
 use Rattle.annex_base.proofs.Results.{guard_ok, guard_err}
-use Rattle.annex_base.specs.ResultSteps.{◌>>=◌}
 use Rattle.wanted_expr.specs.declared.fault.ExprFault.{ExprFault}
 use Rattle.wanted_expr.specs.declared.fault.ExprFault.TheVariants.{BadParen, NoOperand, UnknownWord, BadValue, OpenQuote, TooDeep, TooLong, NoMemory}
-use Rattle.wanted_expr.specs.declared.lexeme.Operator.{Operator}
-use Rattle.wanted_expr.specs.declared.lexeme.Operator.TheVariants.{And, Or}
+use Rattle.wanted_expr.specs.declared.lexeme.Operator.TheVariants.{And}
 use Rattle.wanted_expr.specs.declared.lexeme.Lexeme.{Lexeme}
 use Rattle.wanted_expr.specs.declared.lexeme.Lexeme.TheVariants.{Open, Close, Not, Infix, Term}
 use Rattle.wanted_expr.specs.Expressions.{NextIs, IsEnd, BeginsWith, IsFaultAt, IsUnbalanced, LacksTerm, open_after, opened, outermost}
@@ -145,7 +143,7 @@ fault_found total rest read s fault e (inr (inr h)) = subst (IsFaultAt total rea
 stops_by : (total : ℕ) (rest after : List ℕ) (s : State) (at : ℕ) (l : Lexeme) (fault : ExprFault) → NextIs total rest at l after → step at l s ≡ Err fault → EndsHere total rest s (Err fault)
 stops_by total rest after s at l fault n h = inr (inr (at, l, after, fault, n, h, refl))
 
-no_places : (k : List Pending) → has_pending k ≡ false → open_places k ≡ [] → k ≡ []
+pub no_places : (k : List Pending) → has_pending k ≡ false → open_places k ≡ [] → k ≡ []
 no_places [] none e = refl
 no_places (Negating ∷ k) none e = absurd (true≢false none)
 no_places (Joining left operator ∷ k) none e = absurd (true≢false none)

@@ -1,21 +1,18 @@
 -- Reading from left to right is the grammar, in both directions.
-use Rattle.std.proofs.Common.{◌≡◌, ℕ, zero, suc, ◌+◌, ◌<◌, ◌≤◌, Bool, true, false, List, [], ◌∷◌, ◌++◌, Option, Some, None, Result, Ok, Err, refl, sym, ap, subst, ◌∙◌, arith, append_assoc, true≢false}
-use Rattle.std.specs.Prelude.{nat_lt, map, ◌&&◌, if◌then◌else◌}
+use Rattle.std.proofs.Common.{◌≡◌, ℕ, ◌+◌, ◌<◌, ◌≤◌, true, false, List, [], ◌∷◌, ◌++◌, Option, Some, None, Result, Ok, refl, sym, ap, ◌∙◌, arith, true≢false}
+use Rattle.std.specs.Prelude.{nat_lt, ◌&&◌}
 use Rattle.std.proofs.lemmas.Bool.{and_parts}
-use Rattle.annex_base.proofs.Results.{guard_ok}
 use Rattle.annex_base.specs.ResultSteps.{◌>>=◌}
-use Rattle.wanted_expr.specs.declared.data.Word.TheVariants.{Anything}
 use Rattle.wanted_expr.specs.declared.fault.ExprFault.{ExprFault}
-use Rattle.wanted_expr.specs.declared.fault.ExprFault.TheVariants.{BadParen, NoOperand, TooDeep}
 use Rattle.wanted_expr.specs.declared.lexeme.Operator.{Operator}
-use Rattle.wanted_expr.specs.declared.lexeme.Operator.TheVariants.{And, Or}
+use Rattle.wanted_expr.specs.declared.lexeme.Operator.TheVariants.{And}
 use Rattle.wanted_expr.specs.declared.lexeme.Lexeme.{Lexeme}
 use Rattle.wanted_expr.specs.declared.lexeme.Lexeme.TheVariants.{Open, Close, Not, Infix, Term}
-use Rattle.wanted_expr.specs.Expressions.{unplaced, outermost}
-use Rattle.wanted_expr.specs.Formula.{Formula, Atom, Negation, joined}
-use Rattle.wanted_expr.specs.Reading.{Pending, Negating, Grouping, Joining, State, Awaiting, Having, deeper, finish, has_pending, open_count, open_places, ready, run, settle, step, whole}
-use Rattle.wanted_expr.specs.Syntax.{Syntax, Plain, Negated, Grouped, Joined, Spells, Begins, depth, is_grammatical, is_term, lexemes, said, sign}
-use Rattle.wanted_expr.proofs.ReadLemmas.{run_append, run_bind, run_one}
+use Rattle.wanted_expr.specs.Expressions.{unplaced}
+use Rattle.wanted_expr.specs.Formula.{Formula, Atom, joined}
+use Rattle.wanted_expr.specs.Reading.{Pending, Negating, Grouping, Joining, State, Awaiting, Having, deeper, has_pending, open_count, run, settle, step}
+use Rattle.wanted_expr.specs.Syntax.{Syntax, Plain, Negated, Grouped, Joined, Spells, depth, is_grammatical, is_term, lexemes, said, sign}
+use Rattle.wanted_expr.proofs.ReadLemmas.{run_append}
 use Rattle.wanted_expr.proofs.StackLemmas.{settled}
 
 -- ---- lexemes with their places
@@ -26,6 +23,7 @@ uncons (p ∷ ps) l ls e = (p.0, ps, ap (λ (m : Lexeme). (p.0, m) ∷ ps) (head
   where
     head : (a b : Lexeme) (xs ys : List Lexeme) → a ∷ xs ≡ b ∷ ys → a ≡ b
     head a b xs ys h = cc
+
     tail : (a b : Lexeme) (xs ys : List Lexeme) → a ∷ xs ≡ b ∷ ys → xs ≡ ys
     tail a b xs ys h = cc
 

@@ -3,6 +3,7 @@ pub mod CutLemmas
 pub mod FaultLemmas
 pub mod GrammarLemmas
 pub mod NameLemmas
+pub mod ParseLemmas
 pub mod ReadLemmas
 pub mod ReadWordLemmas
 pub mod SameLemmas

@@ -1,18 +1,16 @@
 -- Reading a text ends in one way.
-use Rattle.std.proofs.Common.{◌≡◌, ◌⊎◌, inl, inr, ℕ, Bool, true, false, List, [], ◌∷◌, ◌++◌, length, Option, Some, None, Result, Ok, Err, refl, sym, ap, subst, ◌∙◌, arith, true≢false}
+use Rattle.std.proofs.Common.{◌≡◌, ◌⊎◌, inl, inr, ℕ, Bool, true, false, List, [], ◌∷◌, length, Option, Some, None, Result, Ok, Err, refl, sym, ap, subst, ◌∙◌, true≢false}
 use Rattle.std.specs.Prelude.{codes, bytes_eq, ◌||◌, if◌then◌else◌}
-use Rattle.annex_base.specs.ResultSteps.{◌>>=◌}
 use Rattle.wanted_expr.specs.declared.data.Word.{Word}
 use Rattle.wanted_expr.specs.declared.fault.ExprFault.{ExprFault}
 use Rattle.wanted_expr.specs.declared.fault.ExprFault.TheVariants.{BadParen, NoOperand, UnknownWord, BadValue, OpenQuote, TooDeep, TooLong, NoMemory}
-use Rattle.wanted_expr.specs.declared.lexeme.Operator.{Operator}
 use Rattle.wanted_expr.specs.declared.lexeme.Operator.TheVariants.{And, Or}
 use Rattle.wanted_expr.specs.declared.lexeme.Lexeme.{Lexeme}
 use Rattle.wanted_expr.specs.declared.lexeme.Lexeme.TheVariants.{Open, Close, Not, Infix, Term}
 use Rattle.wanted_expr.specs.Expressions.{IsLexeme, NextIs, IsEnd, Reads, is_operator}
 use Rattle.wanted_expr.specs.Formula.{Formula}
 use Rattle.wanted_expr.specs.Pieces.{Piece, Opening, Closing, Written, PieceRead, piece_at}
-use Rattle.wanted_expr.specs.Reading.{State, Awaiting, Ends, EndsHere, finish, run, step}
+use Rattle.wanted_expr.specs.Reading.{State, Awaiting, Ends, EndsHere, run, step}
 use Rattle.wanted_expr.specs.Tokens.{IsNoLexeme}
 use Rattle.wanted_expr.specs.Words.{IsWord, has_name}
 use Rattle.wanted_expr.proofs.ReadLemmas.{run_bind}
@@ -90,10 +88,12 @@ piece_same at place p q after rest e = record { places = ap place_in e; pieces =
     place_in (Ok (Some x)) = x.0
     place_in (Ok None) = at
     place_in (Err n) = at
+
     piece_in : PieceRead → Piece
     piece_in (Ok (Some x)) = x.1
     piece_in (Ok None) = p
     piece_in (Err n) = p
+
     rest_in : PieceRead → List ℕ
     rest_in (Ok (Some x)) = x.2
     rest_in (Ok None) = after

@@ -1,19 +1,19 @@
 -- What was read is spelled by what awaits its term, and some expression begins with it.
-use Rattle.std.proofs.Common.{◌≡◌, ℕ, zero, suc, ◌+◌, ◌<◌, ◌≤◌, Bool, true, false, List, [], ◌∷◌, ◌++◌, Option, Some, None, Result, Ok, Err, refl, sym, ap, subst, ◌∙◌, arith, append_assoc, true≢false}
-use Rattle.std.specs.Prelude.{nat_lt, map, ◌&&◌, if◌then◌else◌}
-use Rattle.std.proofs.lemmas.Bool.{and_parts, and_from}
+use Rattle.std.proofs.Common.{◌≡◌, ℕ, suc, ◌+◌, ◌≤◌, true, false, List, [], ◌∷◌, ◌++◌, Option, Some, None, Result, Ok, refl, sym, ap, subst, ◌∙◌, arith, append_assoc}
+use Rattle.std.specs.Prelude.{nat_lt, ◌&&◌}
+use Rattle.std.proofs.lemmas.Bool.{and_from}
 use Rattle.annex_base.proofs.Results.{guard_ok}
 use Rattle.annex_base.specs.ResultSteps.{◌>>=◌}
 use Rattle.wanted_expr.specs.declared.data.Word.TheVariants.{Anything}
 use Rattle.wanted_expr.specs.declared.fault.ExprFault.{ExprFault}
-use Rattle.wanted_expr.specs.declared.fault.ExprFault.TheVariants.{BadParen, NoOperand, TooDeep}
+use Rattle.wanted_expr.specs.declared.fault.ExprFault.TheVariants.{TooDeep}
 use Rattle.wanted_expr.specs.declared.lexeme.Operator.{Operator}
-use Rattle.wanted_expr.specs.declared.lexeme.Operator.TheVariants.{And, Or}
+use Rattle.wanted_expr.specs.declared.lexeme.Operator.TheVariants.{And}
 use Rattle.wanted_expr.specs.declared.lexeme.Lexeme.{Lexeme}
 use Rattle.wanted_expr.specs.declared.lexeme.Lexeme.TheVariants.{Open, Close, Not, Infix, Term}
-use Rattle.wanted_expr.specs.Expressions.{unplaced, outermost}
+use Rattle.wanted_expr.specs.Expressions.{unplaced}
 use Rattle.wanted_expr.specs.Formula.{Formula, Atom, Negation, joined}
-use Rattle.wanted_expr.specs.Reading.{Pending, Negating, Grouping, Joining, State, Awaiting, Having, deeper, finish, has_pending, no_term, open_count, open_places, ready, run, settle, step, whole}
+use Rattle.wanted_expr.specs.Reading.{Pending, Negating, Grouping, Joining, State, Awaiting, Having, deeper, has_pending, open_count, ready, run, settle, step}
 use Rattle.wanted_expr.specs.Syntax.{Syntax, Plain, Negated, Grouped, Joined, Spells, Begins, depth, is_grammatical, is_term, lexemes, said, sign}
 use Rattle.wanted_expr.proofs.GrammarLemmas.{spelled_is_read, unplaced_append, within}
 use Rattle.wanted_expr.proofs.ReadLemmas.{run_append, run_bind, run_one}
@@ -63,7 +63,6 @@ Sound (Having f k) front = Complete k front f
 sound_at : (s : State) (front other : List Lexeme) → front ≡ other → Sound s front → Sound s other
 sound_at s front other e h = subst (Sound s) e h
 
-
 settle_sound : (k : List Pending) (before : List Lexeme) (s : Syntax) → is_term s ≡ true → is_grammatical s ≡ true → depth s + open_count k ≤ 64 → Stands k before → Sound (settle (said s) k) (before ++ lexemes s)
 settle_sound [] before s t g small st = record { before = before; syntax_of = s; spelled = refl; fitting = record { grammatical = g; small = small; says = refl }; settled_there = refl; stands = st }
 settle_sound (Negating ∷ k) before s t g small st =
@@ -95,14 +94,18 @@ ready_sound : (s : State) (front : List Lexeme) → Sound s front → (open_coun
 ready_sound (Awaiting k) front h = h
 ready_sound (Having f k) front h = (
   omega (arith, h.fitting.small),
-  (h.before, record {
-    syntax_of = h.syntax_of;
-    between = None;
-    spelled = h.spelled ∙ ap (λ (w : List Lexeme). h.before ++ w) (sym (append_nil (lexemes h.syntax_of)));
-    operator_is = refl;
-    fitting = h.fitting;
-    settled_there = h.settled_there;
-  }, h.stands),
+  (
+    h.before,
+    record {
+      syntax_of = h.syntax_of;
+      between = None;
+      spelled = h.spelled ∙ ap (λ (w : List Lexeme). h.before ++ w) (sym (append_nil (lexemes h.syntax_of)));
+      operator_is = refl;
+      fitting = h.fitting;
+      settled_there = h.settled_there;
+    },
+    h.stands,
+  ),
 )
 
 deeper_sound : (at : ℕ) (p : Pending) (l : Lexeme) (k : List Pending) (front : List Lexeme) (t : State) → open_count (p ∷ k) ≡ suc (open_count k) → (Stands k front → Stands (p ∷ k) (front ++ l ∷ [])) → Stands k front → deeper at p k ≡ Ok t → Sound t (front ++ l ∷ [])
@@ -119,14 +122,18 @@ step_sound at Not s t front h e = deeper_sound at Negating Not (ready s) front t
 step_sound at (Infix operator) (Awaiting k) t front h e = absurd cc
 step_sound at (Infix operator) (Having f k) t front h e = subst (λ (u : State). Sound u (front ++ Infix operator ∷ [])) (ok_same (Awaiting (Joining f operator ∷ k)) t e) (
   omega (arith, h.fitting.small),
-  (h.before, record {
-    syntax_of = h.syntax_of;
-    between = Some operator;
-    spelled = ap (λ (w : List Lexeme). w ++ Infix operator ∷ []) h.spelled ∙ append_assoc h.before (lexemes h.syntax_of) (Infix operator ∷ []);
-    operator_is = refl;
-    fitting = h.fitting;
-    settled_there = h.settled_there;
-  }, h.stands),
+  (
+    h.before,
+    record {
+      syntax_of = h.syntax_of;
+      between = Some operator;
+      spelled = ap (λ (w : List Lexeme). w ++ Infix operator ∷ []) h.spelled ∙ append_assoc h.before (lexemes h.syntax_of) (Infix operator ∷ []);
+      operator_is = refl;
+      fitting = h.fitting;
+      settled_there = h.settled_there;
+    },
+    h.stands,
+  ),
 )
 step_sound at (Term word) s t front h e =
     let r = ready_sound s front h in
@@ -139,7 +146,7 @@ step_sound at Close (Having f (Grouping place ∷ k)) t front h e =
     let s = h.syntax_of in
     let st = h.stands in
     let spelled : st.0 ++ lexemes (Grouped s) ≡ front ++ Close ∷ [] =
-      sym (ap (λ (w : List Lexeme). w ++ Close ∷ []) (h.spelled ∙ (ap (λ (w : List Lexeme). w ++ lexemes s) st.1 ∙ append_assoc st.0 (Open ∷ []) (lexemes s))) ∙ append_assoc st.0 (Open ∷ lexemes s) (Close ∷ []))
+    sym (ap (λ (w : List Lexeme). w ++ Close ∷ []) (h.spelled ∙ (ap (λ (w : List Lexeme). w ++ lexemes s) st.1 ∙ append_assoc st.0 (Open ∷ []) (lexemes s))) ∙ append_assoc st.0 (Open ∷ lexemes s) (Close ∷ []))
     in
     let ends : settle (said (Grouped s)) k ≡ t = ap (λ (g : Formula). settle g k) (sym h.fitting.says) ∙ ok_same (settle f k) t e in
     subst (λ (u : State). Sound u (front ++ Close ∷ [])) ends (sound_at (settle (said (Grouped s)) k) (st.0 ++ lexemes (Grouped s)) (front ++ Close ∷ []) spelled (settle_sound k st.0 (Grouped s) refl h.fitting.grammatical (omega (arith, h.fitting.small)) st.2))

@@ -60,7 +60,7 @@ pub found_paren : (stack rest after : List Frame) (k : List Pending) (first : Fr
 found_paren stack rest after k first at none same e is =
     sym (ap (λ (w : List Pending). outermost (open_places w)) (same ∙ ap (above k) (e ∙ ap (λ (f : Frame). f ∷ after) is)) ∙ outer_stays (Grouping at ∷ k) after at [] (ap (λ (w : List ℕ). at ∷ w) none))
 
-none_open : (ps : List ℕ) → outermost ps ≡ None → ps ≡ []
+pub none_open : (ps : List ℕ) → outermost ps ≡ None → ps ≡ []
 none_open [] e = refl
 none_open (at ∷ []) e = absurd cc
 none_open (at ∷ place ∷ places) e = absurd (cons_nil (none_open (place ∷ places) e))

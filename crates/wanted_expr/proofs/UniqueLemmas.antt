@@ -1,10 +1,9 @@
 -- A text is one word at most.
-use Rattle.std.proofs.Common.{◌≡◌, ◌⊎◌, inl, inr, ℕ, ◌*◌, Bool, true, false, not, List, [], ◌∷◌, ◌++◌, length, Option, Some, None, refl, sym, ap, subst, ◌∙◌, arith, length-append, true≢false}
+use Rattle.std.proofs.Common.{◌≡◌, ◌⊎◌, inl, inr, ℕ, ◌*◌, Bool, true, false, List, ◌∷◌, ◌++◌, Option, Some, None, refl, sym, ap, subst, ◌∙◌, arith}
 use Rattle.std.specs.Prelude.{codes, bytes_eq, if◌then◌else◌, ◌||◌}
-use Rattle.std.specs.List.{list_any}
 use Rattle.std.specs.Str.{chars}
 use Rattle.std.specs.Str.Parse.{digits_value}
-use Rattle.annex_base.proofs.Conditions.{bytes_eq-other, bytes_eq-true, bytes_eq-refl}
+use Rattle.annex_base.proofs.Conditions.{bytes_eq-other}
 use Rattle.annex_base.specs.declared.kinds.Level.{Level}
 use Rattle.annex_base.specs.declared.kinds.Level.TheVariants.{Dead, Untrusted, Semitrusted, Trusted}
 use Rattle.glob_match.specs.declared.item.Item.{Item}
@@ -14,7 +13,7 @@ use Rattle.wanted_expr.specs.declared.data.Among.TheVariants.{All, OfLevel, OfLe
 use Rattle.wanted_expr.specs.declared.data.Word.{Word}
 use Rattle.wanted_expr.specs.declared.data.Word.TheVariants.{Anything, Nothing, Present, Include, Exclude, Copies, LackingCopies, InAllGroup, OnlyInGroup, InBackend, SecureHash, LargerThan, SmallerThan, Standard, GroupWanted}
 use Rattle.wanted_expr.specs.Expressions.{is_operator}
-use Rattle.wanted_expr.specs.Words.{IsDigits, IsCount, IsSize, IsLevel, IsLevelOrMore, IsAmong, IsCopies, IsText, IsGlobText, IsBare, IsValued, IsWord, SizeUnit, Bytes, Kilobytes, Megabytes, Gigabytes, unit_text, unit_size, is_bare_name, is_valued_name, has_name, name_of}
+use Rattle.wanted_expr.specs.Words.{IsDigits, IsCount, IsSize, IsLevel, IsAmong, IsCopies, IsText, IsGlobText, IsBare, IsValued, IsWord, SizeUnit, Bytes, Kilobytes, Megabytes, Gigabytes, unit_text, unit_size, is_bare_name, is_valued_name, has_name, name_of}
 use Rattle.wanted_expr.proofs.CopiesLemmas.{is_colonless, digits_colonless, colon_inside, same_cut, one_colon}
 use Rattle.wanted_expr.proofs.NameLemmas.{tag, name_tag, valued_tag}
 use Rattle.wanted_expr.proofs.ReadWordLemmas.{bare_again, valued_again, word_alone_is, word_valued_is}
@@ -101,8 +100,7 @@ copies_unique value a b m n h k = both (copies_parts value a m h) (copies_parts 
     both (inl p) (inr q) = absurd (no_colon value b m n p.1 q)
     both (inr p) (inl q) = absurd (no_colon value a n m q.1 p)
     both (inr p) (inr q) =
-        let same = same_cut p.kind p.digits q.kind q.digits (sym p.spelled ∙ q.spelled) (digits_colonless p.digits p.count.digits.digits) (digits_colonless q.digits q.count.digits.digits) in
-        (
+        let same = same_cut p.kind p.digits q.kind q.digits (sym p.spelled ∙ q.spelled) (digits_colonless p.digits p.count.digits.digits) (digits_colonless q.digits q.count.digits.digits) in (
           sym (among_is p.kind a p.among) ∙ (ap among_of same.0 ∙ among_is q.kind b q.among),
           count_unique q.digits m n (subst (λ (w : List ℕ). IsCount w m) same.1 p.count) q.count,
         )

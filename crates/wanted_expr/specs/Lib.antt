@@ -1,6 +1,7 @@
 pub mod Expressions
 pub mod Finding
 pub mod Formula
+pub mod FormulaCode
 pub mod Pieces
 pub mod Reading
 pub mod Syntax
