@@ -1,6 +1,7 @@
 //! Preferred content expressions: reading them, and whether they hold.
 #![tactic(auto)]
 
+mod crossing;
 mod data;
 mod expr;
 mod fault;
