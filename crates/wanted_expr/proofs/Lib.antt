@@ -9,6 +9,7 @@ pub mod ReadWordLemmas
 pub mod SameLemmas
 pub mod SoundLemmas
 pub mod StackLemmas
+pub mod TextLemmas
 pub mod TokenLemmas
 pub mod UniqueLemmas
 pub mod WordLemmas

@@ -27,7 +27,7 @@ word_begins bytes text b rest is e opened closed =
 
 -- A byte that belongs to the word.
 
-byte_on : (total : ℕ) (quote : Option ℕ) (b : ℕ) (bs : List ℕ) → (b == 34) ≡ false → (quote ≡ None → ends_word b ≡ false) → word_at total quote (b ∷ bs) ≡ after_bytes (b ∷ []) (word_at total quote bs)
+pub byte_on : (total : ℕ) (quote : Option ℕ) (b : ℕ) (bs : List ℕ) → (b == 34) ≡ false → (quote ≡ None → ends_word b ≡ false) → word_at total quote (b ∷ bs) ≡ after_bytes (b ∷ []) (word_at total quote bs)
 byte_on total None b bs t goes_on = let k : ends_word b ≡ false = goes_on refl in rw (k, t) refl
 byte_on total (Some at) b bs t goes_on = rw t refl
 

@@ -60,7 +60,7 @@ fits_count w n (Err e) h k short = λ m j. h (omega (arith, k.1, digits_value_sh
 
 -- Texts cut before an end.
 
-dropped : (front end : List ℕ) → drop (length front) (front ++ end) ≡ end
+pub dropped : (front end : List ℕ) → drop (length front) (front ++ end) ≡ end
 dropped [] end = refl
 dropped (x ∷ front) end = dropped front end
 

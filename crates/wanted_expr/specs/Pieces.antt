@@ -1,6 +1,7 @@
 -- How a text is cut into parentheses and words (own): spaces part words, a parenthesis stands alone or touches a word, and
 -- double quotes group spaces and parentheses. A place counts the bytes before it.
-use Rattle.std.specs.Prelude.{ℕ, ◌-◌, ◌==◌, ◌||◌, Bool, if◌then◌else◌, List, [], ◌∷◌, ◌++◌, length, Option, Some, None, Result, Ok, Err}
+use Rattle.std.specs.Prelude.{IsTrue, ℕ, ◌-◌, ◌==◌, ◌||◌, Bool, if◌then◌else◌, List, [], ◌∷◌, ◌++◌, length, Option, Some, None, Result, Ok, Err}
+use Rattle.std.specs.Str.{is_utf8}
 
 -- a parenthesis, or a word without its quotes
 pub data Piece : Type 0 where
@@ -47,3 +48,9 @@ piece_here total (b ∷ bs) = if b == 40 then Ok (Some (total - length (b ∷ bs
 -- the first piece of what is left of a text of this length
 abbrev pub piece_at : ℕ → List ℕ → PieceRead
 piece_at total bytes = piece_here total (after_spaces bytes)
+
+-- a parenthesis, or a word that is UTF-8
+abbrev pub IsTextPiece : Piece → Type 0
+IsTextPiece Opening = Unit {0}
+IsTextPiece Closing = Unit {0}
+IsTextPiece (Written text) = IsTrue (is_utf8 text)

@@ -1,8 +1,10 @@
 //! Laws on expressions, which no call depends on.
-ghost use Rattle.std.specs.Prelude.{◌≡◌, List, ℕ};
+ghost use Rattle.std.specs.Prelude.{◌≡◌, ◌++◌, IsTrue, List, Ok, Some, codes, ℕ};
+ghost use Rattle.std.specs.Str.{is_utf8};
 ghost use Rattle.wanted_expr.specs.declared.fault.ExprFault.{ExprFault};
 ghost use Rattle.wanted_expr.specs.Expressions.{IsExpression, IsFirstFault};
 ghost use Rattle.wanted_expr.specs.Formula.{Formula};
+ghost use Rattle.wanted_expr.specs.Pieces.{Piece, IsTextPiece, piece_at};
 
 use glob_match::globs_are_unique;
 
@@ -29,3 +31,14 @@ pub fn expressions_have_no_fault()
     // for the proof
     globs_are_unique();
 }
+
+/// The words of a UTF-8 text are UTF-8, and so is what follows a piece. So no glob of an expression is refused because
+/// it isn't.
+pub fn pieces_are_text()
+    ensures { (total at : ℕ) (bytes after : List ℕ) (piece : Piece) → IsTrue (is_utf8 bytes) → piece_at total bytes ≡ Ok (Some (at, piece, after)) → IsTextPiece piece × IsTrue (is_utf8 after) }
+{}
+
+/// The value of a word that is UTF-8 is UTF-8.
+pub fn values_are_text()
+    ensures { (name value : List ℕ) → IsTrue (is_utf8 (name ++ codes "=" ++ value)) → IsTrue (is_utf8 value) }
+{}

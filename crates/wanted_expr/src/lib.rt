@@ -15,5 +15,8 @@ mod word;
 pub use data::{Among, Claimant, Facts, Member, Word};
 pub use expr::Expr;
 pub use fault::ExprFault;
-pub use laws::{expressions_have_no_fault, expressions_have_one_formula, first_faults_are_unique};
+pub use laws::{
+    expressions_have_no_fault, expressions_have_one_formula, first_faults_are_unique,
+    pieces_are_text, values_are_text,
+};
 pub use lexeme::{Lexeme, Operator};
