@@ -13,6 +13,7 @@ import time
 TOP = pathlib.Path(__file__).resolve().parent.parent
 PROGRAM = TOP / "crates" / "annex" / "out" / "annex"
 LOGS = TOP / "crates" / "log_bench" / "out" / "log_bench"
+EXPRESSIONS = TOP / "crates" / "expr_bench" / "out" / "expr_bench"
 RUNS = 5
 
 
@@ -95,6 +96,10 @@ def log_time(work, number):
     return median_time([str(LOGS), work, str(number)])
 
 
+def expression_time(work, size):
+    return median_time([str(EXPRESSIONS), work, str(size)])
+
+
 def table(title, rows, timed=run_time):
     print(title)
     print("  %12s %12s %12s %12s" % ("size", "ms", "work", "time"))
@@ -142,6 +147,13 @@ def main():
         ("claims", "location logs, and the claims of one key read"),
     ):
         table(title, [(n, n, n) for n in (100, 1000, 10000, 30000)], lambda n: log_time(work, n))
+    if not EXPRESSIONS.exists():
+        subprocess.run(["rt", "run"], cwd=EXPRESSIONS.parent.parent, stdout=subprocess.DEVNULL, check=True)
+    for work, title in (
+        ("parse", "bytes of an expression, read 1,000 times"),
+        ("eval", "bytes of an expression, read once and judged 1,000 times"),
+    ):
+        table(title, [(n, n, n) for n in (10, 100, 1000, 4000)], lambda n: expression_time(work, n))
 
 
 if __name__ == "__main__":
