@@ -15,6 +15,7 @@ PROGRAM = TOP / "crates" / "annex" / "out" / "annex"
 LOGS = TOP / "crates" / "log_bench" / "out" / "log_bench"
 STORE = TOP / "crates" / "store_bench" / "out" / "store_bench"
 WIRE = TOP / "crates" / "wire_bench" / "out" / "wire_bench"
+EXPRESSIONS = TOP / "crates" / "expr_bench" / "out" / "expr_bench"
 RUNS = 5
 
 
@@ -99,8 +100,14 @@ def log_time(work, number):
 
 def store_time(work, number):
     return median_time([str(STORE), work, str(number)])
+
+
 def wire_time(work, piece, kib):
     return median_time([str(WIRE), work, str(piece), str(kib)])
+
+
+def expression_time(work, size):
+    return median_time([str(EXPRESSIONS), work, str(size)])
 
 
 def table(title, rows, timed=run_time):
@@ -167,6 +174,13 @@ def main():
                 [(n, n, n) for n in (256, 1024, 4096, 16384)],
                 lambda n: wire_time(work, piece, n),
             )
+    if not EXPRESSIONS.exists():
+        subprocess.run(["rt", "run"], cwd=EXPRESSIONS.parent.parent, stdout=subprocess.DEVNULL, check=True)
+    for work, title in (
+        ("parse", "bytes of an expression, read 1,000 times"),
+        ("eval", "bytes of an expression, read once and judged 1,000 times"),
+    ):
+        table(title, [(n, n, n) for n in (10, 100, 1000, 4000)], lambda n: expression_time(work, n))
 
 
 if __name__ == "__main__":
