@@ -213,3 +213,21 @@ fn without_path_and_size(rt: HostRuntime) {
         assert!(rt; holds(rt.alloc(), text, &facts) == Some(wanted), "{text}");
     }
 }
+
+fn has_groupwanted(alloc: Global, text: &str) -> Option<bool> {
+    let expr = Expr::parse(alloc, text).ok()?;
+    Some(expr.has_groupwanted())
+}
+
+#[test]
+fn groupwanted_is_found(rt: HostRuntime) {
+    let rows = [
+        ("groupwanted", true),
+        ("present or not (standard and groupwanted)", true),
+        ("standard", false),
+        ("copies=groupwanted:1", false),
+    ];
+    for (text, wanted) in rows {
+        assert!(rt; has_groupwanted(rt.alloc(), text) == Some(wanted), "{text}");
+    }
+}

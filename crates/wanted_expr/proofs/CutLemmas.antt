@@ -1,5 +1,5 @@
 -- A word is cut at its first `=`.
-use Rattle.std.proofs.Common.{◌≡◌, ℕ, suc, ◌+◌, ◌≤◌, ◌==◌, not, List, [], ◌∷◌, ◌++◌, length, take, drop, refl, sym, ap, ◌∙◌, arith, append_assoc}
+use Rattle.std.proofs.Common.{◌≡◌, ℕ, suc, ◌+◌, ◌≤◌, ◌==◌, not, List, [], ◌∷◌, ◌++◌, length, take, drop, refl, sym, ap, ◌∙◌, arith, append_assoc, append-nil}
 use Rattle.std.specs.Prelude.{codes}
 use Rattle.std.specs.List.{prefix_len}
 use Rattle.std.proofs.lemmas.Bool.{eqb-true}
@@ -40,13 +40,9 @@ nothing_left : (cs : List ℕ) → length cs ≡ 0 → cs ≡ []
 nothing_left [] e = refl
 nothing_left (c ∷ cs) e = absurd (omega (arith, e))
 
-append_nil : (xs : List ℕ) → xs ++ [] ≡ xs
-append_nil [] = refl
-append_nil (x ∷ xs) = ap (λ (w : List ℕ). x ∷ w) (append_nil xs)
-
 pub name_alone : (text name rest : List ℕ) (end : ℕ) → name ≡ take end text → rest ≡ drop end text → length rest ≡ 0 → text ≡ name
 name_alone text name rest end n r e =
-    sym (take-append-drop end text) ∙ (ap (λ (w : List ℕ). w ++ drop end text) (sym n) ∙ (ap (λ (w : List ℕ). name ++ w) (sym r ∙ nothing_left rest e) ∙ append_nil name))
+    sym (take-append-drop end text) ∙ (ap (λ (w : List ℕ). w ++ drop end text) (sym n) ∙ (ap (λ (w : List ℕ). name ++ w) (sym r ∙ nothing_left rest e) ∙ append-nil name))
 
 pub with_value : (text name rest value : List ℕ) (x end : ℕ) → end ≡ end_of text → name ≡ take end text → rest ≡ drop end text → rest ≡ x ∷ value → text ≡ name ++ codes "=" ++ value
 with_value text name rest value x end e n r s =

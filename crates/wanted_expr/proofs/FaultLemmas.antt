@@ -12,7 +12,7 @@ use Rattle.wanted_expr.specs.Expressions.{NextIs, IsEnd, BeginsWith, IsFaultAt, 
 use Rattle.wanted_expr.specs.Formula.{Formula, Atom, Negation, joined}
 use Rattle.wanted_expr.specs.Reading.{Pending, Negating, Grouping, Joining, State, Awaiting, Having, EndsHere, deeper, finish, has_pending, no_term, open_count, open_places, ready, run, settle, step, whole}
 use Rattle.wanted_expr.specs.Tokens.{IsNoLexeme}
-use Rattle.wanted_expr.proofs.ReadLemmas.{run_bind}
+use Rattle.wanted_expr.proofs.ReadLemmas.{err_ok, err_same, ok_err, ok_same, run_bind}
 use Rattle.wanted_expr.proofs.SoundLemmas.{begins_with, begun_with, none_pending, read_sound}
 
 -- ---- the `(` that are open
@@ -30,18 +30,6 @@ settle_opened (Joining left operator ∷ k) f = settle_opened k (joined (Some op
 ready_opened : (s : State) → open_places (ready s) ≡ open_places (pending_in s)
 ready_opened (Awaiting k) = refl
 ready_opened (Having f k) = refl
-
-ok_same : (s t : State) → ◌≡◌ {A = Result State ExprFault} (Ok s) (Ok t) → s ≡ t
-ok_same s t e = cc
-
-err_same : (e f : ExprFault) → ◌≡◌ {A = Result State ExprFault} (Err e) (Err f) → e ≡ f
-err_same e f h = cc
-
-err_ok : (e : ExprFault) (s : State) → Err e ≡ Ok s → ⊥
-err_ok e s h = cc
-
-ok_err : (e : ExprFault) (s : State) → Ok s ≡ Err e → ⊥
-ok_err e s h = cc
 
 deeper_opened : (at : ℕ) (p : Pending) (k : List Pending) (t : State) → deeper at p k ≡ Ok t → open_places (p ∷ k) ≡ open_places (pending_in t)
 deeper_opened at p k t e = ap (λ (u : State). open_places (pending_in u)) (guard_ok (nat_lt (open_count k) 64) (TooDeep at) (Awaiting (p ∷ k)) t e).1

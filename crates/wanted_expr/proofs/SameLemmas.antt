@@ -13,7 +13,7 @@ use Rattle.wanted_expr.specs.Pieces.{Piece, Opening, Closing, Written, PieceRead
 use Rattle.wanted_expr.specs.Reading.{State, Awaiting, Ends, EndsHere, run, step}
 use Rattle.wanted_expr.specs.Tokens.{IsNoLexeme}
 use Rattle.wanted_expr.specs.Words.{IsWord, has_name}
-use Rattle.wanted_expr.proofs.ReadLemmas.{run_bind}
+use Rattle.wanted_expr.proofs.ReadLemmas.{err_ok, err_same, ok_same, run_bind}
 use Rattle.wanted_expr.proofs.UniqueLemmas.{GlobsAreUnique, word_unique, no_operator, has_known_name}
 
 -- ---- one piece is one lexeme
@@ -166,15 +166,6 @@ no_lexeme_is total bytes TooLong e = absurd e
 no_lexeme_is total bytes NoMemory e = absurd e
 
 -- ---- one end
-
-err_same : (e f : ExprFault) → ◌≡◌ {A = Result State ExprFault} (Err e) (Err f) → e ≡ f
-err_same e f h = cc
-
-err_ok : (e : ExprFault) (s : State) → Err e ≡ Ok s → ⊥
-err_ok e s h = cc
-
-ok_same : (s t : State) → ◌≡◌ {A = Result State ExprFault} (Ok s) (Ok t) → s ≡ t
-ok_same s t e = cc
 
 here_same : GlobsAreUnique → (total : ℕ) (rest : List ℕ) (s : State) (a b : Result Formula ExprFault) → EndsHere total rest s a → EndsHere total rest s b → a ≡ b
 here_same globs total rest s a b (inl h) (inl k) = h.1 ∙ sym k.1

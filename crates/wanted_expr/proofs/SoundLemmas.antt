@@ -1,5 +1,5 @@
 -- What was read is spelled by what awaits its term, and some expression begins with it.
-use Rattle.std.proofs.Common.{◌≡◌, ℕ, suc, ◌+◌, ◌≤◌, true, false, List, [], ◌∷◌, ◌++◌, Option, Some, None, Result, Ok, refl, sym, ap, subst, ◌∙◌, arith, append_assoc}
+use Rattle.std.proofs.Common.{◌≡◌, ℕ, suc, ◌+◌, ◌≤◌, true, false, List, [], ◌∷◌, ◌++◌, Option, Some, None, Result, Ok, refl, sym, ap, subst, ◌∙◌, arith, append_assoc, append-nil}
 use Rattle.std.specs.Prelude.{nat_lt, ◌&&◌}
 use Rattle.std.proofs.lemmas.Bool.{and_from}
 use Rattle.annex_base.proofs.Results.{guard_ok}
@@ -16,7 +16,7 @@ use Rattle.wanted_expr.specs.Formula.{Formula, Atom, Negation, joined}
 use Rattle.wanted_expr.specs.Reading.{Pending, Negating, Grouping, Joining, State, Awaiting, Having, deeper, has_pending, open_count, ready, run, settle, step}
 use Rattle.wanted_expr.specs.Syntax.{Syntax, Plain, Negated, Grouped, Joined, Spells, Begins, depth, is_grammatical, is_term, lexemes, said, sign}
 use Rattle.wanted_expr.proofs.GrammarLemmas.{spelled_is_read, unplaced_append, within}
-use Rattle.wanted_expr.proofs.ReadLemmas.{run_append, run_bind, run_one}
+use Rattle.wanted_expr.proofs.ReadLemmas.{ok_same, run_append, run_bind, run_one}
 use Rattle.wanted_expr.proofs.StackLemmas.{settled}
 
 abbrev pub operator_of : Option Operator → Operator
@@ -86,10 +86,6 @@ settle_sound (Joining left operator ∷ k) before s t g small st =
       stands = st.2;
     })
 
-append_nil : (xs : List Lexeme) → xs ++ [] ≡ xs
-append_nil [] = refl
-append_nil (x ∷ xs) = ap (λ (w : List Lexeme). x ∷ w) (append_nil xs)
-
 ready_sound : (s : State) (front : List Lexeme) → Sound s front → (open_count (ready s) ≤ 64) × Stands (ready s) front
 ready_sound (Awaiting k) front h = h
 ready_sound (Having f k) front h = (
@@ -99,7 +95,7 @@ ready_sound (Having f k) front h = (
     record {
       syntax_of = h.syntax_of;
       between = None;
-      spelled = h.spelled ∙ ap (λ (w : List Lexeme). h.before ++ w) (sym (append_nil (lexemes h.syntax_of)));
+      spelled = h.spelled ∙ ap (λ (w : List Lexeme). h.before ++ w) (sym (append-nil (lexemes h.syntax_of)));
       operator_is = refl;
       fitting = h.fitting;
       settled_there = h.settled_there;
@@ -112,9 +108,6 @@ deeper_sound : (at : ℕ) (p : Pending) (l : Lexeme) (k : List Pending) (front :
 deeper_sound at p l k front t one stands st e =
     let h = guard_ok (nat_lt (open_count k) 64) (TooDeep at) (Awaiting (p ∷ k)) t e in
     subst (λ (u : State). Sound u (front ++ l ∷ [])) h.1 (omega (arith, within (open_count k) h.0, one), stands st)
-
-ok_same : (s t : State) → ◌≡◌ {A = Result State ExprFault} (Ok s) (Ok t) → s ≡ t
-ok_same s t e = cc
 
 pub step_sound : (at : ℕ) (l : Lexeme) (s t : State) (front : List Lexeme) → Sound s front → step at l s ≡ Ok t → Sound t (front ++ l ∷ [])
 step_sound at Open s t front h e = deeper_sound at (Grouping at) Open (ready s) front t (let one : 1 + open_count (ready s) ≡ suc (open_count (ready s)) = omega arith in one) (λ st. (front, refl, st)) (ready_sound s front h).1 e
@@ -152,7 +145,7 @@ step_sound at Close (Having f (Grouping place ∷ k)) t front h e =
     subst (λ (u : State). Sound u (front ++ Close ∷ [])) ends (sound_at (settle (said (Grouped s)) k) (st.0 ++ lexemes (Grouped s)) (front ++ Close ∷ []) spelled (settle_sound k st.0 (Grouped s) refl h.fitting.grammatical (omega (arith, h.fitting.small)) st.2))
 
 pub run_sound : (xs : List (ℕ × Lexeme)) (s t : State) (front : List Lexeme) → Sound s front → run xs s ≡ Ok t → Sound t (front ++ unplaced xs)
-run_sound [] s t front h e = sound_at t front (front ++ []) (sym (append_nil front)) (subst (λ (u : State). Sound u front) (ok_same s t e) h)
+run_sound [] s t front h e = sound_at t front (front ++ []) (sym (append-nil front)) (subst (λ (u : State). Sound u front) (ok_same s t e) h)
 run_sound (x ∷ xs) s t front h e =
     let k = run_bind (step x.0 x.1 s) xs t e in
     sound_at t ((front ++ x.1 ∷ []) ++ unplaced xs) (front ++ unplaced (x ∷ xs)) (append_assoc front (x.1 ∷ []) (unplaced xs))

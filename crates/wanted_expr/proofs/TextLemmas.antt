@@ -1,5 +1,5 @@
 -- The pieces of a UTF-8 text are UTF-8.
-use Rattle.std.proofs.Common.{◌≡◌, ℕ, suc, ◌+◌, ◌<◌, ◌≤◌, ◌==◌, true, false, List, [], ◌∷◌, ◌++◌, length, get_or, drop, Option, Some, None, Ok, Err, refl, sym, ap, subst, ◌∙◌, arith, length-append}
+use Rattle.std.proofs.Common.{◌≡◌, ℕ, suc, ◌+◌, ◌<◌, ◌≤◌, ◌==◌, true, false, List, [], ◌∷◌, ◌++◌, length, get_or, drop, Option, Some, None, Ok, Err, refl, sym, ap, subst, ◌∙◌, arith, length-append, append-nil}
 use Rattle.std.specs.Prelude.{if◌then◌else◌, ◌-◌, codes, nat_lt}
 use Rattle.std.specs.Char.{IsScalar}
 use Rattle.std.specs.Str.{IsUtf8, IsCharBoundary, is_utf8}
@@ -8,7 +8,7 @@ use Rattle.std.proofs.lemmas.Str.{IsUtf8-append, IsUtf8-encode, IsUtf8-nil, IsUt
 use Rattle.annex_base.proofs.Conditions.{by_test, if_either}
 use lib.Utf8.{encode, encodes, scalar, scalars}
 use Rattle.wanted_expr.proofs.TokenLemmas.{byte_on, differs}
-use Rattle.wanted_expr.proofs.WordLemmas.{append_nil, dropped}
+use Rattle.wanted_expr.proofs.WordLemmas.{dropped}
 use Rattle.wanted_expr.specs.Pieces.{Piece, Opening, Closing, PieceRead, WordRead, IsTextPiece, after_bytes, after_spaces, as_piece, ends_word, piece_at, piece_here, word_at}
 
 -- the bytes of a character past ASCII are none of ASCII
@@ -18,7 +18,7 @@ IsHigh xs = (k : ℕ) → k < length xs → 128 ≤ get_or xs k 0
 high_char : (c : ℕ) → 128 ≤ c → IsHigh (encode c)
 high_char c high k within =
     by_test (nat_lt (get_or (encode c) k 0) 128)
-    (λ t. let low : get_or (encode c) k 0 < 128 = grind arith in let same : c ≡ get_or (encode c) k 0 = inside_one c [] (encode c) k (sym (append_nil (encode c))) within low in absurd (omega (arith, high, low, same)))
+    (λ t. let low : get_or (encode c) k 0 < 128 = grind arith in let same : c ≡ get_or (encode c) k 0 = inside_one c [] (encode c) k (sym (append-nil (encode c))) within low in absurd (omega (arith, high, low, same)))
     (λ t. let k : 128 ≤ get_or (encode c) k 0 = grind arith in k)
 
 no_end : (b : ℕ) → 128 ≤ b → ends_word b ≡ false

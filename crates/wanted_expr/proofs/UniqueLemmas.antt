@@ -1,5 +1,5 @@
 -- A text is one word at most.
-use Rattle.std.proofs.Common.{◌≡◌, ◌⊎◌, inl, inr, ℕ, ◌*◌, Bool, true, false, List, ◌∷◌, ◌++◌, Option, Some, None, refl, sym, ap, subst, ◌∙◌, arith}
+use Rattle.std.proofs.Common.{◌≡◌, ◌⊎◌, inl, inr, ℕ, ◌*◌, Bool, true, false, List, ◌∷◌, ◌++◌, Option, Some, None, refl, sym, ap, subst, ◌∙◌, arith, append-nil}
 use Rattle.std.specs.Prelude.{codes, bytes_eq, if◌then◌else◌, ◌||◌}
 use Rattle.std.specs.Str.{chars}
 use Rattle.std.specs.Str.Parse.{digits_value}
@@ -17,7 +17,7 @@ use Rattle.wanted_expr.specs.Words.{IsDigits, IsCount, IsSize, IsLevel, IsAmong,
 use Rattle.wanted_expr.proofs.CopiesLemmas.{is_colonless, digits_colonless, colon_inside, same_cut, one_colon}
 use Rattle.wanted_expr.proofs.NameLemmas.{tag, name_tag, valued_tag}
 use Rattle.wanted_expr.proofs.ReadWordLemmas.{bare_again, valued_again, word_alone_is, word_valued_is}
-use Rattle.wanted_expr.proofs.WordLemmas.{append_nil, kb_only, mb_only, gb_only}
+use Rattle.wanted_expr.proofs.WordLemmas.{kb_only, mb_only, gb_only}
 
 -- ---- values
 
@@ -31,7 +31,7 @@ same_size : (value front back : List ℕ) (u v : SizeUnit) → IsDigits front �
 same_size value front back Kilobytes v d c e f = let k = kb_only value front e back v c f in (sym k.0, sym k.1)
 same_size value front back Megabytes v d c e f = let k = mb_only value front e back v c f in (sym k.0, sym k.1)
 same_size value front back Gigabytes v d c e f = let k = gb_only value front e back v c f in (sym k.0, sym k.1)
-same_size value front back Bytes Bytes d c e f = (sym (append_nil front) ∙ (sym e ∙ (f ∙ append_nil back)), refl)
+same_size value front back Bytes Bytes d c e f = (sym (append-nil front) ∙ (sym e ∙ (f ∙ append-nil back)), refl)
 same_size value front back Bytes Kilobytes d c e f = kb_only value back f front Bytes d e
 same_size value front back Bytes Megabytes d c e f = mb_only value back f front Bytes d e
 same_size value front back Bytes Gigabytes d c e f = gb_only value back f front Bytes d e

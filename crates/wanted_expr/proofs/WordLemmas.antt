@@ -1,5 +1,5 @@
 -- Digits and numbers, and texts cut before an end.
-use Rattle.std.proofs.Common.{rules, ◌≡◌, ℕ, zero, suc, ◌+◌, ◌-◌, ◌<◌, ◌≤◌, ◌^◌, ◌==◌, true, false, List, [], ◌∷◌, ◌++◌, length, get_or, take, drop, Option, Some, None, Result, Ok, Err, MatchOption, refl, sym, ap, subst, ◌∙◌, arith, length-append, true≢false}
+use Rattle.std.proofs.Common.{rules, ◌≡◌, ℕ, zero, suc, ◌+◌, ◌-◌, ◌<◌, ◌≤◌, ◌^◌, ◌==◌, true, false, List, [], ◌∷◌, ◌++◌, length, get_or, take, drop, Option, Some, None, Result, Ok, Err, MatchOption, refl, sym, ap, subst, ◌∙◌, arith, length-append, true≢false, append-nil}
 use Rattle.std.specs.Prelude.{codes, bytes_eq}
 use Rattle.std.specs.Char.{is_ascii_digit}
 use Rattle.std.specs.List.{list_all}
@@ -13,7 +13,8 @@ use Rattle.std.proofs.lemmas.Str.{IsUtf8-from_ascii}
 use Rattle.std.proofs.lemmas.Str.Parse.{IsNumeralModel, numerals_by_value, without_leading_plus_none, digits_value_short}
 use Rattle.annex_base.proofs.Conditions.{bytes_eq-refl, bytes_eq-true}
 use Rattle.annex_base.proofs.Lists.{list_all_parts}
-use Rattle.wanted_expr.specs.Finding.{Finds, Ends}
+use Rattle.annex_base.specs.Finding.{Found}
+use Rattle.wanted_expr.specs.Finding.{Ends}
 use Rattle.wanted_expr.specs.Words.{IsDigits, IsCount, SizeUnit, Bytes, Kilobytes, Megabytes, Gigabytes, unit_text}
 
 pub own : IsNumeralModel (λ ds. list_all is_ascii_digit ds ≡ true) (digits_value 10)
@@ -41,11 +42,11 @@ no_plus (c ∷ cs) e =
 abbrev pub IsNumber : List ℕ → ℕ → Type 0
 IsNumber w n = IsDigits w × (n ≡ digits_value 10 w) × (n < 2 ^ 64)
 
-parsed : {E : Type 0} (w : List ℕ) (r : Result ℕ E) → OkIff r (IsNumeral 10 w × (digits_value 10 w < 2 ^ 64)) (digits_value 10 w) → IsDigits w → Finds (IsNumber w) (result_ok r)
+parsed : {E : Type 0} (w : List ℕ) (r : Result ℕ E) → OkIff r (IsNumeral 10 w × (digits_value 10 w < 2 ^ 64)) (digits_value 10 w) → IsDigits w → Found (λ x. x) (IsNumber w) (result_ok r)
 parsed w (Ok n) h d = (d, h.1, omega (arith, h.1, h.0.1))
 parsed w (Err e) h d = λ n k. h ((d.some, own.to w d.digits), omega (arith, k.1, k.2))
 
-pub parsed_number : {E : Type 0} (w : List ℕ) (r : Result ℕ E) → ParsesUnsigned 64 10 w r → IsDigits w → Finds (IsNumber w) (result_ok r)
+pub parsed_number : {E : Type 0} (w : List ℕ) (r : Result ℕ E) → ParsesUnsigned 64 10 w r → IsDigits w → Found (λ x. x) (IsNumber w) (result_ok r)
 parsed_number w r h d = parsed w r (subst (λ (v : List ℕ). OkIff r (IsNumeral 10 v × (digits_value 10 v < 2 ^ 64)) (digits_value 10 v)) (no_plus w d.digits) h) d
 
 pub count_small : (w : List ℕ) (n : ℕ) → IsCount w n → n < 1000000000
@@ -54,7 +55,7 @@ count_small w n k = omega (arith, k.value, digits_value_short own w 9 k.digits.d
 pub no_count : (w : List ℕ) → ((n : ℕ) → IsNumber w n → ⊥) → (n : ℕ) → IsCount w n → ⊥
 no_count w h n k = h n (k.digits, k.value, omega (arith, count_small w n k))
 
-pub fits_count : {E : Type 0} (w : List ℕ) (n : ℕ) (r : Result ℕ E) → OkIff r (n < 2 ^ 32) n → IsNumber w n → length w ≤ 9 → Finds (IsCount w) (result_ok r)
+pub fits_count : {E : Type 0} (w : List ℕ) (n : ℕ) (r : Result ℕ E) → OkIff r (n < 2 ^ 32) n → IsNumber w n → length w ≤ 9 → Found (λ x. x) (IsCount w) (result_ok r)
 fits_count w n (Ok m) h k short = record { digits = k.0; short = short; value = h.1 ∙ k.1 }
 fits_count w n (Err e) h k short = λ m j. h (omega (arith, k.1, digits_value_short own w 9 k.0.digits short))
 
@@ -89,13 +90,9 @@ before_last [] (y ∷ ys) a b c d e = absurd (omega (arith, ap length e, length-
 before_last (x ∷ xs) [] a b c d e = absurd (omega (arith, ap length e, length-append xs (a ∷ b ∷ [])))
 before_last (x ∷ xs) (y ∷ ys) a b c d e = before_last xs ys a b c d (same_rest x y (xs ++ a ∷ b ∷ []) (ys ++ c ∷ d ∷ []) e)
 
-pub append_nil : (xs : List ℕ) → xs ++ [] ≡ xs
-append_nil [] = refl
-append_nil (x ∷ xs) = ap (λ (w : List ℕ). x ∷ w) (append_nil xs)
-
 pub not_digits : (digits front : List ℕ) (a b : ℕ) → IsDigits digits → is_ascii_digit a ≡ false → front ++ a ∷ b ∷ [] ≡ digits ++ [] → ⊥
 not_digits digits front a b is differs e =
-    let all : list_all is_ascii_digit (front ++ a ∷ b ∷ []) ≡ true = subst (λ (w : List ℕ). list_all is_ascii_digit w ≡ true) (sym (e ∙ append_nil digits)) is.digits in
+    let all : list_all is_ascii_digit (front ++ a ∷ b ∷ []) ≡ true = subst (λ (w : List ℕ). list_all is_ascii_digit w ≡ true) (sym (e ∙ append-nil digits)) is.digits in
     let k = list_all_parts is_ascii_digit front (a ∷ b ∷ []) all in
     let j = and_parts (is_ascii_digit a) (list_all is_ascii_digit (b ∷ [])) k.1 in
     true≢false (sym j.0 ∙ differs)

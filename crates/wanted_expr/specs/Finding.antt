@@ -4,12 +4,7 @@ use Rattle.wanted_expr.specs.declared.word.WordFault.{WordFault}
 use Rattle.wanted_expr.specs.declared.word.WordFault.TheVariants.{Unknown, Value, NoMemory}
 use Rattle.wanted_expr.specs.Words.{SizeUnit, IsDigits, unit_text, unit_size}
 
--- the one that is looked for, or that there is none
-abbrev pub Finds : {X : Type 0} → (X → Type 0) → Option X → Type 0
-Finds {X} P None = (x : X) → P x → ⊥
-Finds P (Some x) = P x
-
--- the same of a value; memory may run out
+-- a value that is looked for, or that there is none; memory may run out
 abbrev pub FindsValue : {X : Type 0} → (X → Type 0) → Result X WordFault → Type 0
 FindsValue P (Ok x) = P x
 FindsValue P (Err Unknown) = ⊥

@@ -1,6 +1,6 @@
 -- For private contracts: a formula is stored as the list of its words and operators, each behind its operands.
 use Rattle.std.specs.Prelude.{◌≡◌, ◌⊎◌, Bool, true, false, List, [], ◌∷◌, ◌++◌, Option, Some, None}
-use Rattle.std.proofs.Common.{inl, inr, refl, ap, sym, ◌∙◌, append_assoc}
+use Rattle.std.proofs.Common.{inl, inr, refl, ap, sym, ◌∙◌, append_assoc, append-nil}
 use Rattle.std.specs.Coded.{Coded, code_by, coded_bool, coded_list, coded_option, coded⊎}
 use Rattle.wanted_expr.specs.contracts.data.Word as word
 use Rattle.wanted_expr.specs.declared.data.Word.{Word}
@@ -45,12 +45,8 @@ with_marks_append (Disjunction a b) ms fs =
     ap (λ (w : List Mark). with_marks w fs) (append_assoc (marks a) (marks b ++ inl (Some false) ∷ []) ms ∙ ap (λ (w : List Mark). marks a ++ w) (append_assoc (marks b) (inl (Some false) ∷ []) ms))
     ∙ (with_marks_append a (marks b ++ inl (Some false) ∷ ms) fs ∙ with_marks_append b (inl (Some false) ∷ ms) (a ∷ fs))
 
-append_nil : (ms : List Mark) → ms ++ [] ≡ ms
-append_nil [] = refl
-append_nil (m ∷ ms) = ap (λ (w : List Mark). m ∷ w) (append_nil ms)
-
 pub formula_back : (f : Formula) → first_of_all (with_marks (marks f) []) ≡ f
-formula_back f = ap (λ (w : List Mark). first_of_all (with_marks w [])) (sym (append_nil (marks f))) ∙ ap first_of_all (with_marks_append f [] [])
+formula_back f = ap (λ (w : List Mark). first_of_all (with_marks w [])) (sym (append-nil (marks f))) ∙ ap first_of_all (with_marks_append f [] [])
 
 abbrev pub formula_code : Coded Formula
 formula_code = code_by (List Mark) (coded_list (coded⊎ (coded_option coded_bool) word.the_row.coded)) marks (λ ms. first_of_all (with_marks ms [])) formula_back

@@ -83,3 +83,15 @@ holds (Atom word) f = word_holds word f
 holds (Negation a) f = not (holds a f)
 holds (Conjunction a b) f = holds a f && holds b f
 holds (Disjunction a b) f = holds a f || holds b f
+
+-- whether `groupwanted` stands in an expression
+
+abbrev pub is_groupwanted : Word → Bool
+is_groupwanted GroupWanted = true
+is_groupwanted w = false
+
+abbrev pub has_groupwanted : Formula → Bool
+has_groupwanted (Atom word) = is_groupwanted word
+has_groupwanted (Negation a) = has_groupwanted a
+has_groupwanted (Conjunction a b) = has_groupwanted a || has_groupwanted b
+has_groupwanted (Disjunction a b) = has_groupwanted a || has_groupwanted b

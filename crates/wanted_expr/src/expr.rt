@@ -3,12 +3,12 @@ ghost use Rattle.std.specs.Prelude.{◌≡◌, ◌<◌, ◌⊎◌, length, IfErr
 ghost use Rattle.wanted_expr.specs.declared.fault.ExprFault.{ExprFault};
 ghost use Rattle.wanted_expr.specs.Expressions.{IsCause, IsExpression, IsFirstFault};
 ghost use Rattle.wanted_expr.specs.Formula.{Formula};
-ghost use Rattle.wanted_expr.specs.Truth.{holds};
+ghost use Rattle.wanted_expr.specs.Truth.{has_groupwanted, holds};
 
 use crate::data::{Facts, Tree};
 use crate::fault::ExprFault;
 use crate::reading::read;
-use crate::truth::tree_holds;
+use crate::truth::{has_groupwanted, tree_holds};
 use glob_match::globs_are_unique;
 use std::alloc::Global;
 use std::marker::Model;
@@ -59,5 +59,12 @@ impl Expr {
         ensures { result ≡ holds self.now facts.now }
     {
         tree_holds(&self.tree, facts)
+    }
+
+    /// Whether `groupwanted` stands in the expression: the expression of a group may not have it (own).
+    pub fn has_groupwanted(&self) -> bool
+        ensures { result ≡ has_groupwanted self.now }
+    {
+        has_groupwanted(&self.tree)
     }
 }

@@ -4,7 +4,7 @@ ghost use Rattle.std.specs.List.{list_all, list_any};
 ghost use Rattle.std.specs.Str.{bytes_eq, chars, is_utf8};
 ghost use Rattle.glob_match.specs.Glob.{glob_matches};
 ghost use Rattle.wanted_expr.specs.Formula.{formula_of};
-ghost use Rattle.wanted_expr.specs.Truth.{rank, is_alive, is_in_group, is_among, copies_among, is_no_lack, is_claimed, path_matches, secure_backends, word_holds, holds};
+ghost use Rattle.wanted_expr.specs.Truth.{rank, is_alive, is_in_group, is_among, copies_among, is_no_lack, is_claimed, path_matches, secure_backends, word_holds, holds, is_groupwanted, has_groupwanted};
 
 use crate::data::{Among, Claimant, Facts, Member, Tree, Word};
 use annex_base::{Level, RepoId, Text};
@@ -164,5 +164,24 @@ pub(crate) fn tree_holds(tree: &Tree, facts: &Facts) -> bool
         Tree::Not(part) => !tree_holds(part, facts),
         Tree::Both(left, right) => tree_holds(left, facts) && tree_holds(right, facts),
         Tree::Either(left, right) => tree_holds(left, facts) || tree_holds(right, facts),
+    }
+}
+
+fn is_groupwanted(word: &Word) -> bool
+    ensures { result ≡ is_groupwanted word.now }
+{
+    matches!(word, Word::GroupWanted)
+}
+
+/// Whether `groupwanted` stands in the expression.
+pub(crate) fn has_groupwanted(tree: &Tree) -> bool
+    ensures { result ≡ has_groupwanted (formula_of tree.now) }
+{
+    match tree {
+        Tree::Single(word) => is_groupwanted(word),
+        Tree::Not(part) => has_groupwanted(part),
+        Tree::Both(left, right) | Tree::Either(left, right) => {
+            has_groupwanted(left) || has_groupwanted(right)
+        }
     }
 }

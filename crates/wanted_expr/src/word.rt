@@ -3,7 +3,8 @@ ghost use Rattle.std.specs.Prelude.{◌≡◌, ◌<◌, ◌↔◌, ◌^◌, ◌+
 ghost use Rattle.std.specs.Char.{is_ascii_digit};
 ghost use Rattle.std.specs.List.{list_all, prefix_len};
 ghost use Rattle.std.specs.Str.Parse.{digits_value};
-ghost use Rattle.wanted_expr.specs.Finding.{Finds, FindsValue, FindsNamed, Ends, IsLastColon};
+ghost use Rattle.annex_base.specs.Finding.{Found};
+ghost use Rattle.wanted_expr.specs.Finding.{FindsValue, FindsNamed, Ends, IsLastColon};
 ghost use Rattle.wanted_expr.specs.Words.{IsDigits, IsCount, IsSize, IsLevel, IsLevelOrMore, IsAmong, IsCopies, IsText, IsGlobText, IsBare, IsValued, IsWord, is_bare_name, is_valued_name, name_of, has_name};
 
 use crate::data::{Among, Word};
@@ -50,7 +51,7 @@ fn is_digits(word: &[u8]) -> bool
 }
 
 fn number(digits: &[u8]) -> Option<u64>
-    ensures { Finds (λ n. IsDigits digits.now × (n ≡ digits_value 10 digits.now) × (n < 2 ^ 64)) result }
+    ensures { Found (λ x. x) (λ n. IsDigits digits.now × (n ≡ digits_value 10 digits.now) × (n < 2 ^ 64)) result }
 {
     if !is_digits(digits) {
         return None;
@@ -63,7 +64,7 @@ fn number(digits: &[u8]) -> Option<u64>
 
 // 1 to 9 digits.
 fn count(digits: &[u8]) -> Option<u32>
-    ensures { Finds (IsCount digits.now) result }
+    ensures { Found (λ x. x) (IsCount digits.now) result }
 {
     if digits.len() > 9 {
         return None;
@@ -97,7 +98,7 @@ fn unit_of(value: &[u8]) -> (&[u8], u64)
 }
 
 fn size(value: &[u8]) -> Option<u64>
-    ensures { Finds (IsSize value.now) result }
+    ensures { Found (λ x. x) (IsSize value.now) result }
 {
     let (digits, unit) = unit_of(value);
     match number(digits) {
@@ -107,7 +108,7 @@ fn size(value: &[u8]) -> Option<u64>
 }
 
 fn level(name: &[u8]) -> Option<Level>
-    ensures { Finds (IsLevel name.now) result }
+    ensures { Found (λ x. x) (IsLevel name.now) result }
 {
     if same(name, b"untrusted") {
         return Some(Level::Untrusted);
@@ -122,7 +123,7 @@ fn level(name: &[u8]) -> Option<Level>
 }
 
 fn level_or_more(name: &[u8]) -> Option<Level>
-    ensures { Finds (IsLevelOrMore name.now) result }
+    ensures { Found (λ x. x) (IsLevelOrMore name.now) result }
 {
     match without_end(name, b"+") {
         None => None,
@@ -211,7 +212,7 @@ fn glob(alloc: Global, value: &[u8]) -> Result<Glob, WordFault>
 
 // A word that has no value.
 fn bare(name: &[u8]) -> Option<Word>
-    ensures { Finds (IsBare name.now) result }
+    ensures { Found (λ x. x) (IsBare name.now) result }
 {
     if same(name, b"anything") {
         return Some(Word::Anything);

@@ -1,5 +1,5 @@
 use Rattle.std.proofs.Common.{rules, sym, subst, ℕ, Option}
-use Rattle.wanted_expr.specs.Finding.{Finds}
+use Rattle.annex_base.specs.Finding.{Found}
 use Rattle.wanted_expr.specs.Words.{IsDigits}
 use Rattle.wanted_expr.proofs.WordLemmas.{digits_utf8, parsed_number, IsNumber}
 use Rattle.wanted_expr.proofs.word.number.Goals as goal
@@ -11,4 +11,4 @@ pub returns : goal.returns
 returns c =
     let d : IsDigits c.args.digits.now = search rules in
     let text = c.in-Ok.ensures.cases.0 in
-    subst (λ (o : Option ℕ). Finds (IsNumber c.args.digits.now) o) (sym c.ok.ensures.value) (parsed_number c.args.digits.now c.parse.result (rw text at c.parse.ensures.value.0) d)
+    subst (λ (o : Option ℕ). Found (λ x. x) (IsNumber c.args.digits.now) o) (sym c.ok.ensures.value) (parsed_number c.args.digits.now c.parse.result (rw text at c.parse.ensures.value.0) d)
