@@ -1,12 +1,11 @@
 -- What a decoder gave, and what it did not, is what it was fed.
-use Rattle.std.proofs.Common.{◌≡◌, ◌≢◌, ◌⊎◌, inl, inr, ℕ, ◌+◌, ◌-◌, ◌≤◌, ◌<◌, ◌^◌, Bool, true, false, List, [], ◌∷◌, ◌++◌, length, drop, Option, Some, None, refl, sym, ap, ◌∙◌, subst, arith}
+use Rattle.std.proofs.Common.{◌≡◌, ℕ, ◌+◌, ◌-◌, ◌≤◌, ◌^◌, List, [], ◌∷◌, ◌++◌, length, Option, Some, None, refl, sym, ap, ◌∙◌, subst, arith}
 use Rattle.std.specs.Prelude.{min, flat_map}
 use Rattle.std.proofs.lemmas.List.{append_assoc, length-append}
 use Rattle.annex_base.specs.Lists.{Each}
-use Rattle.p2p_wire.specs.declared.message.Message.{Message}
 use Rattle.p2p_wire.specs.declared.decoder.Why.{Why}
 use Rattle.p2p_wire.specs.Streams.{Accounts, Unread, Told, Says, Gives, Waits, Refuses, Event, Fed, Asked, IsToldLine, IsToldFault, start, told, after, after_told, after_all, answers, past, fed, fed_by, fed_bytes, given_in, unread_told, line_told, line_of, raw_after}
-use Rattle.p2p_wire.proofs.StreamLemmas.{told_says, told_gives, told_refuses, said_bytes, said_line, given_bytes}
+use Rattle.p2p_wire.proofs.StreamLemmas.{told_refuses, said_bytes, said_line, given_bytes}
 
 abbrev given : List Event → Unread → List ℕ
 given events u = flat_map given_in (answers events u)

@@ -1,7 +1,7 @@
 -- However a stream is cut into pieces, its items are given in order.
-use Rattle.std.proofs.Common.{◌≡◌, ◌≢◌, ◌⊎◌, inl, inr, ℕ, zero, suc, ◌+◌, ◌-◌, ◌≤◌, ◌<◌, Bool, true, false, List, [], ◌∷◌, ◌++◌, length, take, drop, Option, Some, None, refl, sym, ap, ◌∙◌, subst, arith}
-use Rattle.std.specs.Prelude.{◌==◌, nat_le, nat_lt, if◌then◌else◌, map, flat_map, not, Contains}
-use Rattle.std.specs.List.{before_first, position_or_len, prefix_len}
+use Rattle.std.proofs.Common.{◌≡◌, ◌≢◌, ◌⊎◌, inl, inr, ℕ, ◌+◌, ◌-◌, ◌≤◌, true, false, List, [], ◌∷◌, ◌++◌, length, take, drop, Some, None, refl, sym, ap, ◌∙◌, subst, arith}
+use Rattle.std.specs.Prelude.{◌==◌, nat_le, nat_lt, map, flat_map}
+use Rattle.std.specs.List.{before_first}
 use Rattle.std.proofs.lemmas.Bool.{ne_eqb}
 use Rattle.std.proofs.lemmas.Bool.Decides.{nat_tests}
 use Rattle.std.proofs.lemmas.List.{append_assoc, length-append, map-append, take_all, take_at, drop_at}
@@ -10,9 +10,8 @@ use Rattle.annex_base.specs.Lists.{Each, Member}
 use Rattle.annex_base.proofs.Conditions.{if_is}
 use Rattle.annex_base.proofs.Lists.{Each-from_members, Contains-from_Member}
 use Rattle.p2p_wire.specs.declared.message.Message.{Message}
-use Rattle.p2p_wire.specs.declared.decoder.Why.{Why}
 use Rattle.p2p_wire.specs.Messages.{message_of, text_of}
-use Rattle.p2p_wire.specs.Streams.{Decodes, Unread, Told, Says, Gives, Waits, Refuses, Item, IsItem, IsLine, Sign, Raw, Line, Event, Fed, Asked, start, told, after, after_told, after_all, answers, past, fed, fed_by, fed_in, fed_bytes, unread_told, line_told, raw_told, whole_line, line_len, line_of, raw_after, item_bytes, stream_of, signs_of, signs_in}
+use Rattle.p2p_wire.specs.Streams.{Decodes, Unread, Says, Gives, Waits, Item, IsItem, Sign, Raw, Event, Fed, Asked, start, told, after, after_told, after_all, answers, past, fed, fed_by, fed_bytes, unread_told, line_told, raw_told, whole_line, line_len, line_of, raw_after, stream_of, signs_of, signs_in}
 
 -- ---- two ways to cut one list
 
@@ -30,15 +29,15 @@ seam (x ∷ xs) ys (f ∷ front) rest e =
 
 -- ---- the next line
 
-abbrev IsClear : List ℕ → Type 0
+abbrev pub IsClear : List ℕ → Type 0
 IsClear text = Each (λ b. is_newline b ≡ false) text
 
 -- a text of one line: its newline is the first
-clear_len : (text rest : List ℕ) → IsClear text → line_len (text ++ newline ∷ rest) ≡ length text
+pub clear_len : (text rest : List ℕ) → IsClear text → line_len (text ++ newline ∷ rest) ≡ length text
 clear_len [] rest clear = refl
 clear_len (b ∷ text) rest clear = rw clear.0 (let more = clear_len text rest clear.1 in omega (arith, more))
 
-clear_whole : (text : List ℕ) → IsClear text → line_len text ≡ length text
+pub clear_whole : (text : List ℕ) → IsClear text → line_len text ≡ length text
 clear_whole [] clear = refl
 clear_whole (b ∷ text) clear = rw clear.0 (let more = clear_whole text clear.1 in omega (arith, more))
 
@@ -46,12 +45,12 @@ clear_front : (front rest : List ℕ) → IsClear (front ++ rest) → IsClear fr
 clear_front [] rest clear = tt
 clear_front (b ∷ front) rest clear = (clear.0, clear_front front rest clear.1)
 
-clear_text : (text : List ℕ) → IsOneLine text → IsClear text
+pub clear_text : (text : List ℕ) → IsOneLine text → IsClear text
 clear_text text one = Each-from_members (λ b. is_newline b ≡ false) text (λ b among.
     ne_eqb b newline (λ is. one (Contains-from_Member text newline (subst (λ (c : ℕ). Member c text) is among))))
 
 -- an unfinished line
-line_waits : (place : ℕ) (text : List ℕ) → IsClear text → length text ≤ 8192 → line_told place text ≡ Waits
+pub line_waits : (place : ℕ) (text : List ℕ) → IsClear text → length text ≤ 8192 → line_told place text ≡ Waits
 line_waits place text clear short =
     let whole : line_len text ≡ length text = clear_whole text clear in
     let fits : nat_lt 8192 (line_len text) ≡ false = rw whole (grind (arith, nat_tests)) in
@@ -59,7 +58,7 @@ line_waits place text clear short =
     rw (fits, open') refl
 
 -- a whole one
-line_comes : (place : ℕ) (text rest : List ℕ) (m : Message) → IsClear text → length text ≤ 8192 → message_of text ≡ Some m → line_told place (text ++ newline ∷ rest) ≡ Says m
+pub line_comes : (place : ℕ) (text rest : List ℕ) (m : Message) → IsClear text → length text ≤ 8192 → message_of text ≡ Some m → line_told place (text ++ newline ∷ rest) ≡ Says m
 line_comes place text rest m clear short read =
     let whole : line_len (text ++ newline ∷ rest) ≡ length text = clear_len text rest clear in
     let long : length (text ++ newline ∷ rest) ≡ length text + length (newline ∷ rest) = length-append text (newline ∷ rest) in
@@ -68,7 +67,7 @@ line_comes place text rest m clear short read =
     let more : (line_len (text ++ newline ∷ rest) == length (text ++ newline ∷ rest)) ≡ false = rw (whole, long) (grind (arith, nat_tests)) in
     rw (fits, more) (ap (whole_line place) (ap message_of front ∙ read))
 
-read_short : (text : List ℕ) (m : Message) → message_of text ≡ Some m → length text ≤ 8192
+pub read_short : (text : List ℕ) (m : Message) → message_of text ≡ Some m → length text ≤ 8192
 read_short text m e = elim (if_is (nat_le (length text) 8192) _ _ _ e) [
   | inl short ↦ let fits = short.0 in grind (arith, nat_tests)
   | inr long ↦ absurd (let other = long.1 in cc)
@@ -96,10 +95,10 @@ record Goes (u : Unread) (raw : List ℕ) (items : List Item) (ys : List ℕ) : 
 
 -- ---- the answer where a line comes next
 
-told_at_line : (u : Unread) → u.fault ≡ None → u.left ≡ 0 → told u ≡ line_told u.place u.bytes
+pub told_at_line : (u : Unread) → u.fault ≡ None → u.left ≡ 0 → told u ≡ line_told u.place u.bytes
 told_at_line u sound none = ap (unread_told u) sound ∙ (let is : (u.left == 0) ≡ true = rw none refl in rw is refl)
 
-told_at_raw : (u : Unread) → u.fault ≡ None → (u.left == 0) ≡ false → told u ≡ raw_told (take u.left u.bytes)
+pub told_at_raw : (u : Unread) → u.fault ≡ None → (u.left == 0) ≡ false → told u ≡ raw_told (take u.left u.bytes)
 told_at_raw u sound some = ap (unread_told u) sound ∙ rw some refl
 
 -- nothing happens
@@ -206,7 +205,7 @@ gives u raw items ys taken later st parts is more =
       done = λ none waits. absurd (let other : Gives taken ≡ Waits = sym is ∙ waits in cc);
     }
 
-raw_gives : (xs : List ℕ) → xs ≢ [] → raw_told xs ≡ Gives xs
+pub raw_gives : (xs : List ℕ) → xs ≢ [] → raw_told xs ≡ Gives xs
 raw_gives [] some = absurd (some refl)
 raw_gives (x ∷ xs) some = refl
 

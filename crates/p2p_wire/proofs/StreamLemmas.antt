@@ -1,6 +1,6 @@
 -- What an answer of a decoder shows of the bytes at hand.
-use Rattle.std.proofs.Common.{◌≡◌, ◌⊎◌, inl, inr, ℕ, zero, suc, get_or, ◌+◌, ◌≤◌, ◌<◌, Bool, true, false, List, [], ◌∷◌, ◌++◌, length, take, drop, Option, Some, None, refl, sym, ap, ◌∙◌, subst, arith}
-use Rattle.std.specs.Prelude.{◌==◌, nat_lt, if◌then◌else◌}
+use Rattle.std.proofs.Common.{◌≡◌, inl, inr, ℕ, zero, suc, get_or, ◌+◌, ◌≤◌, ◌<◌, List, [], ◌∷◌, ◌++◌, length, take, drop, Option, Some, None, refl, sym, ap, ◌∙◌, subst, arith}
+use Rattle.std.specs.Prelude.{◌==◌, nat_lt}
 use Rattle.std.specs.List.{before_first, after_first, Contains}
 use Rattle.std.proofs.lemmas.Bool.{eqb-true, eqb-false}
 use Rattle.std.proofs.lemmas.List.Sums.{split_at_first, passes_at_first, fails_before_first}
@@ -11,7 +11,7 @@ use Rattle.annex_base.proofs.Conditions.{if_is}
 use Rattle.p2p_wire.specs.declared.message.Message.{Message}
 use Rattle.p2p_wire.specs.declared.decoder.Why.{Why}
 use Rattle.p2p_wire.specs.Messages.{message_of, text_of}
-use Rattle.p2p_wire.specs.Streams.{Unread, Told, Says, Gives, Waits, Refuses, told, unread_told, line_told, raw_told, whole_line, line_len, line_of, IsLine}
+use Rattle.p2p_wire.specs.Streams.{Unread, Says, Gives, Refuses, told, unread_told, line_told, raw_told, whole_line, line_len, line_of, IsLine}
 use Rattle.p2p_wire.proofs.BufferLemmas.{line_within}
 use Rattle.p2p_wire.proofs.LineFacts.{line_again}
 

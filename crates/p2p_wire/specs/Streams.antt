@@ -1,6 +1,6 @@
 -- Streams of messages and raw bytes, and what a decoder answers that is fed one in pieces (git-annex P2P protocol; the
 -- limit of a line and what follows a fault are the project's own).
-use Rattle.std.specs.Prelude.{◌≡◌, ℕ, ◌+◌, ◌-◌, ◌^◌, min, Bool, if◌then◌else◌, ◌==◌, nat_lt, List, [], ◌∷◌, ◌++◌, length, take, drop, map, flat_map, Option, Some, None}
+use Rattle.std.specs.Prelude.{◌≡◌, ℕ, ◌+◌, ◌-◌, ◌^◌, min, if◌then◌else◌, ◌==◌, nat_lt, List, [], ◌∷◌, ◌++◌, length, take, drop, map, flat_map, Option, Some, None}
 use Rattle.std.specs.List.{before_first, position_or_len}
 use Rattle.annex_base.specs.Lines.{newline, is_newline, IsOneLine}
 use Rattle.annex_base.specs.Lists.{Each}

@@ -3,8 +3,9 @@
 ghost use Rattle.std.specs.Prelude.{◌≡◌, ℕ, ◌≤◌, ◌++◌, List, length, Some};
 ghost use Rattle.p2p_wire.specs.declared.message.Message.{Message};
 ghost use Rattle.annex_base.specs.Lists.{Each};
+ghost use Rattle.p2p_wire.specs.Answers.{Answers};
 ghost use Rattle.p2p_wire.specs.Messages.{IsShort, IsWire, message_of, text_of};
-ghost use Rattle.p2p_wire.specs.Streams.{Accounts, Decodes, Event, IsItem, IsLine, IsSaidInOneLine, Item, fed_bytes, stream_of};
+ghost use Rattle.p2p_wire.specs.Streams.{Accounts, Decodes, Event, IsItem, IsLine, IsSaidInOneLine, Item, Unread, fed_bytes, stream_of};
 
 use annex_key::key_texts_have_no_fault;
 
@@ -40,4 +41,11 @@ pub fn streams_are_decoded()
 /// each message is one of the protocol; and a refusal tells the first line that is none, at the place of its first byte.
 pub fn answers_account_for_the_bytes()
     ensures { (events : List Event) → Accounts events }
+{}
+
+/// Each answer of a decoder comes exactly then: more is needed at an unfinished line of at most 8,192 bytes, or where
+/// raw bytes are to come and none is at hand; raw bytes are all that are to come and at hand; a line is refused where it
+/// is whole, has at most 8,192 bytes and is no message, or where 8,193 bytes have no newline; and then for ever.
+pub fn answers_are_exact()
+    ensures { (u : Unread) → Answers u }
 {}

@@ -26,6 +26,7 @@ impl Work {
 }
 
 /// What is decoded: so many blocks of 1,024 bytes, in pieces of this length.
+#[derive(Drop)]
 struct Wanted {
     work: Work,
     piece: usize,
@@ -67,6 +68,21 @@ fn drain(decoder: &mut Decoder, count: &mut u64) -> Result<bool, NoMemory> {
     Ok(true)
 }
 
+/// Feeds the bytes in pieces, which may go on over the ends of lines, and takes what the decoder gives after each.
+fn feed_all(
+    decoder: &mut Decoder,
+    bytes: &[u8],
+    piece: usize,
+    count: &mut u64,
+) -> Result<(), NoMemory> {
+    let length = piece.max(1);
+    for part in bytes.chunks(length) {
+        decoder.feed(part)?;
+        let _sound = drain(decoder, count)?;
+    }
+    Ok(())
+}
+
 fn decoded(alloc: Global, wanted: &Wanted) -> Result<u64, NoMemory> {
     let mut decoder = Decoder::new(alloc);
     let mut count = 0u64;
@@ -76,19 +92,15 @@ fn decoded(alloc: Global, wanted: &Wanted) -> Result<u64, NoMemory> {
         write!(line, "DATA {bytes}\n")?;
         decoder.feed(line.as_bytes())?;
     }
-    // Pieces go on over the ends of blocks and lines, unless they divide them.
     let blocks = blocks_of(alloc, wanted.work, 64)?;
     for _ in 0..wanted.blocks / 64 {
-        for piece in blocks.chunks(wanted.piece) {
-            decoder.feed(piece)?;
-            let _sound = drain(&mut decoder, &mut count)?;
-        }
+        feed_all(&mut decoder, &blocks, wanted.piece, &mut count)?;
     }
     Ok(count)
 }
 
-/// What the words ask for, if they are a work and two numbers that aren't 0.
-fn wanted(words: &[String]) -> Option<Wanted> {
+/// What the words ask for, if they are a work and two numbers.
+fn asked(words: &[String]) -> Option<Wanted> {
     let [work, piece, blocks] = words else {
         return None;
     };
@@ -99,9 +111,6 @@ fn wanted(words: &[String]) -> Option<Wanted> {
     let Ok(blocks) = blocks.parse::<u64>() else {
         return None;
     };
-    if piece == 0 {
-        return None;
-    }
     Some(Wanted {
         work,
         piece,
@@ -119,7 +128,7 @@ fn main(rt: HostRuntime) -> ExitCode {
             return ExitCode::from(5);
         }
     }
-    let Some(wanted) = wanted(&words) else {
+    let Some(wanted) = asked(&words) else {
         return ExitCode::from(1);
     };
     let Ok(count) = decoded(rt.alloc(), &wanted) else {

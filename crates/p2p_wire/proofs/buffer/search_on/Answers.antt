@@ -1,7 +1,5 @@
-use Rattle.std.proofs.Common.{◌≡◌, ℕ, ◌+◌, ◌≤◌, length, drop, sym, ◌∙◌, ap, subst, arith}
-use Rattle.std.specs.List.{position_or_len}
-use Rattle.annex_base.specs.Lines.{is_newline}
-use Rattle.p2p_wire.proofs.BufferLemmas.{line_goes_on, line_within}
+use Rattle.std.proofs.Common.{arith}
+use Rattle.p2p_wire.proofs.BufferLemmas.{line_within}
 use Rattle.p2p_wire.proofs.buffer.search_on.Goals as goal
 
 pub split_at-requires : goal.split_at-requires

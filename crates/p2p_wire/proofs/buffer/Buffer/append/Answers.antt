@@ -1,8 +1,6 @@
-use Rattle.std.proofs.Common.{◌≡◌, ℕ, ◌+◌, ◌≤◌, ◌++◌, length, drop, sym, ◌∙◌, ap, subst, arith}
+use Rattle.std.proofs.Common.{◌≡◌, length, drop, sym, arith}
 use Rattle.std.specs.Prelude.{vec_len}
-use Rattle.std.specs.List.{position_or_len}
 use Rattle.std.proofs.lemmas.List.{drop-append-le}
-use Rattle.annex_base.specs.Lines.{is_newline}
 use Rattle.p2p_wire.proofs.BufferLemmas.{line_grows}
 use Rattle.p2p_wire.proofs.buffer.Buffer.append.Goals as goal
 

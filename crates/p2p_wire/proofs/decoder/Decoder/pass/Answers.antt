@@ -1,6 +1,5 @@
-use Rattle.std.proofs.Common.{◌≡◌, ℕ, ◌+◌, ◌≤◌, length, sym, ◌∙◌, ap, subst, arith}
-use Rattle.std.specs.Prelude.{vec_len}
-use Rattle.p2p_wire.specs.Streams.{Unread, Says, Gives, after_told, past, told, told_by, raw_after, line_len, line_of}
+use Rattle.std.proofs.Common.{◌≡◌, ◌+◌, length, sym, ◌∙◌, ap, arith}
+use Rattle.p2p_wire.specs.Streams.{Unread, Says, Gives, after_told, past, told, told_by, line_of}
 use Rattle.p2p_wire.proofs.StreamLemmas.{given_len, said_len}
 use Rattle.p2p_wire.proofs.decoder.Decoder.pass.Goals as goal
 

@@ -1,4 +1,4 @@
-use Rattle.std.proofs.Common.{◌≡◌, ℕ, ◌+◌, length, arith}
+use Rattle.std.proofs.Common.{◌≡◌, length, arith}
 use Rattle.annex_base.specs.RepoText.{repo_text}
 use Rattle.annex_base.proofs.RepoLemmas.{length-repo_text}
 use Rattle.p2p_wire.proofs.message.Message.rest_len.Goals as goal
