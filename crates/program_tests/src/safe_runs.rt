@@ -1,6 +1,6 @@
 //! Runs of scripts that the plain check of safe runs accepts at each place.
 
-use script_lang::{Command, Script};
+use thin_script::{Command, Script};
 use std::alloc::Global;
 use std::test::Fail;
 use thin_driver::run_script;

@@ -10,7 +10,7 @@ use crate::shown::put_shown;
 use crate::walk::Walk;
 use annex_base::NoMemory;
 use run_data::Run;
-use script_lang::Command;
+use thin_script::Command;
 use std::alloc::Global;
 
 /// The report of a run of this script (own): for each line of the script the lines of the jobs that ended while it

@@ -15,7 +15,7 @@ use crate::words::{put_names, put_quoted};
 use annex_base::NoMemory;
 use annex_key::Key;
 use run_data::{RepoView, Run};
-use script_lang::Command;
+use thin_script::Command;
 use std::alloc::Global;
 use thin_model::Contents;
 use union_merge::Branch;

@@ -1,6 +1,8 @@
-pub mod Words
-pub mod Lines
-pub mod Script
-pub mod Verbs
-pub mod Reading
+pub mod Answers
+pub mod Context
+pub mod Verify
 pub mod Steps
+pub mod Forms
+pub mod Limits
+pub mod Script
+pub mod Laws

@@ -1,144 +1,193 @@
 -- What a text says as a script, line by line (own).
-use Rattle.std.specs.Prelude.{◌≡◌, ℕ, ◌+◌, ◌<◌, ◌≤◌, Bool, true, false, not, ◌==◌, List, [], ◌∷◌, ◌++◌, length, codes, Contains}
-use Rattle.std.specs.List.{list_any, slice_split}
-use Rattle.std.specs.Str.{IsUtf8}
-use Rattle.annex_base.specs.Lists.{Each}
+use Rattle.std.specs.Prelude.{◌≡◌, ℕ, zero, suc, ◌+◌, ◌-◌, Bool, true, false, not, ◌==◌, ◌&&◌, ◌||◌, List, [], ◌∷◌, ◌++◌, length, take, Option, Some, None, Result, Ok, Err, if◌then◌else◌}
+use Rattle.std.specs.List.{slice_split, suffix_len}
+use Rattle.std.specs.Str.{is_utf8}
+use Rattle.std.specs.Str.Lossy.{utf8_valid_len}
+use Rattle.std.specs.BTreeSet.{insert_key}
+use Rattle.annex_base.specs.Lines.{is_newline, is_not_space}
+use Rattle.annex_base.specs.ResultSteps.{◌>>=◌}
+use Rattle.annex_key.specs.Tree.{Entries, with_key}
+use Rattle.script_words.specs.Places.{Cursor}
+use Rattle.script_lang.specs.declared.command.BlockLine.{BlockLine}
 use Rattle.script_lang.specs.declared.command.Command.{Command}
-use Rattle.script_lang.specs.declared.command.Command.TheVariants.{Repo, Describe, Group, Log, Wait}
+use Rattle.script_lang.specs.declared.command.Command.TheVariants as commands
+use Rattle.script_lang.specs.declared.state.Block.{Block}
+use Rattle.script_lang.specs.declared.verb.Verb.{Verb}
+use Rattle.script_lang.specs.declared.verb.Verb.TheVariants as verbs
+use Rattle.script_lang.specs.declared.verb.LineVerb.{LineVerb}
+use Rattle.script_lang.specs.declared.verb.LineVerb.TheVariants.{Par, End, Says}
+use Rattle.script_lang.specs.declared.fault.LineFault.{LineFault}
+use Rattle.script_lang.specs.declared.fault.LineFault.TheVariants.{Wrong, Past, NoMemory}
+use Rattle.script_lang.specs.declared.fault.ScriptFault.{ScriptFault}
+use Rattle.script_lang.specs.declared.fault.ScriptFault.TheVariants as faults
 use Rattle.script_lang.specs.declared.fault.Quantity.{Quantity}
-use Rattle.script_lang.specs.declared.fault.Quantity.TheVariants.{Repositories, Time}
-use Rattle.script_lang.specs.Lines.{declared, SpellsLine, MayStand}
+use Rattle.script_lang.specs.Context.{Context, new_paths, placed_cmp}
+use Rattle.script_lang.specs.declared.context.Repository.{Repository}
+use Rattle.script_lang.specs.Steps.{Step, saying_at, end_at}
+use Rattle.script_lang.specs.Forms.{row, block_row, line_named}
+use Rattle.script_lang.specs.Limits.{first_limit}
 
-abbrev pub newline : ℕ
-newline = 10
+-- ---- what a command changes for the lines behind it
+
+abbrev pub is_repo : Command → Bool
+is_repo (commands.Repo name id offset version locks) = true
+is_repo _ = false
+
+-- the repositories that the command declares
+abbrev pub declared_by : Command → List Repository
+declared_by (commands.Repo name id offset version locks) = record { name = name; id = id; offset = offset; version = version; locks = locks } ∷ []
+declared_by _ = []
+
+abbrev pub tree_with : Entries → Command → Entries
+tree_with tree (commands.Add r path key content) = with_key tree path key
+tree_with tree (commands.File path key) = with_key tree path key
+tree_with tree _ = tree
+
+-- how many paths the tree has more
+abbrev pub files_by : Entries → Command → ℕ
+files_by tree (commands.Add r path key content) = new_paths tree path
+files_by tree (commands.File path key) = new_paths tree path
+files_by tree _ = 0
+
+abbrev pub placed_with : List (ℕ × List ℕ) → Command → List (ℕ × List ℕ)
+placed_with placed (commands.Have r key content) = insert_key placed_cmp placed (r, key)
+placed_with placed (commands.Add r path key content) = insert_key placed_cmp placed (r, key)
+placed_with placed _ = placed
+
+-- the bytes of the command's content
+abbrev pub content_size : Command → ℕ
+content_size (commands.Have r key content) = length content
+content_size (commands.Part r key content) = length content
+content_size (commands.Damage r key content) = length content
+content_size (commands.Add r path key content) = length content
+content_size _ = 0
+
+abbrev pub wait_of : Command → ℕ
+wait_of (commands.Wait milliseconds) = milliseconds
+wait_of _ = 0
+
+-- the context of the lines behind the command
+abbrev pub context_with : Context → Command → Context
+context_with context command = record {
+  repos = context.repos ++ declared_by command;
+  closed = context.closed || not (is_repo command);
+  tree = tree_with context.tree command;
+  files = context.files + files_by context.tree command;
+  placed = placed_with context.placed command;
+  contents = context.contents + content_size command;
+  waited = context.waited + wait_of command;
+}
+
+-- ---- lines
+
+-- what the lines so far say
+pub record State : Type 0 where
+  pub context : Context
+  pub commands : List Command
+  pub block : Option Block
+
+abbrev pub command_unless : Context → List Command → Command → Option Quantity → Result State LineFault
+command_unless context before command (Some quantity) = Err (Past quantity)
+command_unless context before command None = Ok (record { context = context_with context command; commands = before ++ command ∷ []; block = None })
+
+-- one command more, if it passes no limit
+unfoldable pub with_command : Context → List Command → Command → Result State LineFault
+with_command context before command = command_unless context before command (first_limit context command)
+
+abbrev pub within_block : Context → List Command → ℕ → List BlockLine → State
+within_block context before number lines = record { context = context; commands = before; block = Some (record { number = number; lines = lines }) }
+
+-- a line that stands in no block, after these commands, from behind its first word on
+unfoldable pub line_outside : Context → List Command → ℕ → LineVerb → Cursor → Result State LineFault
+line_outside context before number Par at = end_at at >>= λ _. Ok (within_block context before number [])
+line_outside context before number End at = Err (Wrong 0)
+line_outside context before number (Says v) at = (row v).1 context at >>= with_command context before
+
+-- a line of a block; no other form may stand there
+unfoldable pub line_inside : Context → List Command → Block → LineVerb → Cursor → Result State LineFault
+line_inside context before block End at = end_at at >>= λ _. with_command context before (commands.Par block.lines)
+line_inside context before block (Says (verbs.InBlock v)) at = (block_row v).1 context at >>= λ l. Ok (within_block context before block.number (block.lines ++ l ∷ []))
+line_inside context before block v at = Err (Wrong 0)
+
+abbrev pub line_by : Context → List Command → Option Block → ℕ → LineVerb → Cursor → Result State LineFault
+line_by context before None number v at = line_outside context before number v at
+line_by context before (Some block) number v at = line_inside context before block v at
+
+abbrev pub line_verb_at : Step LineVerb
+line_verb_at at = saying_at line_named at
+
+-- a line of words
+unfoldable pub words_line : State → ℕ → List ℕ → Result State LineFault
+words_line state number line = line_verb_at (record { line = line; place = 0 }) >>= λ v. line_by state.context state.commands state.block number v.0 v.1
+
+-- an empty line, or a comment
+abbrev pub is_skipped : List ℕ → Bool
+is_skipped [] = true
+is_skipped (b ∷ rest) = b == 35
+
+-- the place of the last word of the bytes, where a word ends at a space
+abbrev pub last_word : List ℕ → ℕ
+last_word bytes = length bytes - suffix_len is_not_space bytes
+
+-- a comment is UTF-8; one that isn't is wrong at the first byte of the word that has the first other byte
+unfoldable pub comment_at : List ℕ → Result Unit LineFault
+comment_at line = if is_utf8 line then Ok tt else Err (Wrong (last_word (take (utf8_valid_len line) line)))
+
+-- a line after lines that say this
+unfoldable pub line_step : State → ℕ → List ℕ → Result State LineFault
+line_step state number line = if is_skipped line
+    then (comment_at line >>= λ _. Ok state)
+    else words_line state number line
+
+-- ---- the whole text
+
+-- what a text says: commands; or the first line that is wrong, from 1, and its byte, from 0; or the first limit that it passes
+pub data Reading : Type 0 where
+  Commands : List Command → Reading
+  BadLine : ℕ → ℕ → Reading
+  PastLimit : Quantity → Reading
+
+abbrev pub ended_by : List Command → Option Block → Reading
+ended_by commands None = Commands commands
+ended_by commands (Some block) = BadLine block.number 0
+
+-- a line's fault, as the text's
+abbrev pub fault_of : ℕ → LineFault → Reading
+fault_of number (Wrong byte) = BadLine number byte
+fault_of number (Past quantity) = PastLimit quantity
+fault_of number NoMemory = BadLine number 0
+
+abbrev pub goes_on : ℕ → Result State LineFault → (State → Reading) → Reading
+goes_on number (Ok state) others = others state
+goes_on number (Err fault) others = fault_of number fault
+
+-- what lines say after others, the first of them being the line of this number
+abbrev pub lines_reading : State → ℕ → List (List ℕ) → Reading
+lines_reading state number [] = ended_by state.commands state.block
+lines_reading state number (line ∷ lines) = goes_on number (line_step state number line) (λ next. lines_reading next (number + 1) lines)
+
+-- no lines
+abbrev pub no_context : Context
+no_context = record { repos = []; closed = false; tree = []; files = 0; placed = []; contents = 0; waited = 0 }
+
+abbrev pub no_lines : State
+no_lines = record { context = no_context; commands = []; block = None }
 
 -- the lines of a text, which end at newlines
 abbrev pub lines_of : List ℕ → List (List ℕ)
-lines_of text = slice_split (λ b. b == newline) text
+lines_of text = slice_split is_newline text
 
--- an empty line, or a comment
-abbrev pub IsSkipped : List ℕ → Type 0
-IsSkipped [] = Unit {0}
-IsSkipped (b ∷ rest) = b ≡ 35
+-- what a text says as a script
+unfoldable pub reading : List ℕ → Reading
+reading text = lines_reading no_lines 1 (lines_of text)
 
-abbrev pub is_repo : Command → Bool
-is_repo (Repo name id offset) = true
-is_repo _ = false
+-- a fault tells the reading
+abbrev pub IsFault : ScriptFault → Reading → Type 0
+IsFault (faults.BadLine line byte) says = says ≡ BadLine line byte
+IsFault (faults.TooMuch quantity) says = says ≡ PastLimit quantity
+IsFault faults.NoMemory says = Unit {0}
 
--- some line other than a declaration came
-abbrev pub is_closed : List Command → Bool
-is_closed before = list_any (λ c. not (is_repo c)) before
-
--- the line, after lines that say these commands, says this command
-pub record Says (before : List Command) (line : List ℕ) (command : Command) : Type 0 where
-  pub utf8 : IsUtf8 line
-  pub words : SpellsLine (declared before) line command
-  pub stands : MayStand (declared before) (is_closed before) command
-
--- the lines, after lines that say the commands before, say these commands
-pub data Reads : List Command → List (List ℕ) → List Command → Type 0 where
-  End : (before : List Command) → Reads before [] []
-  Skip : (before : List Command) (line : List ℕ) (lines : List (List ℕ)) (commands : List Command)
-      → IsUtf8 line → IsSkipped line → Reads before lines commands → Reads before (line ∷ lines) commands
-  Line : (before : List Command) (line : List ℕ) (command : Command) (lines : List (List ℕ)) (commands : List Command)
-      → Says before line command → Reads (before ++ command ∷ []) lines commands → Reads before (line ∷ lines) (command ∷ commands)
-
--- ---- limits
-
--- how many repositories may be declared
-abbrev pub most_repositories : ℕ
-most_repositories = 8
-
-abbrev pub waited_by : Command → ℕ
-waited_by (Wait milliseconds) = milliseconds
-waited_by _ = 0
-
--- the milliseconds of all waits
-abbrev pub waited : List Command → ℕ
-waited [] = 0
-waited (c ∷ cs) = waited_by c + waited cs
-
--- how many milliseconds may be waited
-abbrev pub most_time : ℕ
-most_time = 1000000000000
-
--- the name of what is limited, as a report says it
-abbrev pub quantity_name : Quantity → List ℕ
-quantity_name Repositories = codes "repositories"
-quantity_name Time = codes "time"
-
-abbrev pub limit_of : Quantity → ℕ
-limit_of Repositories = most_repositories
-limit_of Time = most_time
-
--- ---- texts
-
--- the text is a script, and says these commands
-pub record IsScript (text : List ℕ) (commands : List Command) : Type 0 where
-  pub reads : Reads [] (lines_of text) commands
-  pub few : length (declared commands) ≤ most_repositories
-  pub in_time : waited commands ≤ most_time
-
--- the lines before this one, which is numbered from 1, say these commands, and none of them passes a limit
-pub record ReadsUpTo (text line : List ℕ) (number : ℕ) (before : List Command) : Type 0 where
-  pub lines : List (List ℕ)
-  pub rest : List (List ℕ)
-  pub lines_are : lines_of text ≡ lines ++ line ∷ rest
-  pub number_is : number ≡ length lines + 1
-  pub reads : Reads [] lines before
-  pub few : length (declared before) ≤ most_repositories
-  pub in_time : waited before ≤ most_time
-
--- the line of this number is the first that says nothing and may not be skipped
-pub record IsBadLine (text : List ℕ) (number : ℕ) : Type 0 where
-  pub line : List ℕ
-  pub before : List Command
-  pub up_to : ReadsUpTo text line number before
-  pub kept : IsUtf8 line → IsSkipped line → ⊥
-  pub silent : (command : Command) → Says before line command → ⊥
-
--- the first line past a limit declares one repository too many
-pub record IsCrowded (text : List ℕ) : Type 0 where
-  pub number : ℕ
-  pub line : List ℕ
-  pub before : List Command
-  pub up_to : ReadsUpTo text line number before
-  pub full : length (declared before) ≡ most_repositories
-  pub name : List ℕ
-  pub id : List ℕ
-  pub offset : ℕ
-  pub says : Says before line (Repo name id offset)
-
--- the first line past a limit waits too long
-pub record IsLate (text : List ℕ) : Type 0 where
-  pub number : ℕ
-  pub line : List ℕ
-  pub before : List Command
-  pub up_to : ReadsUpTo text line number before
-  pub milliseconds : ℕ
-  pub late : most_time < waited before + milliseconds
-  pub says : Says before line (Wait milliseconds)
-
--- each command may stand on a line after those before it
-abbrev pub AllStand : List Command → List Command → Type 0
-AllStand before [] = Unit {0}
-AllStand before (c ∷ cs) = MayStand (declared before) (is_closed before) c × AllStand (before ++ c ∷ []) cs
-
--- UTF-8 without a newline
-pub record IsRawText (text : List ℕ) : Type 0 where
-  pub utf8 : IsUtf8 text
-  pub single : ¬ Contains text newline
-
--- what the command has from its line, for a line of a log file
-abbrev pub HasTexts : Command → Type 0
-HasTexts (Describe r target text) = IsRawText text
-HasTexts (Group r target groups) = Each IsRawText groups
-HasTexts (Log r file line) = IsRawText line
-HasTexts _ = Unit {0}
-
--- the commands of a script
-pub record IsProgram (commands : List Command) : Type 0 where
-  pub stand : AllStand [] commands
-  pub texts : Each HasTexts commands
-  pub few : length (declared commands) ≤ most_repositories
-  pub in_time : waited commands ≤ most_time
+-- the answer, seen by view, tells the reading, unless memory ran out
+abbrev pub IsReading : {X : Type 0} → (X → List Command) → Result X ScriptFault → Reading → Type 0
+IsReading view (Ok x) says = says ≡ Commands (view x)
+IsReading view (Err fault) says = IsFault fault says

@@ -1,104 +1,67 @@
-//! The lines after which repositories and time are others.
-
-ghost use Rattle.std.specs.Prelude.{Bool, List, ◌≡◌, ◌≤◌, ◌∷◌, [], codes, length};
-ghost use Rattle.script_lang.specs.Lines.{Declared};
-ghost use Rattle.script_lang.specs.Reading.{Found, Finds, Means};
+//! The lines that turn, settle, merge, compact, sync and wait.
+ghost use Rattle.std.specs.Prelude.{◌≡◌};
+ghost use Rattle.script_lang.specs.Answers.{Gives};
+ghost use Rattle.script_lang.specs.Context.{Context};
+ghost use Rattle.script_lang.specs.Forms.{row};
+ghost use Rattle.script_lang.specs.declared.verb.Verb.TheVariants as verbs;
 
 use crate::command::Command;
-use crate::fields::{is_content_of, is_word, read_key, read_milliseconds, read_text};
-use crate::repository::{Repository, find_repository, find_two};
-use annex_base::{NoMemory, Text};
-use run_data::{Job, JobKind};
-use std::alloc::Global;
+use crate::context::Context;
+use crate::fault::LineFault;
+use crate::steps::{end, number, other, repo, turns};
+use script_words::Words;
 
-/// `have REPO KEY text:BYTES`
-pub fn read_have(
-    alloc: Global,
-    repos: &[Repository],
-    name: &[u8],
-    key: &[u8],
-    content: &[u8],
-) -> Result<Option<Command>, NoMemory>
-    requires { length repos.now ≤ 8 }
-    ensures { (closed : Bool) → Finds (λ c. c) (Means repos.now closed (codes "have" ∷ name.now ∷ key.now ∷ content.now ∷ [])) result }
+/// `turn REPO [N]`
+pub fn turn(context: &Context, words: &mut Words<'_>) -> Result<Command, LineFault>
+    ensures { Gives (λ c. c) result ((row verbs.Turn).1 context.now words.old) }
 {
-    let Some(repo) = find_repository(repos, name) else {
-        return Ok(None);
-    };
-    let Some(key) = read_key(alloc, key)? else {
-        return Ok(None);
-    };
-    let Some(content) = read_text(content) else {
-        return Ok(None);
-    };
-    if !is_content_of(&key, content) {
-        return Ok(None);
-    }
-    Ok(Some(Command::Have {
-        repo,
-        key,
-        content: Text::new(alloc, content)?,
-    }))
+    let repo = repo(context, words)?;
+    let turns = turns(words);
+    end(words)?;
+    Ok(Command::Turn { repo, turns })
 }
 
-/// `drop REPO KEY`
-pub fn read_drop(
-    alloc: Global,
-    repos: &[Repository],
-    name: &[u8],
-    key: &[u8],
-) -> Result<Option<Command>, NoMemory>
-    requires { length repos.now ≤ 8 }
-    ensures { (closed : Bool) → Finds (λ c. c) (Means repos.now closed (codes "drop" ∷ name.now ∷ key.now ∷ [])) result }
+/// `settle`
+pub fn settle(words: &mut Words<'_>) -> Result<Command, LineFault>
+    ensures { (context : Context) → Gives (λ c. c) result ((row verbs.Settle).1 context words.old) }
 {
-    let Some(repo) = find_repository(repos, name) else {
-        return Ok(None);
-    };
-    let Some(key) = read_key(alloc, key)? else {
-        return Ok(None);
-    };
-    Ok(Some(Command::Run {
-        repo,
-        job: Job {
-            kind: JobKind::Drop,
-            key,
-            path: None,
-            peer: None,
-        },
-    }))
+    end(words)?;
+    Ok(Command::Settle)
 }
 
 /// `merge REPO OTHER`
-pub fn read_merge(repos: &[Repository], name: &[u8], other: &[u8]) -> Option<Command>
-    requires { length repos.now ≤ 8 }
-    ensures { (closed : Bool) → Found (λ c. c) (Means repos.now closed (codes "merge" ∷ name.now ∷ other.now ∷ [])) result }
+pub fn merge(context: &Context, words: &mut Words<'_>) -> Result<Command, LineFault>
+    ensures { Gives (λ c. c) result ((row verbs.Merge).1 context.now words.old) }
 {
-    if is_word(name, other) {
-        return None;
-    }
-    let Some((repo, other)) = find_two(repos, name, other) else {
-        return None;
-    };
-    Some(Command::Merge { repo, other })
+    let repo = repo(context, words)?;
+    let other = other(context, repo, words)?;
+    end(words)?;
+    Ok(Command::Merge { repo, other })
 }
 
 /// `compact REPO`
-pub fn read_compact(repos: &[Repository], name: &[u8]) -> Option<Command>
-    requires { length repos.now ≤ 8 }
-    ensures { (closed : Bool) → Found (λ c. c) (Means repos.now closed (codes "compact" ∷ name.now ∷ [])) result }
+pub fn compact(context: &Context, words: &mut Words<'_>) -> Result<Command, LineFault>
+    ensures { Gives (λ c. c) result ((row verbs.Compact).1 context.now words.old) }
 {
-    let Some(repo) = find_repository(repos, name) else {
-        return None;
-    };
-    Some(Command::Compact { repo })
+    let repo = repo(context, words)?;
+    end(words)?;
+    Ok(Command::Compact { repo })
+}
+
+/// `sync REPO`
+pub fn sync(context: &Context, words: &mut Words<'_>) -> Result<Command, LineFault>
+    ensures { Gives (λ c. c) result ((row verbs.Sync).1 context.now words.old) }
+{
+    let repo = repo(context, words)?;
+    end(words)?;
+    Ok(Command::Sync { repo })
 }
 
 /// `wait MS`
-pub fn read_wait(milliseconds: &[u8]) -> Option<Command>
-    ensures { (repos : List Declared) (closed : Bool) → Found (λ c. c) (Means repos closed (codes "wait" ∷ milliseconds.now ∷ [])) result }
+pub fn wait(words: &mut Words<'_>) -> Result<Command, LineFault>
+    ensures { (context : Context) → Gives (λ c. c) result ((row verbs.Wait).1 context words.old) }
 {
-    let Some(milliseconds) = read_milliseconds(milliseconds) else {
-        return None;
-    };
-    Some(Command::Wait { milliseconds })
+    let milliseconds = number(u64::MAX, words)?;
+    end(words)?;
+    Ok(Command::Wait { milliseconds })
 }

@@ -1,18 +1,15 @@
-//! The law that a text has one reading.
+//! Laws on readings, which no call depends on.
+ghost use Rattle.std.specs.Prelude.{◌≡◌, ◌+◌, ◌++◌, ◌∷◌, List, ℕ, length, Ok, Err, None};
+ghost use Rattle.script_lang.specs.declared.fault.LineFault.{LineFault};
+ghost use Rattle.script_lang.specs.Laws.{behind_lines};
+ghost use Rattle.script_lang.specs.Script.{State, line_step, lines_reading, no_lines, fault_of, Commands};
 
-ghost use Rattle.std.specs.Prelude.{◌≡◌, List, ℕ};
-ghost use Rattle.script_lang.specs.declared.command.Command.{Command};
-ghost use Rattle.script_lang.specs.Script.{IsScript, IsBadLine, IsCrowded, IsLate};
+/// The first line that is wrong, or passes a limit, is told, whatever follows it.
+pub fn first_faults_are_told()
+    ensures { (before more : List (List ℕ)) (line : List ℕ) (state : State) (fault : LineFault) → behind_lines no_lines 1 before ≡ Ok state → line_step state (length before + 1) line ≡ Err fault → lines_reading no_lines 1 (before ++ line ∷ more) ≡ fault_of (length before + 1) fault }
+{}
 
-/// A text says at most one list of commands; it is a script, or its first bad line has one number, or it declares a
-/// repository too many, or it waits too long, and no two of these.
-pub fn scripts_have_one_reading()
-    ensures script { (text : List ℕ) (commands others : List Command) → IsScript text commands → IsScript text others → commands ≡ others }
-    ensures bad_line { (text : List ℕ) (number other : ℕ) → IsBadLine text number → IsBadLine text other → number ≡ other }
-    ensures script_or_bad { (text : List ℕ) (commands : List Command) (number : ℕ) → IsScript text commands → IsBadLine text number → ⊥ }
-    ensures script_or_crowded { (text : List ℕ) (commands : List Command) → IsScript text commands → IsCrowded text → ⊥ }
-    ensures bad_or_crowded { (text : List ℕ) (number : ℕ) → IsBadLine text number → IsCrowded text → ⊥ }
-    ensures script_or_late { (text : List ℕ) (commands : List Command) → IsScript text commands → IsLate text → ⊥ }
-    ensures bad_or_late { (text : List ℕ) (number : ℕ) → IsBadLine text number → IsLate text → ⊥ }
-    ensures crowded_or_late { (text : List ℕ) → IsCrowded text → IsLate text → ⊥ }
+/// Lines of which none is wrong or passes a limit, and which leave no block open, say their commands.
+pub fn right_lines_say_their_commands()
+    ensures { (lines : List (List ℕ)) (state : State) → behind_lines no_lines 1 lines ≡ Ok state → state.block ≡ None → lines_reading no_lines 1 lines ≡ Commands state.commands }
 {}

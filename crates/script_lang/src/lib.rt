@@ -2,40 +2,35 @@
 #![tactic(auto)]
 
 mod actions;
+mod changes;
 mod command;
-mod coverage;
-mod declare;
+mod contents;
+mod context;
+mod copying;
 mod fault;
-mod fields;
+mod forms;
+mod jobs;
 mod laws;
-mod lines;
-mod log_files;
-mod reader;
-mod repository;
+mod limits;
+mod rests;
 mod script;
 mod settings;
 mod shows;
+mod state;
+mod steps;
 mod verb;
-mod words;
+mod verify;
 
-pub use command::Command;
-pub use coverage::each_text_has_a_reading;
+use annex_base::crosses;
+pub use command::{BlockLine, BlockLines, Command, NamedKey};
 pub use fault::{Quantity, ScriptFault};
-pub use laws::scripts_have_one_reading;
+pub use laws::{first_faults_are_told, right_lines_say_their_commands};
 pub use script::Script;
-
-fn is_send<T: Send>() {}
-
-fn is_sync<T: Sync>() {}
 
 /// These types go from thread to thread.
 fn cross_threads() {
-    is_send::<Command>();
-    is_sync::<Command>();
-    is_send::<Script>();
-    is_sync::<Script>();
-    is_send::<ScriptFault>();
-    is_sync::<ScriptFault>();
-    is_send::<Quantity>();
-    is_sync::<Quantity>();
+    crosses::<Command>();
+    crosses::<Script>();
+    crosses::<ScriptFault>();
+    crosses::<Quantity>();
 }

@@ -1,15 +1,11 @@
-//! Scripts: a text as the list of its commands.
-
-ghost use Rattle.std.specs.Prelude.{◌≡◌, ◌⊎◌, List, ℕ, IfOk, MatchResult, map};
-ghost use Rattle.script_lang.specs.declared.command.Command.{Command};
-ghost use Rattle.script_lang.specs.declared.fault.ScriptFault.TheVariants as faults;
-ghost use Rattle.script_lang.specs.declared.fault.Quantity.TheVariants.{Repositories, Time};
-ghost use Rattle.script_lang.specs.Script.{IsScript, IsProgram, IsBadLine, IsCrowded, IsLate, lines_of};
-ghost use Rattle.script_lang.specs.Steps.{Faults};
+//! Whole scripts.
+ghost use Rattle.std.specs.Prelude.{◌≡◌, ◌<◌, ◌^◌, IfOk, IfErr, OnOk, Ok, map, length};
+ghost use Rattle.script_lang.specs.Script.{IsReading, IsFault, Reading, reading, lines_of, lines_reading, line_step, goes_on, ended_by, no_lines};
+ghost use Rattle.script_lang.specs.Script.{State as SpecState};
 
 use crate::command::Command;
-use crate::fault::ScriptFault;
-use crate::reader::read_lines;
+use crate::fault::{LineFault, ScriptFault};
+use crate::state::State;
 use std::alloc::{AllocError, Global};
 use std::marker::Model;
 
@@ -22,21 +18,10 @@ pub struct Script {
 impl Model for Script {
     ghost use Rattle.std.specs.Prelude.{List};
     ghost use Rattle.script_lang.specs.declared.command.Command.{Command};
-    ghost use Rattle.script_lang.specs.Script.{IsProgram};
 
     ghost Value = { List Command };
 
     ghost view = { λ s. s.commands.items };
-
-    ghost invariant = { λ s. IsProgram s.commands.items };
-}
-
-/// The commands of the text, or its first fault.
-fn read_commands(alloc: Global, bytes: &[u8]) -> Result<Vec<Command>, ScriptFault>
-    ensures { MatchResult result (λ v. IsScript bytes.now v.items) (λ e. Faults (lines_of bytes.now) e) }
-{
-    let lines = cut_lines(alloc, bytes)?;
-    read_lines(alloc, &lines)
 }
 
 fn cut_lines(alloc: Global, bytes: &[u8]) -> Result<Vec<&[u8]>, AllocError>
@@ -45,30 +30,55 @@ fn cut_lines(alloc: Global, bytes: &[u8]) -> Result<Vec<&[u8]>, AllocError>
     bytes.split(|b| *b == b'\n').collect(alloc)
 }
 
-impl Script {
-    /// The script that the text spells, all of the text. `BadLine` has the number of the first bad line, from 1, and
-    /// byte 0; it comes before `TooMuch` where both stand on one line.
-    pub fn parse(alloc: Global, bytes: &[u8]) -> Result<Script, ScriptFault>
-        ensures ok { IfOk result (λ s. IsScript bytes.now s) }
-        ensures program { IfOk result (λ s. IsProgram s) }
-        ensures bad { (line byte : ℕ) → result ≡ Err (faults.BadLine line byte) → (byte ≡ 0) × IsBadLine bytes.now line }
-        ensures crowded { result ≡ Err (faults.TooMuch Repositories) → IsCrowded bytes.now }
-        ensures late { result ≡ Err (faults.TooMuch Time) → IsLate bytes.now }
+/// The line of this number, with its fault as that of a script.
+fn take_line(state: &mut State, alloc: Global, number: u64, line: &[u8]) -> Result<(), ScriptFault>
+    ensures ok { OnOk result (line_step state.old number line.now ≡ Ok state.new) }
+    ensures err { IfErr result (λ e. (others : SpecState → Reading) → IsFault e (goes_on number (line_step state.old number line.now) others)) }
+{
+    match state.take_line(alloc, number, line) {
+        Ok(()) => Ok(()),
+        Err(LineFault::Wrong { byte }) => Err(ScriptFault::BadLine { line: number, byte }),
+        Err(LineFault::Past { quantity }) => Err(ScriptFault::TooMuch { quantity }),
+        Err(LineFault::NoMemory) => Err(ScriptFault::NoMemory),
+    }
+}
 
-        // Each answer comes wherever it may, unless memory runs out.
-        ensures ok_only { (commands : List Command) → IsScript bytes.now commands → MatchResult result (λ s. s ≡ commands) (λ e. e ≡ faults.NoMemory) }
-        ensures bad_only { (line : ℕ) → IsBadLine bytes.now line → MatchResult result (λ s. ⊥) (λ e. (e ≡ faults.BadLine line 0) ⊎ (e ≡ faults.NoMemory)) }
-        ensures crowded_only { IsCrowded bytes.now → MatchResult result (λ s. ⊥) (λ e. (e ≡ faults.TooMuch Repositories) ⊎ (e ≡ faults.NoMemory)) }
-        ensures late_only { IsLate bytes.now → MatchResult result (λ s. ⊥) (λ e. (e ≡ faults.TooMuch Time) ⊎ (e ≡ faults.NoMemory)) }
+/// The commands, if no block is left open.
+fn finish(state: State) -> Result<Vec<Command>, ScriptFault>
+    ensures { IsReading (λ v. v.items) result (ended_by state.commands state.block) }
+{
+    match state.finish() {
+        Ok(commands) => Ok(commands),
+        Err(line) => Err(ScriptFault::BadLine { line, byte: 0 }),
+    }
+}
+
+/// What the lines say.
+fn read_lines(alloc: Global, lines: &[&[u8]]) -> Result<Vec<Command>, ScriptFault>
+    requires { length lines.now < 2 ^ 63 }
+    ensures { IsReading (λ v. v.items) result (lines_reading no_lines 1 (map (λ w. w.now) lines.now)) }
+{
+    let mut state = State::new(alloc)?;
+    for (i, line) in lines.iter().enumerate() {
+        take_line(&mut state, alloc, i as u64 + 1, line)?;
+    }
+    finish(state)
+}
+
+impl Script {
+    /// The script that the text spells, all of the text, or its first fault or the first limit that it passes.
+    #[tactic(auto, unfolding(crate::specs::Script::reading))]
+    pub fn parse(alloc: Global, bytes: &[u8]) -> Result<Script, ScriptFault>
+        ensures { IsReading (λ s. s) result (reading bytes.now) }
     {
-        let commands = read_commands(alloc, bytes)?;
+        let lines = cut_lines(alloc, bytes)?;
+        let commands = read_lines(alloc, &lines)?;
         Ok(Script { commands })
     }
 
     /// The commands in the order of their lines.
     pub fn lines(&self) -> &[Command]
-        ensures same { result.now ≡ self.now }
-        ensures program { IsProgram self.now }
+        ensures { result.now ≡ self.now }
     {
         &self.commands
     }

@@ -1,162 +1,218 @@
-//! The lines that set what the branch of a repository says.
-
-ghost use Rattle.std.specs.Prelude.{Bool, ◌≡◌, ◌≤◌, ◌∷◌, [], codes, length, map, true, IfOk};
-ghost use Rattle.std.specs.List.{list_all};
-ghost use Rattle.log_lines.specs.LineText.{is_group, is_group_byte};
-ghost use Rattle.script_lang.specs.Lines.{longest_text};
-ghost use Rattle.script_lang.specs.Reading.{Found, Finds, Means, Opens};
+//! The lines that declare repositories and set what their branches say.
+ghost use Rattle.std.specs.Prelude.{◌≡◌};
+ghost use Rattle.script_lang.specs.Answers.{Gives};
+ghost use Rattle.script_lang.specs.Forms.{row};
+ghost use Rattle.script_lang.specs.declared.verb.Verb.TheVariants as verbs;
 
 use crate::command::Command;
-use crate::fields::{read_level, read_number};
-use crate::repository::{Repository, find_repository, find_two};
-use crate::words::{raw_text, split_words};
-use annex_base::{NoMemory, Text};
-use log_lines::GroupList;
+use crate::context::Context;
+use crate::fault::LineFault;
+use crate::rests::{full_rest, glob, groups, rest, short, text};
+use crate::steps::{
+    end, group, level, locks, log_file, new_id, new_name, number, offset, repo, version,
+};
+use script_words::Words;
 use std::alloc::Global;
 
-const LONGEST_TEXT: usize = 4096;
+/// The greatest number of copies.
+const GREATEST_NUMBER: u64 = 999_999_999;
+
+/// `repo NAME UUID [offset=MS] [version=V] [nolock]`
+pub fn declare(
+    alloc: Global,
+    context: &Context,
+    words: &mut Words<'_>,
+) -> Result<Command, LineFault>
+    ensures { Gives (λ c. c) result ((row verbs.Repo).1 context.now words.old) }
+{
+    if context.closed {
+        return Err(LineFault::Wrong { byte: 0 });
+    }
+    let name = new_name(alloc, context, words)?;
+    let id = new_id(context, words)?;
+    let offset = offset(words);
+    let version = version(words);
+    let locks = locks(words);
+    end(words)?;
+    Ok(Command::Repo {
+        name,
+        id,
+        offset,
+        version,
+        locks,
+    })
+}
 
 /// `numcopies REPO N`
-pub fn read_numcopies(repos: &[Repository], name: &[u8], number: &[u8]) -> Option<Command>
-    requires { length repos.now ≤ 8 }
-    ensures { (closed : Bool) → Found (λ c. c) (Means repos.now closed (codes "numcopies" ∷ name.now ∷ number.now ∷ [])) result }
+pub fn numcopies(context: &Context, words: &mut Words<'_>) -> Result<Command, LineFault>
+    ensures { Gives (λ c. c) result ((row verbs.Numcopies).1 context.now words.old) }
 {
-    let Some(repo) = find_repository(repos, name) else {
-        return None;
-    };
-    let Some(number) = read_number(number) else {
-        return None;
-    };
-    Some(Command::Numcopies { repo, number })
+    let repo = repo(context, words)?;
+    let number = number(GREATEST_NUMBER, words)?;
+    end(words)?;
+    Ok(Command::Numcopies {
+        repo,
+        number: number as u32,
+    })
 }
 
 /// `mincopies REPO N`
-pub fn read_mincopies(repos: &[Repository], name: &[u8], number: &[u8]) -> Option<Command>
-    requires { length repos.now ≤ 8 }
-    ensures { (closed : Bool) → Found (λ c. c) (Means repos.now closed (codes "mincopies" ∷ name.now ∷ number.now ∷ [])) result }
+pub fn mincopies(context: &Context, words: &mut Words<'_>) -> Result<Command, LineFault>
+    ensures { Gives (λ c. c) result ((row verbs.Mincopies).1 context.now words.old) }
 {
-    let Some(repo) = find_repository(repos, name) else {
-        return None;
-    };
-    let Some(number) = read_number(number) else {
-        return None;
-    };
-    Some(Command::Mincopies { repo, number })
+    let repo = repo(context, words)?;
+    let number = number(GREATEST_NUMBER, words)?;
+    end(words)?;
+    Ok(Command::Mincopies {
+        repo,
+        number: number as u32,
+    })
+}
+
+/// `numcopiesfor REPO N REST`
+pub fn numcopies_for(
+    alloc: Global,
+    context: &Context,
+    words: &mut Words<'_>,
+) -> Result<Command, LineFault>
+    ensures { Gives (λ c. c) result ((row verbs.NumcopiesFor).1 context.now words.old) }
+{
+    let repo = repo(context, words)?;
+    let number = number(GREATEST_NUMBER, words)?;
+    let glob = glob(alloc, words)?;
+    Ok(Command::NumcopiesFor {
+        repo,
+        number: number as u32,
+        glob,
+    })
+}
+
+/// `mincopiesfor REPO N REST`
+pub fn mincopies_for(
+    alloc: Global,
+    context: &Context,
+    words: &mut Words<'_>,
+) -> Result<Command, LineFault>
+    ensures { Gives (λ c. c) result ((row verbs.MincopiesFor).1 context.now words.old) }
+{
+    let repo = repo(context, words)?;
+    let number = number(GREATEST_NUMBER, words)?;
+    let glob = glob(alloc, words)?;
+    Ok(Command::MincopiesFor {
+        repo,
+        number: number as u32,
+        glob,
+    })
 }
 
 /// `trust REPO TARGET LEVEL`
-pub fn read_trust(repos: &[Repository], name: &[u8], target: &[u8], level: &[u8]) -> Option<Command>
-    requires { length repos.now ≤ 8 }
-    ensures { (closed : Bool) → Found (λ c. c) (Means repos.now closed (codes "trust" ∷ name.now ∷ target.now ∷ level.now ∷ [])) result }
+pub fn trust(context: &Context, words: &mut Words<'_>) -> Result<Command, LineFault>
+    ensures { Gives (λ c. c) result ((row verbs.Trust).1 context.now words.old) }
 {
-    let Some((repo, target)) = find_two(repos, name, target) else {
-        return None;
-    };
-    let Some(level) = read_level(level) else {
-        return None;
-    };
-    Some(Command::Trust {
-        repo,
+    let first = repo(context, words)?;
+    let target = repo(context, words)?;
+    let level = level(words)?;
+    end(words)?;
+    Ok(Command::Trust {
+        repo: first,
         target,
         level,
     })
 }
 
-/// `describe REPO TARGET REST`, up to TARGET and after it.
-pub fn read_describe(
+/// `describe REPO TARGET REST`
+pub fn describe(
     alloc: Global,
-    repos: &[Repository],
-    name: &[u8],
-    target: &[u8],
-    after: &[u8],
-) -> Result<Option<Command>, NoMemory>
-    requires { length repos.now ≤ 8 }
-    ensures { (closed : Bool) → Finds (λ c. c) (Opens repos.now closed (codes "describe" ∷ name.now ∷ target.now ∷ []) after.now) result }
+    context: &Context,
+    words: &mut Words<'_>,
+) -> Result<Command, LineFault>
+    ensures { Gives (λ c. c) result ((row verbs.Describe).1 context.now words.old) }
 {
-    let Some((repo, target)) = find_two(repos, name, target) else {
-        return Ok(None);
-    };
-    let Some(text) = raw_text(after) else {
-        return Ok(None);
-    };
-    if text.len() > LONGEST_TEXT {
-        return Ok(None);
-    }
-    Ok(Some(Command::Describe {
-        repo,
+    let first = repo(context, words)?;
+    let target = repo(context, words)?;
+    let text = text(alloc, words)?;
+    Ok(Command::Describe {
+        repo: first,
         target,
-        text: Text::new(alloc, text)?,
-    }))
+        text,
+    })
 }
 
-fn all_group_bytes(word: &[u8]) -> bool
-    ensures { result ≡ list_all is_group_byte word.now }
+/// `wanted REPO TARGET REST`
+pub fn wanted(alloc: Global, context: &Context, words: &mut Words<'_>) -> Result<Command, LineFault>
+    ensures { Gives (λ c. c) result ((row verbs.Wanted).1 context.now words.old) }
 {
-    word.iter().all(|b| !b.is_ascii_control() && *b != b' ')
+    let first = repo(context, words)?;
+    let target = repo(context, words)?;
+    let text = text(alloc, words)?;
+    Ok(Command::Wanted {
+        repo: first,
+        target,
+        text,
+    })
 }
 
-fn is_group_word(word: &[u8]) -> bool
-    ensures { result ≡ is_group word.now }
-{
-    match word {
-        [] => false,
-        _ => all_group_bytes(word),
-    }
-}
-
-fn are_groups(words: &[&[u8]]) -> bool
-    ensures { result ≡ list_all (λ w. is_group w.now) words.now }
-{
-    words.iter().all(|word| is_group_word(word))
-}
-
-fn group_list(alloc: Global, words: &[&[u8]]) -> Result<GroupList, NoMemory>
-    ensures { IfOk result (λ groups. groups ≡ map (λ w. w.now) words.now) }
-{
-    let mut groups = GroupList::new(alloc);
-    for word in words {
-        groups.push(Text::new(alloc, word)?)?;
-    }
-    Ok(groups)
-}
-
-/// The groups that the words are.
-fn read_groups(alloc: Global, words: &[&[u8]]) -> Result<Option<GroupList>, NoMemory>
-    ensures { Finds (λ g. g) (λ g. (g ≡ map (λ w. w.now) words.now) × (list_all is_group g ≡ true)) result }
-{
-    if are_groups(words) {
-        Ok(Some(group_list(alloc, words)?))
-    } else {
-        Ok(None)
-    }
-}
-
-/// `group REPO TARGET [GROUP ..]`, up to TARGET and after it.
-pub fn read_group(
+/// `required REPO TARGET REST`
+pub fn required(
     alloc: Global,
-    repos: &[Repository],
-    name: &[u8],
-    target: &[u8],
-    after: &[u8],
-) -> Result<Option<Command>, NoMemory>
-    requires { length repos.now ≤ 8 }
-    ensures { (closed : Bool) → Finds (λ c. c) (Opens repos.now closed (codes "group" ∷ name.now ∷ target.now ∷ []) after.now) result }
+    context: &Context,
+    words: &mut Words<'_>,
+) -> Result<Command, LineFault>
+    ensures { Gives (λ c. c) result ((row verbs.Required).1 context.now words.old) }
 {
-    let Some((repo, target)) = find_two(repos, name, target) else {
-        return Ok(None);
-    };
-    if after.len() > LONGEST_TEXT + 1 {
-        return Ok(None);
-    }
-    let Some(words) = split_words(alloc, after)? else {
-        return Ok(None);
-    };
-    let Some(groups) = read_groups(alloc, &words)? else {
-        return Ok(None);
-    };
-    Ok(Some(Command::Group {
-        repo,
+    let first = repo(context, words)?;
+    let target = repo(context, words)?;
+    let text = text(alloc, words)?;
+    Ok(Command::Required {
+        repo: first,
+        target,
+        text,
+    })
+}
+
+/// `group REPO TARGET [GROUP ..]`
+pub fn set_groups(
+    alloc: Global,
+    context: &Context,
+    words: &mut Words<'_>,
+) -> Result<Command, LineFault>
+    ensures { Gives (λ c. c) result ((row verbs.Group).1 context.now words.old) }
+{
+    let first = repo(context, words)?;
+    let target = repo(context, words)?;
+    let groups = groups(alloc, words)?;
+    Ok(Command::Group {
+        repo: first,
         target,
         groups,
-    }))
+    })
+}
+
+/// `groupwanted REPO GROUP REST`
+pub fn group_wanted(
+    alloc: Global,
+    context: &Context,
+    words: &mut Words<'_>,
+) -> Result<Command, LineFault>
+    ensures { Gives (λ c. c) result ((row verbs.GroupWanted).1 context.now words.old) }
+{
+    let repo = repo(context, words)?;
+    short(words)?;
+    let group = group(alloc, words)?;
+    let text = rest(alloc, words)?;
+    Ok(Command::GroupWanted { repo, group, text })
+}
+
+/// `log REPO location KEY REST` or `log REPO FILE REST`
+pub fn raw_log(
+    alloc: Global,
+    context: &Context,
+    words: &mut Words<'_>,
+) -> Result<Command, LineFault>
+    ensures { Gives (λ c. c) result ((row verbs.Log).1 context.now words.old) }
+{
+    let repo = repo(context, words)?;
+    let file = log_file(alloc, context, words)?;
+    let line = full_rest(alloc, words)?;
+    Ok(Command::Log { repo, file, line })
 }

@@ -1,127 +1,247 @@
-//! The words that say what a line is.
-
+//! The words that tell the form of a line.
 ghost use Rattle.std.specs.Prelude.{◌≡◌};
-ghost use Rattle.script_lang.specs.Reading.{Found};
-ghost use Rattle.script_lang.specs.Verbs.{pair_word, triple_word, quadruple_word, rest_word, triple_show_word, quadruple_show_word};
+ghost use Rattle.script_lang.specs.Forms.{row, block_row, job_row, show_row, verb_named, job_named, show_named, line_named};
 
-/// The word that begins a line of two words.
+use script_words::is_word;
+
+/// What a line begins with.
 #[derive(Clone, Copy, Debug, PartialEq, Eq)]
-pub enum PairVerb {
-    Compact,
-    Wait,
+pub enum LineVerb {
+    /// `par`
+    Par,
+    /// `end`
+    End,
+    Says(Verb),
 }
 
-/// The word that begins a line of three words.
+/// The form of a line that neither begins nor ends a block.
 #[derive(Clone, Copy, Debug, PartialEq, Eq)]
-pub enum TripleVerb {
+pub enum Verb {
     Repo,
     Numcopies,
     Mincopies,
-    Drop,
-    Merge,
-    Show,
-}
-
-/// The word that begins a line of four words.
-#[derive(Clone, Copy, Debug, PartialEq, Eq)]
-pub enum QuadrupleVerb {
-    Repo,
-    Have,
+    NumcopiesFor,
+    MincopiesFor,
     Trust,
+    Describe,
+    Wanted,
+    Required,
+    Group,
+    GroupWanted,
+    Log,
+    Have,
+    Part,
+    Damage,
+    Add,
+    File,
+    InBlock(BlockVerb),
+    Begin,
+    Turn,
+    Settle,
+    Merge,
+    Compact,
+    Sync,
+    Wait,
     Show,
 }
 
-/// The word that begins a line which isn't read as words to its end.
+/// The form of a line that may stand in a block.
 #[derive(Clone, Copy, Debug, PartialEq, Eq)]
-pub enum RestVerb {
-    Describe,
-    Group,
-    Log,
+pub enum BlockVerb {
+    Job(JobVerb),
+    Crash,
+    Close,
+    Fail,
 }
 
-/// What a `show` line of three words shows.
+/// The form of a job.
 #[derive(Clone, Copy, Debug, PartialEq, Eq)]
-pub enum TripleShow {
+pub enum JobVerb {
+    Drop,
+    Get,
+    Copy,
+    Move,
+}
+
+/// What a line shows.
+#[derive(Clone, Copy, Debug, PartialEq, Eq)]
+pub enum Show {
     Presence,
-    Logs,
-    Numbers,
-}
-
-/// What a `show` line of four words shows.
-#[derive(Clone, Copy, Debug, PartialEq, Eq)]
-pub enum QuadrupleShow {
     Claims,
     Location,
     Log,
+    Logs,
+    Numbers,
     Level,
+    Wants,
+    Row,
+    Plan,
+    Totals,
+    Journal,
 }
 
-pub fn pair_verb_of(word: &[u8]) -> Option<PairVerb>
-    ensures { Found (λ v. v) (λ v. word.now ≡ pair_word v) result }
-{
-    match word {
-        b"compact" => Some(PairVerb::Compact),
-        b"wait" => Some(PairVerb::Wait),
-        _ => None,
+const VERBS: [Verb; 32] = [
+    Verb::Repo,
+    Verb::Numcopies,
+    Verb::Mincopies,
+    Verb::NumcopiesFor,
+    Verb::MincopiesFor,
+    Verb::Trust,
+    Verb::Describe,
+    Verb::Wanted,
+    Verb::Required,
+    Verb::Group,
+    Verb::GroupWanted,
+    Verb::Log,
+    Verb::Have,
+    Verb::Part,
+    Verb::Damage,
+    Verb::Add,
+    Verb::File,
+    Verb::InBlock(BlockVerb::Job(JobVerb::Drop)),
+    Verb::InBlock(BlockVerb::Job(JobVerb::Get)),
+    Verb::InBlock(BlockVerb::Job(JobVerb::Copy)),
+    Verb::InBlock(BlockVerb::Job(JobVerb::Move)),
+    Verb::InBlock(BlockVerb::Crash),
+    Verb::InBlock(BlockVerb::Close),
+    Verb::InBlock(BlockVerb::Fail),
+    Verb::Begin,
+    Verb::Turn,
+    Verb::Settle,
+    Verb::Merge,
+    Verb::Compact,
+    Verb::Sync,
+    Verb::Wait,
+    Verb::Show,
+];
+
+const JOBS: [JobVerb; 4] = [JobVerb::Drop, JobVerb::Get, JobVerb::Copy, JobVerb::Move];
+
+const SHOWS: [Show; 12] = [
+    Show::Presence,
+    Show::Claims,
+    Show::Location,
+    Show::Log,
+    Show::Logs,
+    Show::Numbers,
+    Show::Level,
+    Show::Wants,
+    Show::Row,
+    Show::Plan,
+    Show::Totals,
+    Show::Journal,
+];
+
+impl JobVerb {
+    fn word(self) -> &'static [u8]
+        ensures { result.now ≡ (job_row self).0 }
+    {
+        match self {
+            JobVerb::Drop => b"drop",
+            JobVerb::Get => b"get",
+            JobVerb::Copy => b"copy",
+            JobVerb::Move => b"move",
+        }
+    }
+
+    pub fn named(word: &[u8]) -> Option<JobVerb>
+        ensures { result ≡ job_named word.now }
+    {
+        JOBS.iter().copied().find(|verb| verb.word() == word)
     }
 }
 
-pub fn triple_verb_of(word: &[u8]) -> Option<TripleVerb>
-    ensures { Found (λ v. v) (λ v. word.now ≡ triple_word v) result }
-{
-    match word {
-        b"repo" => Some(TripleVerb::Repo),
-        b"numcopies" => Some(TripleVerb::Numcopies),
-        b"mincopies" => Some(TripleVerb::Mincopies),
-        b"drop" => Some(TripleVerb::Drop),
-        b"merge" => Some(TripleVerb::Merge),
-        b"show" => Some(TripleVerb::Show),
-        _ => None,
+impl BlockVerb {
+    fn word(self) -> &'static [u8]
+        ensures { result.now ≡ (block_row self).0 }
+    {
+        match self {
+            BlockVerb::Job(verb) => verb.word(),
+            BlockVerb::Crash => b"crash",
+            BlockVerb::Close => b"close",
+            BlockVerb::Fail => b"fail",
+        }
     }
 }
 
-pub fn quadruple_verb_of(word: &[u8]) -> Option<QuadrupleVerb>
-    ensures { Found (λ v. v) (λ v. word.now ≡ quadruple_word v) result }
-{
-    match word {
-        b"repo" => Some(QuadrupleVerb::Repo),
-        b"have" => Some(QuadrupleVerb::Have),
-        b"trust" => Some(QuadrupleVerb::Trust),
-        b"show" => Some(QuadrupleVerb::Show),
-        _ => None,
+impl Show {
+    fn word(self) -> &'static [u8]
+        ensures { result.now ≡ (show_row self).0 }
+    {
+        match self {
+            Show::Presence => b"presence",
+            Show::Claims => b"claims",
+            Show::Location => b"location",
+            Show::Log => b"log",
+            Show::Logs => b"logs",
+            Show::Numbers => b"numbers",
+            Show::Level => b"level",
+            Show::Wants => b"wants",
+            Show::Row => b"row",
+            Show::Plan => b"plan",
+            Show::Totals => b"totals",
+            Show::Journal => b"journal",
+        }
+    }
+
+    pub fn named(word: &[u8]) -> Option<Show>
+        ensures { result ≡ show_named word.now }
+    {
+        SHOWS.iter().copied().find(|show| show.word() == word)
     }
 }
 
-pub fn rest_verb_of(word: &[u8]) -> Option<RestVerb>
-    ensures { Found (λ v. v) (λ v. word.now ≡ rest_word v) result }
-{
-    match word {
-        b"describe" => Some(RestVerb::Describe),
-        b"group" => Some(RestVerb::Group),
-        b"log" => Some(RestVerb::Log),
-        _ => None,
+impl Verb {
+    fn word(self) -> &'static [u8]
+        ensures { result.now ≡ (row self).0 }
+    {
+        match self {
+            Verb::Repo => b"repo",
+            Verb::Numcopies => b"numcopies",
+            Verb::Mincopies => b"mincopies",
+            Verb::NumcopiesFor => b"numcopiesfor",
+            Verb::MincopiesFor => b"mincopiesfor",
+            Verb::Trust => b"trust",
+            Verb::Describe => b"describe",
+            Verb::Wanted => b"wanted",
+            Verb::Required => b"required",
+            Verb::Group => b"group",
+            Verb::GroupWanted => b"groupwanted",
+            Verb::Log => b"log",
+            Verb::Have => b"have",
+            Verb::Part => b"part",
+            Verb::Damage => b"damage",
+            Verb::Add => b"add",
+            Verb::File => b"file",
+            Verb::InBlock(verb) => verb.word(),
+            Verb::Begin => b"begin",
+            Verb::Turn => b"turn",
+            Verb::Settle => b"settle",
+            Verb::Merge => b"merge",
+            Verb::Compact => b"compact",
+            Verb::Sync => b"sync",
+            Verb::Wait => b"wait",
+            Verb::Show => b"show",
+        }
+    }
+
+    fn named(word: &[u8]) -> Option<Verb>
+        ensures { result ≡ verb_named word.now }
+    {
+        VERBS.iter().copied().find(|verb| verb.word() == word)
     }
 }
 
-pub fn triple_show_of(word: &[u8]) -> Option<TripleShow>
-    ensures { Found (λ v. v) (λ v. word.now ≡ triple_show_word v) result }
-{
-    match word {
-        b"presence" => Some(TripleShow::Presence),
-        b"logs" => Some(TripleShow::Logs),
-        b"numbers" => Some(TripleShow::Numbers),
-        _ => None,
-    }
-}
-
-pub fn quadruple_show_of(word: &[u8]) -> Option<QuadrupleShow>
-    ensures { Found (λ v. v) (λ v. word.now ≡ quadruple_show_word v) result }
-{
-    match word {
-        b"claims" => Some(QuadrupleShow::Claims),
-        b"location" => Some(QuadrupleShow::Location),
-        b"log" => Some(QuadrupleShow::Log),
-        b"level" => Some(QuadrupleShow::Level),
-        _ => None,
+impl LineVerb {
+    pub fn named(word: &[u8]) -> Option<LineVerb>
+        ensures { result ≡ line_named word.now }
+    {
+        if is_word(word, b"par") {
+            return Some(LineVerb::Par);
+        }
+        if is_word(word, b"end") {
+            return Some(LineVerb::End);
+        }
+        Some(LineVerb::Says(Verb::named(word)?))
     }
 }

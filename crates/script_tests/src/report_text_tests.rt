@@ -14,7 +14,7 @@ use run_data::{
     By, CandidateCause, Cause, Denial, DropRefusal, Entry, EntryKind, Job, JobKind, LogFile,
     Outcome, Proof, RepoView, Run, SourceCause, SourceFailure, TransferRefusal,
 };
-use script_lang::Command;
+use thin_script::Command;
 use std::alloc::Global;
 use std::test::Fail;
 use union_merge::is_line;

@@ -1,0 +1,6 @@
+pub mod Words
+pub mod Lines
+pub mod Script
+pub mod Verbs
+pub mod Reading
+pub mod Steps
