@@ -1,0 +1,3 @@
+mod BlockerLemmas
+mod IndexedLemmas
+mod NumberedLemmas

@@ -1,0 +1,4 @@
+pub mod Blocking
+pub mod Indexed
+pub mod Rows
+pub mod Tokens
