@@ -1,5 +1,5 @@
 -- How holds by number and the numbers of each key belong together; for private contracts.
-use Rattle.std.specs.Prelude.{◌≡◌, ◌<◌, ℕ, Bool, false, not, ◌||◌, nat_lt, if◌then◌else◌, List, [], ◌∷◌, filter, map, Option, Some, None, bytes_eq}
+use Rattle.std.specs.Prelude.{◌≡◌, ◌<◌, ℕ, Bool, true, false, not, ◌||◌, nat_lt, if◌then◌else◌, List, [], ◌∷◌, filter, map, reverse, Option, Some, None, bytes_eq}
 use Rattle.std.specs.Map.{values_of, lookup}
 use Rattle.std.specs.BTreeMap.{is_at}
 use Rattle.std.specs.Ordering.{nat_cmp}
@@ -8,6 +8,9 @@ use Rattle.std.specs.declared.vec.Vec.{Vec}
 use Rattle.annex_base.specs.Lists.{Each}
 use Rattle.run_data.specs.declared.row.Hold.{Hold}
 use Rattle.node_model.specs.Rows.{blocks}
+use Rattle.object_store.specs.declared.keeper.HoldRecord.{HoldRecord}
+use Rattle.object_store.specs.Stores as stores
+use Rattle.content_lock.specs.Stored.{kept_hold}
 use Rattle.content_lock.specs.declared.hold.Blocker.{Blocker}
 
 -- holds in rising order of their numbers, and in falling order
@@ -39,6 +42,13 @@ pub record IsIndexed (holds : List (ℕ × Hold)) (lists : List (List ℕ × Vec
   pub named : holds ≡ map numbered (values_of holds)
   pub rising : AreRising (values_of holds)
   pub listed : (key : List ℕ) → listed_at lists key ≡ map (λ h. h.number) (on_key key (values_of holds))
+
+-- the map has the kept holds of the records, of each number the last; where the records stand in falling order, these are all
+pub record IsRecovered (clock : ℕ) (records : List HoldRecord) (holds : List (ℕ × Hold)) : Type 0 where
+  pub named : holds ≡ map numbered (values_of holds)
+  pub rising : AreRising (values_of holds)
+  pub kept : Each (λ h. h.kept ≡ true) (values_of holds)
+  pub same : stores.AreFalling records → reverse (values_of holds) ≡ map (kept_hold clock) records
 
 -- when the hold ends: an open one without an end
 abbrev pub end_of : Hold → Option ℕ

@@ -3,10 +3,11 @@ ghost use Rattle.std.specs.Prelude.{◌≡◌, ◌+◌, ◌<◌, ◌^◌};
 ghost use Rattle.std.specs.Option.{option_copied};
 ghost use Rattle.node_model.specs.Rows.{blocks, restart};
 ghost use Rattle.content_lock.specs.Indexed.{after_hold, blocker_with, end_of, outlasts};
-ghost use Rattle.content_lock.specs.Tokens.{keep_numbered};
+ghost use Rattle.content_lock.specs.Stored.{kept_hold};
 
 use annex_key::Key;
-use run_data::Hold;
+use object_store::HoldRecord;
+use run_data::{By, Hold};
 
 /// How long a hold lasts, in milliseconds: ten minutes.
 pub const HOLD_TIME: u64 = 600_000;
@@ -77,4 +78,23 @@ pub(crate) fn restart(hold: &mut Hold, now: u64)
 {
     hold.kept = true;
     hold.end = now + HOLD_TIME;
+}
+
+/// The hold that a crash leaves of a record. It is nobody's.
+pub(crate) fn kept_hold(stored: HoldRecord, now: u64) -> Hold
+    requires { now + 600000 < 2 ^ 62 }
+    ensures { result ≡ kept_hold now stored }
+{
+    let HoldRecord {
+        number,
+        key,
+        end: _,
+    } = stored;
+    Hold {
+        number,
+        key,
+        end: now + HOLD_TIME,
+        kept: true,
+        owner: By::Script,
+    }
 }

@@ -1,16 +1,20 @@
 //! The holds of a repository in order of their numbers, and the numbers of those on each key.
-ghost use Rattle.std.specs.Prelude.{◌≡◌, ◌+◌, ◌<◌, ◌^◌, ◌==◌, not, if◌then◌else◌, true, false, [], ◌∷◌, ◌++◌, List, ℕ, None, Some, All, filter, fold, map, reverse, OnOk, OnErr, IfSome, IfNone, bytes_eq};
+ghost use Rattle.std.specs.Prelude.{◌≡◌, ◌+◌, ◌<◌, ◌^◌, ◌==◌, not, if◌then◌else◌, true, false, [], ◌∷◌, ◌++◌, List, ℕ, None, Some, All, filter, fold, map, reverse, IfOk, OnOk, OnErr, IfSome, IfNone, bytes_eq};
 ghost use Rattle.std.specs.Map.{values_of};
 ghost use Rattle.node_model.specs.Rows.{blocks, is_blocked, restart};
 ghost use Rattle.node_model.specs.DropStep.{until};
-ghost use Rattle.content_lock.specs.Indexed.{AreFalling, AreRising, IsIndexed, listed_at, numbered, after_hold, hold_at};
+ghost use Rattle.content_lock.specs.Indexed.{AreFalling, AreRising, IsIndexed, IsRecovered, listed_at, on_key, numbered, after_hold, hold_at};
+ghost use Rattle.annex_base.specs.Lists.{Each};
+ghost use Rattle.object_store.specs.Stores as stores;
 ghost use Rattle.content_lock.specs.Blocking.{Names};
+ghost use Rattle.content_lock.specs.Stored.{kept_hold};
 ghost use Rattle.content_lock.specs.Tokens.{keep_numbered, others_of};
 
-use crate::hold::{Blocker, named_after, restart};
+use crate::hold::{Blocker, kept_hold, named_after, restart};
 use annex_base::NoMemory;
 use annex_key::Key;
 use indexmap::IndexMap;
+use object_store::HoldRecord;
 use run_data::Hold;
 use std::alloc::Global;
 use std::collections::BTreeMap;
@@ -47,6 +51,25 @@ impl Holds {
             by_number: BTreeMap::new(alloc),
             numbers: IndexMap::new(alloc),
         }
+    }
+
+    /// What a crash leaves of these records: each is a kept hold, whose ten minutes begin with a clock that is set to this.
+    pub(crate) fn recover(
+        alloc: Global,
+        records: Vec<HoldRecord>,
+        now: u64,
+    ) -> Result<Holds, NoMemory>
+        requires { now + 600000 < 2 ^ 62 }
+        ensures kept { IfOk result (Each (λ h. h.kept ≡ true)) }
+        ensures same { IfOk result (λ hs. stores.AreFalling records.items → hs ≡ map (kept_hold now) records.items) }
+    {
+        let by_number = recovered(alloc, records, now)?;
+        let numbers = index_of(alloc, &by_number)?;
+        Ok(Holds {
+            alloc,
+            by_number,
+            numbers,
+        })
     }
 
     /// Adds a hold of a greater number than each.
@@ -91,6 +114,36 @@ impl Holds {
             None => None,
         }
     }
+}
+
+/// The kept holds of the records, by number.
+fn recovered(
+    alloc: Global,
+    records: Vec<HoldRecord>,
+    now: u64,
+) -> Result<BTreeMap<u64, Hold>, NoMemory>
+    requires { now + 600000 < 2 ^ 62 }
+    ensures { IfOk result (λ m. IsRecovered now records.items m.entries) }
+{
+    let mut by_number = BTreeMap::new(alloc);
+    for stored in records {
+        by_number.insert(stored.number, kept_hold(stored, now))?;
+    }
+    Ok(by_number)
+}
+
+/// The numbers on each key.
+fn index_of(
+    alloc: Global,
+    by_number: &BTreeMap<u64, Hold>,
+) -> Result<IndexMap<Key, Vec<u64>>, NoMemory>
+    ensures { IfOk result (λ m. (key : List ℕ) → listed_at m.entries key ≡ map (λ h. h.number) (on_key key (values_of by_number.now.entries))) }
+{
+    let mut numbers = IndexMap::new(alloc);
+    for hold in by_number.values() {
+        enlist(&mut numbers, alloc, &hold.key, hold.number)?;
+    }
+    Ok(numbers)
 }
 
 /// Lists the number last at the key.

@@ -3,3 +3,12 @@
 
 mod hold;
 mod holds;
+mod refusals;
+mod table;
+mod tokens;
+
+pub use refusals::{
+    BarRefused, FillRefused, Look, RecoverRefused, RemoveRefused, Removed, ShareRefused,
+};
+pub use table::LockTable;
+pub use tokens::{Bar, Fill, Share};
