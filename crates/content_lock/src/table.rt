@@ -412,10 +412,10 @@ impl LockTable {
             Ok(Look::Barred { job }) => return Err(RemoveRefused::Barred { job }),
             Ok(Look::Present) => {}
         }
-        if let Some(blocker) = self.holds.blocker(key, now) {
+        if let Some(held) = self.holds.blocker(key, now) {
             return Err(RemoveRefused::Held {
-                hold: blocker.hold,
-                until: blocker.until,
+                hold: held.hold,
+                until: held.until,
             });
         }
         match keeper.remove(key) {
