@@ -1,0 +1,6 @@
+mod BlockerLemmas
+mod IndexedLemmas
+mod NumberedLemmas
+mod RecoveredLemmas
+mod StoredLemmas
+mod TokenLemmas

@@ -1,0 +1,6 @@
+use Rattle.std.specs.Map.{values_of}
+use Rattle.content_lock.proofs.NumberedLemmas.{view_less}
+use Rattle.content_lock.proofs.holds.Holds.take_off.Goals as goal
+
+pub returns : goal.returns
+returns c = view_less (values_of c.self.inside.by_number.entries) (values_of c.take_off.new.by_number.entries) c.args.self.now c.args.number c.take_off.ensures.off c.self.view_is

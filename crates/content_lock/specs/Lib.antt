@@ -1,0 +1,6 @@
+pub mod Blocking
+pub mod Indexed
+pub mod Looks
+pub mod Rows
+pub mod Stored
+pub mod Tokens

@@ -1,0 +1,14 @@
+//! The rows of a repository beside its store: holds, bars, and what is being filled, by tokens that must be spent.
+#![tactic(auto)]
+
+mod hold;
+mod holds;
+mod refusals;
+mod table;
+mod tokens;
+
+pub use refusals::{
+    BarRefused, FillRefused, Look, RecoverRefused, RemoveRefused, Removed, ShareRefused,
+};
+pub use table::LockTable;
+pub use tokens::{Bar, Fill, Share};
