@@ -10,10 +10,10 @@ use crate::status::Status;
 use crate::whole::SCRIPT_LIMIT;
 use annex_base::{NoMemory, put_number};
 use report_text::report;
-use thin_script::{Script, ScriptFault, scripts_have_one_reading};
 use std::alloc::Global;
 use thin_driver::{run_script, script_runs_are_thin};
 use thin_laws::{thin_refusals_have_causes, thin_runs_are_safe};
+use thin_script::{Script, ScriptFault, scripts_have_one_reading};
 
 /// A status, and the text that is written with it.
 #[derive(Debug, Drop)]

@@ -19,11 +19,11 @@ mod words;
 
 use annex_base::{Failed, Gate, Sink, Source};
 use due::due_text;
-use thin_script::scripts_have_one_reading;
 pub use status::Status;
 use std::alloc::Global;
 use std::sync::Wait;
 use std::thread::Threads;
+use thin_script::scripts_have_one_reading;
 use whole::{ReadStop, read_whole, write_whole};
 use words::is_run;
 

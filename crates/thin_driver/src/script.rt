@@ -20,9 +20,9 @@ use annex_base::{Items, Line, NoMemory};
 use annex_key::Key;
 use log_lines::Value;
 use run_data::{By, EntryKind, LogFile, RepoView, Run};
-use thin_script::Command;
 use std::alloc::Global;
 use thin_model::{Branches, Contents};
+use thin_script::Command;
 
 /// The run of a script's lines, one after the other: content from the script, lines of logs, merges and compactions of
 /// branches, waits, and local drops, each whole. The script begins at time 0, and only a wait takes time; the entries'
