@@ -1,10 +1,10 @@
 -- What has to be opened for the step to compute.
 use Rattle.annex_base.specs.Decimal.{number_of as decimal_number_of}
-use Rattle.annex_base.specs.RepoText.{repo_of as base_repo_of}
+use Rattle.annex_base.specs.RepoText.{repo_of}
 use Rattle.annex_base.specs.StampReading.{digits_at, fraction_at, stamp_of}
 use Rattle.annex_base.specs.StampText.{digits_after_point}
 use Rattle.annex_key.specs.Reading.{backend_at, number_at, field_at, must_at, chunk_at, checked_name, name_at, parts_at, key_at, around_chunk}
-use Rattle.log_lines.specs.Reading.{first_word, last_word, after_mark, mark_at, stamp_end, repo_of, repo_front, repo_line, stamp_front, location_of, number_of as log_number_of, copies_of, trust_of, text_of, groups_of, group_front, group_text_of, entry_of}
+use Rattle.log_lines.specs.Reading.{first_word, last_word, after_mark, mark_at, stamp_end, repo_front, repo_line, stamp_front, location_of, number_of as log_number_of, copies_of, trust_of, text_of, groups_of, group_front, group_text_of, entry_of}
 use Rattle.node_model.specs.Knows.{standing_of}
 use Rattle.node_model.specs.Wanted.{required}
 use Rattle.run_model.specs.Drops.{standing}
@@ -18,5 +18,5 @@ use Rattle.std.specs.Str.Lossy.{utf8_valid_len}
 use Rattle.std.specs.Fmt.{digits}
 
 unfoldable pub opened : Unit {0}
-unfolding by_index digits is_utf8 chars utf8_valid_len utf8_encode block_words rounds compress hash_after digest_bytes md5 encode_with decimal_number_of base_repo_of digits_at fraction_at stamp_of digits_after_point backend_at number_at field_at must_at chunk_at checked_name name_at parts_at key_at around_chunk first_word last_word after_mark mark_at stamp_end repo_of repo_front repo_line stamp_front location_of log_number_of copies_of trust_of text_of groups_of group_front group_text_of entry_of standing_of required standing message_in
+unfolding by_index digits is_utf8 chars utf8_valid_len utf8_encode block_words rounds compress hash_after digest_bytes md5 encode_with decimal_number_of repo_of digits_at fraction_at stamp_of digits_after_point backend_at number_at field_at must_at chunk_at checked_name name_at parts_at key_at around_chunk first_word last_word after_mark mark_at stamp_end repo_front repo_line stamp_front location_of log_number_of copies_of trust_of text_of groups_of group_front group_text_of entry_of standing_of required standing message_in
 opened = tt
