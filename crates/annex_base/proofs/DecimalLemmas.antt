@@ -16,13 +16,13 @@ use Rattle.std.specs.Result.{result_ok}
 use Rattle.annex_base.specs.Decimal.{number_of}
 use Rattle.annex_base.proofs.Options.{none_by}
 
-own : IsNumeralModel (AllDigits 10) (digits_value 10)
-own = numerals_by_value (AllDigits 10) tells_digits
+pub numerals : IsNumeralModel (AllDigits 10) (digits_value 10)
+numerals = numerals_by_value (AllDigits 10) tells_digits
 
 pub number_is : (n : ℕ) → n < 2 ^ 64 → number_of (decimal n) ≡ Some n
 unfolding number_of
 number_is n small =
-    let back : digits_value 10 (decimal n) ≡ n = digits_value-decimal own n small in
+    let back : digits_value 10 (decimal n) ≡ n = digits_value-decimal numerals n small in
     rw (back, lt-ltb n (2 ^ 64) small, (bytes_eq-Decides (decimal n) (decimal n)).1 refl) refl
 
 pub number_some : (word : List ℕ) (n : ℕ) → number_of word ≡ Some n → (word ≡ decimal n) × (n < 2 ^ 64)
@@ -58,7 +58,7 @@ number_of-sign word long low = number_none word (λ n small e. decimal_first n s
 -- a numeral with no zero or sign in front is the decimal text of its value
 spelled : (word : List ℕ) → ((length word ≤ 1) ⊎ (48 < get_or word 0 0)) → IsNumeral 10 word → digits_value 10 word < 2 ^ 64 → word ≡ decimal (digits_value 10 word)
 spelled word front is small =
-    sym (decimal-digits_value own word is.1 is.0 (λ zero. elim front [ inl short ↦ omega (arith, short, is.0) | inr high ↦ absurd (omega (arith, high, zero)) ]) small)
+    sym (decimal-digits_value numerals word is.1 is.0 (λ zero. elim front [ inl short ↦ omega (arith, short, is.0) | inr high ↦ absurd (omega (arith, high, zero)) ]) small)
 
 lone_sign : (word : List ℕ) → ((length word ≤ 1) ⊎ (48 < get_or word 0 0)) → get_or word 0 0 ≡ 43 → IsNumeral 10 (drop 1 word) → ⊥
 lone_sign word front plus is =

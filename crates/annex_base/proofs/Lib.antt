@@ -1,5 +1,6 @@
 pub mod Conditions
 pub mod DecimalLemmas
+pub mod Functions
 pub mod KnownLemmas
 pub mod Lines
 pub mod Lists

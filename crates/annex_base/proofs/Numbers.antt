@@ -1,5 +1,5 @@
 -- Ranges of numbers, and the bytes of numbers, stamps and identifiers as texts.
-use Rattle.std.proofs.Common.{◌≡◌, ℕ, zero, suc, ◌+◌, ◌<◌, ◌^◌, ◌/◌, ◌%◌, Bool, true, false, ◌==◌, List, [], ◌∷◌, ◌++◌, refl, arith, lit<, mod-lt}
+use Rattle.std.proofs.Common.{◌≡◌, ℕ, zero, suc, ◌+◌, ◌<◌, ◌^◌, ◌/◌, ◌%◌, Bool, true, false, ◌==◌, List, [], ◌∷◌, ◌++◌, refl, sym, ap, ◌∙◌, add-zero, arith, lit<, mod-lt}
 use Rattle.std.specs.Prelude.{if◌then◌else◌, codes}
 use Rattle.std.specs.Char.{is_ascii_digit}
 use Rattle.std.specs.List.{list_all, range_with_len}
@@ -15,6 +15,10 @@ use Rattle.annex_base.proofs.StampLemmas.{places_digits}
 pub range_below : (a n b : ℕ) → a + n ≡ b → Each (λ x. x < b) (range_with_len a n)
 range_below a zero b e = tt
 range_below a (suc n) b e = (omega (arith, e), range_below (a + 1) n b (omega (arith, e)))
+
+pub range_suc : (a n : ℕ) → range_with_len a (suc n) ≡ range_with_len a n ++ (a + n) ∷ []
+range_suc a zero = ap (λ k. k ∷ []) (sym (add-zero a))
+range_suc a (suc n) = let last : (a + 1) + n ≡ a + suc n = omega arith in ap (λ xs. a ∷ xs) (range_suc (a + 1) n ∙ ap (λ k. range_with_len (a + 1) n ++ k ∷ []) last)
 
 -- ---- what holds of every digit holds of the bytes of a number's text
 
@@ -46,7 +50,7 @@ decimal-all p digit n = onto_all p digit 64 n [] refl
 places_all : (p : ℕ → Bool) → PassesDigits p → (k n : ℕ) → n < 10 ^ k → list_all p (digits_after_point k n) ≡ true
 places_all p digit k n small = list_all_weaker is_ascii_digit p digit (digits_after_point k n) (list_all-from_AllPass is_ascii_digit (digits_after_point k n) (places_digits k n small))
 
-fraction_all : (p : ℕ → Bool) → p 46 ≡ true → (ds : List ℕ) → list_all p ds ≡ true → list_all p (fraction_text ds) ≡ true
+pub fraction_all : (p : ℕ → Bool) → p 46 ≡ true → (ds : List ℕ) → list_all p ds ≡ true → list_all p (fraction_text ds) ≡ true
 fraction_all p point [] h = refl
 fraction_all p point (d ∷ ds) h = and_from (p 46) (list_all p (d ∷ ds)) point h
 

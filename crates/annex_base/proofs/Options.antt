@@ -31,3 +31,6 @@ none_by (Some x) h = absurd (h x refl)
 
 pub none_and_some : {A : Type 0} (o : Option A) (x : A) → o ≡ None → o ≡ Some x → ⊥
 none_and_some o x none some = cc
+
+pub some_none : {A : Type 0} (x : A) → Some x ≡ None → ⊥
+some_none x e = cc

@@ -16,6 +16,11 @@ order_cases Less = inl refl
 order_cases Equal = inr (inl refl)
 order_cases Greater = inr (inr refl)
 
+pub by_order : {P : Type 0} (o : Ordering) → (o ≡ Less → P) → (o ≡ Equal → P) → (o ≡ Greater → P) → P
+by_order Less f g h = f refl
+by_order Equal f g h = g refl
+by_order Greater f g h = h refl
+
 pub same_text : (x y : List ℕ) → text_cmp x y ≡ Equal → x ≡ y
 same_text x y tied = exact_bytes x y tied
 

@@ -1,4 +1,5 @@
 pub mod ByteOrder
+pub mod Calls
 pub mod Causes
 pub mod Decimal
 pub mod Finding

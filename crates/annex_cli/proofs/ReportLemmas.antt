@@ -3,6 +3,7 @@
 use Rattle.std.proofs.Common.{◌≡◌, ℕ, ◌<◌, ◌≤◌, ◌^◌, Bool, List, [], ◌∷◌, ◌++◌, length, reverse, Option, Some, None, refl, sym, ap, ◌∙◌, subst, arith, append_assoc, length-append}
 use Rattle.std.proofs.lemmas.List.{length-map, reverse-reverse}
 use Rattle.annex_base.specs.Lists.{Each}
+use Rattle.annex_base.proofs.Lists.{Each-reverse}
 use Rattle.union_merge.specs.LineSet.{IsLine}
 use Rattle.run_data.specs.declared.entry.Entry.{Entry}
 use Rattle.run_data.specs.declared.entry.EntryKind.{EntryKind}
@@ -15,9 +16,7 @@ use Rattle.script_lang.specs.declared.command.Command.{Command}
 use Rattle.script_lang.specs.declared.command.Command.TheVariants as commands
 use Rattle.script_lang.specs.Lines.{Declared, declared, declared_by, MayStand}
 use Rattle.script_lang.specs.Script.{AllStand, IsProgram, IsScript, is_closed}
-use Rattle.thin_driver.specs.Driver.{run_of, view_of}
-use Rattle.thin_driver.proofs.ThinLists.{Each-reverse}
-use Rattle.thin_driver.proofs.ThinPrograms.{declared-append, thin_script}
+use Rattle.thin_driver.specs.Driver.{AreShort, run_of, view_of}
 use Rattle.report_text.specs.Walk.{IsLogged, ShowsKnown}
 use Rattle.annex_cli.specs.Whole.{script_limit}
 use Rattle.annex_cli.proofs.ShortLemmas.{script_is_short}
@@ -71,6 +70,10 @@ one_known n ds closed (commands.Compact r) l s = tt
 one_known n ds closed (commands.Wait milliseconds) l s = tt
 one_known n ds closed (commands.ShowPresence key) l s = tt
 
+declared-append : (before after : List Command) → declared (before ++ after) ≡ declared before ++ declared after
+declared-append [] after = refl
+declared-append (c ∷ cs) after = ap (λ ds. declared_by c ++ ds) (declared-append cs after) ∙ sym (append_assoc (declared_by c) (declared cs) (declared after))
+
 all_known : (n : ℕ) (before script : List Command) → length (declared (before ++ script)) ≤ n → AllStand before script → Each (ShowsKnown n) script
 all_known n before [] l s = tt
 all_known n before (c ∷ script) l s =
@@ -85,10 +88,14 @@ program_shows_known script program = all_known (length (declared script)) [] scr
 
 -- ---- both
 
+-- the law of the runs of scripts, as the lemma takes it
+abbrev RunsAreThin : Type 0
+RunsAreThin = (script : List Command) → IsProgram script → AreShort script → length (run_of script).entries < 2 ^ 62 → IsThinRun (run_of script)
+
 -- the run of a script is thin
-pub script_is_thin : (bytes : List ℕ) (script : List Command) (run : Run) → length bytes ≤ script_limit → IsScript bytes script → IsProgram script → run ≡ run_of script → length run.entries < 2 ^ 32 → IsThinRun run
-script_is_thin bytes script run short is program run_is few =
-    subst (λ (r : Run). IsThinRun r) (sym run_is) (thin_script script program (script_is_short bytes script short is) small)
+pub script_is_thin : RunsAreThin → (bytes : List ℕ) (script : List Command) (run : Run) → length bytes ≤ script_limit → IsScript bytes script → IsProgram script → run ≡ run_of script → length run.entries < 2 ^ 32 → IsThinRun run
+script_is_thin thin bytes script run short is program run_is few =
+    subst (λ (r : Run). IsThinRun r) (sym run_is) (thin script program (script_is_short bytes script short is) small)
   where
     few_of : length (run_of script).entries < 2 ^ 32
     few_of = subst (λ (r : Run). length r.entries < 2 ^ 32) run_is few

@@ -12,7 +12,7 @@ use annex_base::{NoMemory, put_number};
 use report_text::report;
 use script_lang::{Script, ScriptFault, scripts_have_one_reading};
 use std::alloc::Global;
-use thin_driver::run_script;
+use thin_driver::{run_script, script_runs_are_thin};
 use thin_laws::{thin_refusals_have_causes, thin_runs_are_safe};
 
 /// A status, and the text that is written with it.
@@ -50,6 +50,7 @@ fn report_due(alloc: Global, _bytes: &[u8], script: &Script) -> Result<Due, NoMe
 {
     // laws, for the proof that the run is good
     scripts_have_one_reading();
+    script_runs_are_thin();
     thin_runs_are_safe();
     thin_refusals_have_causes();
     let run = run_script(alloc, script.lines())?;

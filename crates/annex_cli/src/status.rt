@@ -1,3 +1,5 @@
+//! The exit statuses of the program.
+
 /// How a call of the program ended, in the order of its exit statuses from 0 (own).
 #[derive(Clone, Copy, Debug, PartialEq, Eq)]
 pub enum Status {

@@ -16,3 +16,4 @@ pub mod IndexLemmas
 pub mod IndexedLemmas
 pub mod FirstLemmas
 pub mod OnceLemmas
+pub mod LineLemmas

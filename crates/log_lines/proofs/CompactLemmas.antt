@@ -1,10 +1,13 @@
 -- Compaction keeps the reading, as additions and merges do.
-use Rattle.std.proofs.Common.{◌⊎◌, inl, inr, ◌≡◌, ◌↔◌, ℕ, Bool, true, false, not, ◌||◌, List, [], ◌∷◌, ◌++◌, filter, length, ◌<◌, ◌≤◌, nat_lt, Option, Some, None, refl, sym, ap, subst, ◌∙◌, arith}
+use Rattle.std.proofs.Common.{inl, inr, ◌≡◌, ◌↔◌, ℕ, Bool, true, false, not, ◌||◌, List, [], ◌∷◌, ◌++◌, filter, length, ◌<◌, ◌≤◌, nat_lt, Option, Some, None, refl, sym, ap, ◌∙◌, arith}
 use Rattle.std.specs.List.{list_any}
-use Rattle.std.proofs.lemmas.Bool.{lt-ltb, le-ltb}
+use Rattle.std.proofs.lemmas.Bool.{lt-ltb, le-ltb, not-true}
 use Rattle.std.proofs.lemmas.List.{append-nil}
 use Rattle.std.proofs.lemmas.List.Elements.{filter-append}
+use Rattle.std.proofs.lemmas.Option.{same_Some}
 use Rattle.annex_base.specs.Lists.{Member, Each}
+use Rattle.annex_base.proofs.Conditions.{by_test}
+use Rattle.annex_base.proofs.Lists.{list_any_found, list_any_member, Member-filter_parts, Member-filter_from, Member-append_cases, Member-append_left, Member-append_right, Each-member}
 use Rattle.log_lines.specs.declared.entry.LogKind.{LogKind}
 use Rattle.log_lines.specs.declared.entry.Topic.{Topic}
 use Rattle.log_lines.specs.declared.entry.Entry.{Entry}
@@ -13,67 +16,12 @@ use Rattle.log_lines.specs.Newest.{same_topic, is_older, IsNewest, newer, newest
 use Rattle.log_lines.specs.Latest.{said_of, newer_of, is_outdated_in}
 use Rattle.log_lines.specs.Keeping.{HasNewer, Keeps}
 use Rattle.log_lines.specs.Keeping.Keeps.{Empty, Add, AddAgain, Merge, Arrange, Compact}
-use Rattle.log_lines.proofs.Steps.{some_is}
 use Rattle.log_lines.proofs.FormLemmas.{entry_takes, entry_again}
 use Rattle.log_lines.proofs.OrderLemmas.{other, same_topic_own}
-use Rattle.log_lines.proofs.NewerLemmas.{by_test, newer_topic, lt_newer}
+use Rattle.log_lines.proofs.NewerLemmas.{newer_topic, lt_newer}
 use Rattle.log_lines.proofs.NewestLemmas.{newest_of-cons, newest_of_is, said_is, alike_by_newest, alike_by_members, alike_append}
 
--- ---- lists
-
-any_found : {X : Type 0} (test : X → Bool) (xs : List X) → list_any test xs ≡ true → (x : X) × Member x xs × (test x ≡ true)
-any_found test [] h = other h
-any_found test (x ∷ xs) h =
-    by_test (test x)
-    (λ t. (x, inl refl, t))
-    (λ t. let rest = any_found test xs (rw t at h) in (rest.0, inr rest.1, rest.2))
-
-any_here : {X : Type 0} (test : X → Bool) (xs : List X) (x : X) → Member x xs → test x ≡ true → list_any test xs ≡ true
-any_here test [] x among t = absurd among
-any_here test (y ∷ ys) x (inl is) t = let here : test y ≡ true = ap test (sym is) ∙ t in rw here refl
-any_here test (y ∷ ys) x (inr among) t = let there = any_here test ys x among t in by_test (test y) (λ s. rw s refl) (λ s. rw s there)
-
-from_front : {X : Type 0} (p : X → Bool) (y : X) (ys : List X) (x : X) → p y ≡ true → Member x (y ∷ filter p ys) → (Member x (filter p ys) → Member x ys × (p x ≡ true)) → Member x (y ∷ ys) × (p x ≡ true)
-from_front p y ys x t (inl is) rest = (inl is, ap p is ∙ t)
-from_front p y ys x t (inr among) rest = let found = rest among in (inr found.0, found.1)
-
-pub filter_member : {X : Type 0} (p : X → Bool) (xs : List X) (x : X) → Member x (filter p xs) → Member x xs × (p x ≡ true)
-filter_member p [] x among = absurd among
-filter_member p (y ∷ ys) x among =
-    by_test (p y)
-    (λ t. from_front p y ys x t (rw t at among) (filter_member p ys x))
-    (λ t. let rest = filter_member p ys x (rw t at among) in (inr rest.0, rest.1))
-
-pub member_filter : {X : Type 0} (p : X → Bool) (xs : List X) (x : X) → Member x xs → p x ≡ true → Member x (filter p xs)
-member_filter p [] x among t = absurd among
-member_filter p (y ∷ ys) x (inl is) t = let here : p y ≡ true = ap p (sym is) ∙ t in rw here (inl is)
-member_filter p (y ∷ ys) x (inr among) t =
-    let there = member_filter p ys x among t in by_test (p y) (λ s. rw s (inr there)) (λ s. rw s there)
-
-pub member_append : {X : Type 0} (xs ys : List X) (x : X) → Member x (xs ++ ys) → Member x xs ⊎ Member x ys
-member_append [] ys x among = inr among
-member_append (z ∷ zs) ys x (inl is) = inl (inl is)
-member_append (z ∷ zs) ys x (inr among) = elim (member_append zs ys x among) [ inl l ↦ inl (inr l) | inr r ↦ inr r ]
-
-pub append_first : {X : Type 0} (xs ys : List X) (x : X) → Member x xs → Member x (xs ++ ys)
-append_first [] ys x among = absurd among
-append_first (z ∷ zs) ys x (inl is) = inl is
-append_first (z ∷ zs) ys x (inr among) = inr (append_first zs ys x among)
-
-pub append_second : {X : Type 0} (xs ys : List X) (x : X) → Member x ys → Member x (xs ++ ys)
-append_second [] ys x among = among
-append_second (z ∷ zs) ys x among = inr (append_second zs ys x among)
-
-each_member : {X : Type 0} (P : X → Type 0) (xs : List X) → Each P xs → (x : X) → Member x xs → P x
-each_member P [] all x among = absurd among
-each_member P (y ∷ ys) all x (inl is) = subst P (sym is) all.0
-each_member P (y ∷ ys) all x (inr among) = each_member P ys all.1 x among
-
 -- ---- a line that is outdated
-
-not_true : (b : Bool) → not b ≡ true → b ≡ false
-not_true true h = other h
-not_true false h = refl
 
 tells_newer : (e : Entry) (o : Option Entry) → says_newer e o ≡ true → (f : Entry) × (o ≡ Some f) × (is_older e f ≡ true)
 tells_newer e None h = other h
@@ -82,7 +30,7 @@ tells_newer e (Some f) h = (f, refl, h)
 outdated_newer : (kind : LogKind) (lines : List (List ℕ)) (line : List ℕ) (o : Option Entry) → entry_of kind line ≡ o → outdated_by kind lines o ≡ true → HasNewer kind lines line
 outdated_newer kind lines line None read h = other h
 outdated_newer kind lines line (Some e) read h =
-    let found = any_found (λ l. says_newer e (entry_of kind l)) lines h in
+    let found = list_any_found (λ l. says_newer e (entry_of kind l)) lines h in
     let told = tells_newer e (entry_of kind found.0) found.2 in
     record {
       entry = e;
@@ -99,16 +47,16 @@ pub has_newer_outdated : (kind : LogKind) (lines : List (List ℕ)) (line : List
 has_newer_outdated kind lines line n =
     let read = entry_again kind line n.entry n.says in
     let told : says_newer n.entry (entry_of kind n.said.line) ≡ true = ap (says_newer n.entry) (entry_again kind n.said.line n.later n.said.says) ∙ n.older in
-    ap (outdated_by kind lines) read ∙ any_here (λ l. says_newer n.entry (entry_of kind l)) lines n.said.line n.said.among told
+    ap (outdated_by kind lines) read ∙ list_any_member (λ l. says_newer n.entry (entry_of kind l)) lines n.said.line n.said.among told
 
 -- ---- compaction keeps what is newest
 
 pub compacted_among : (kind : LogKind) (lines : List (List ℕ)) (line : List ℕ) → Member line (compacted kind lines) → Member line lines × (is_outdated kind lines line ≡ false)
 compacted_among kind lines line among =
-    let found = filter_member (λ l. not (is_outdated kind lines l)) lines line among in (found.0, not_true (is_outdated kind lines line) found.1)
+    let found = Member-filter_parts (λ l. not (is_outdated kind lines l)) lines line among in (found.0, not-true (is_outdated kind lines line) found.1)
 
 pub among_compacted : (kind : LogKind) (lines : List (List ℕ)) (line : List ℕ) → Member line lines → is_outdated kind lines line ≡ false → Member line (compacted kind lines)
-among_compacted kind lines line among h = member_filter (λ l. not (is_outdated kind lines l)) lines line among (ap not h)
+among_compacted kind lines line among h = Member-filter_from (λ l. not (is_outdated kind lines l)) lines line among (ap not h)
 
 compacted_newest : (kind : LogKind) (lines : List (List ℕ)) (e : Entry) → IsNewest kind (compacted kind lines) e → IsNewest kind lines e
 compacted_newest kind lines e new =
@@ -129,7 +77,7 @@ newest_compacted kind lines e new = record {
   among = among_compacted kind lines new.line new.among
       (by_test (is_outdated kind lines new.line)
       (λ t. let n = outdated_has_newer kind lines new.line t in
-      let own = some_is n.entry e (sym (entry_again kind new.line n.entry n.says) ∙ entry_again kind new.line e new.says) in
+      let own = same_Some n.entry e (sym (entry_again kind new.line n.entry n.says) ∙ entry_again kind new.line e new.says) in
       other (sym (new.last n.said.line n.later n.said.among n.said.says) ∙ ap (λ (x : Entry). is_older x n.later) (sym own) ∙ n.older))
       (λ t. t));
   says = new.says;
@@ -181,7 +129,7 @@ pub alike_turned : (kind : LogKind) (xs ys : List (List ℕ)) → ReadAlike kind
 alike_turned kind xs ys = alike_by_members kind (xs ++ ys) (ys ++ xs) (λ l. (turn xs ys l, turn ys xs l))
   where
     turn : (xs ys : List (List ℕ)) (l : List ℕ) → Member l (xs ++ ys) → Member l (ys ++ xs)
-    turn xs ys l among = elim (member_append xs ys l among) [ inl m ↦ append_second ys xs l m | inr m ↦ append_first ys xs l m ]
+    turn xs ys l among = elim (Member-append_cases xs ys l among) [ inl m ↦ Member-append_right ys xs l m | inr m ↦ Member-append_left ys xs l m ]
 
 pub alike_both : (kind : LogKind) (xs others ys all : List (List ℕ)) → ReadAlike kind xs others → ReadAlike kind ys all → ReadAlike kind (xs ++ ys) (others ++ all)
 alike_both kind xs others ys all first second =
@@ -191,10 +139,10 @@ alike_both kind xs others ys all first second =
     ∙ alike_turned kind all others
 
 alike_again : (kind : LogKind) (ever lines : List (List ℕ)) → Each (λ line. Member line ever) lines → ReadAlike kind (ever ++ lines) ever
-alike_again kind ever lines all = alike_by_members kind (ever ++ lines) ever (λ l. (back l, append_first ever lines l))
+alike_again kind ever lines all = alike_by_members kind (ever ++ lines) ever (λ l. (back l, Member-append_left ever lines l))
   where
     back : (l : List ℕ) → Member l (ever ++ lines) → Member l ever
-    back l among = elim (member_append ever lines l among) [ inl m ↦ m | inr m ↦ each_member (λ line. Member line ever) lines all l m ]
+    back l among = elim (Member-append_cases ever lines l among) [ inl m ↦ m | inr m ↦ Each-member (λ line. Member line ever) lines l all m ]
 
 pub kept_alike : (kind : LogKind) {kept ever : List (List ℕ)} → Keeps kind kept ever → ReadAlike kind kept ever
 kept_alike kind Empty = refl

@@ -3,11 +3,11 @@ use Rattle.std.proofs.Common.{◌≡◌, ℕ, Bool, true, false, ◌&&◌, ◌==
 use Rattle.std.specs.Bool.{Decides}
 use Rattle.std.specs.Option.{option_eq}
 use Rattle.std.specs.Cmp.Lexicographic.{pointwise}
-use Rattle.std.proofs.lemmas.Bool.{eqb-true}
+use Rattle.std.proofs.lemmas.Bool.{eqb-true, and_parts, and_from}
 use Rattle.std.proofs.lemmas.Bool.Decides.{Decides-eqb}
 use Rattle.std.proofs.lemmas.Slice.Eq.{slice_eq-Decides}
-use Rattle.log_lines.proofs.Steps.{both_true, true_both}
 use Rattle.annex_base.specs.declared.kinds.Level.{Level}
+use Rattle.log_lines.proofs.OrderLemmas.{other}
 use Rattle.annex_base.specs.declared.kinds.Level.TheVariants as levels
 use Rattle.annex_base.specs.contracts.kinds.LevelPartialEq.TheImpl as level_impl
 use Rattle.annex_base.specs.contracts.stamp.StampPartialEq.TheImpl as stamp_impl
@@ -19,9 +19,6 @@ use Rattle.log_lines.specs.declared.entry.Entry.{Entry}
 use Rattle.log_lines.specs.contracts.entry.TopicPartialEq.TheImpl as topic_impl
 use Rattle.log_lines.specs.contracts.entry.ValuePartialEq.TheImpl as value_impl
 use Rattle.log_lines.specs.contracts.entry.EntryPartialEq.TheImpl as entry_impl
-
-other : {A : Type 0} → false ≡ true → A
-other e = absurd (true≢false (sym e))
 
 level_same : (l m : Level) → level_impl.ghosts.eq l m ≡ true → l ≡ m
 level_same levels.Dead levels.Dead e = refl
@@ -86,8 +83,8 @@ stamp_equal (Some n) = (Decides-eqb n n).1 refl
 
 pub entry_same : (a b : Entry) → entry_impl.ghosts.eq a b ≡ true → a ≡ b
 entry_same a b e =
-    let first = both_true (topic_impl.ghosts.eq a.topic b.topic) (stamp_eq a.stamp b.stamp && value_impl.ghosts.eq a.value b.value) e in
-    let second = both_true (stamp_eq a.stamp b.stamp) (value_impl.ghosts.eq a.value b.value) first.1 in
+    let first = and_parts (topic_impl.ghosts.eq a.topic b.topic) (stamp_eq a.stamp b.stamp && value_impl.ghosts.eq a.value b.value) e in
+    let second = and_parts (stamp_eq a.stamp b.stamp) (value_impl.ghosts.eq a.value b.value) first.1 in
     let topic = topic_same a.topic b.topic first.0 in
     let stamp = stamp_same a.stamp b.stamp second.0 in
     let value = value_same a.value b.value second.1 in
@@ -95,5 +92,5 @@ entry_same a b e =
 
 pub entry_equal : (a : Entry) → entry_impl.ghosts.eq a a ≡ true
 entry_equal a =
-    true_both (topic_impl.ghosts.eq a.topic a.topic) (stamp_eq a.stamp a.stamp && value_impl.ghosts.eq a.value a.value) (topic_equal a.topic)
-    (true_both (stamp_eq a.stamp a.stamp) (value_impl.ghosts.eq a.value a.value) (stamp_equal a.stamp) (value_equal a.value))
+    and_from (topic_impl.ghosts.eq a.topic a.topic) (stamp_eq a.stamp a.stamp && value_impl.ghosts.eq a.value a.value) (topic_equal a.topic)
+    (and_from (stamp_eq a.stamp a.stamp) (value_impl.ghosts.eq a.value a.value) (stamp_equal a.stamp) (value_equal a.value))

@@ -3,10 +3,13 @@ use Rattle.std.proofs.Common.{inl, inr, ◌≡◌, ℕ, suc, true, nat_le, ◌&&
 use Rattle.std.specs.List.{list_all}
 use Rattle.std.specs.Option.{is_some}
 use Rattle.std.specs.Str.{is_utf8}
-use Rattle.std.proofs.lemmas.Bool.{leb-true, le-leb, cases_Bool, eqb-true}
+use Rattle.std.proofs.lemmas.Bool.{leb-true, le-leb, cases_Bool, eqb-true, and_parts}
 use Rattle.std.proofs.lemmas.List.Sums.{AllPass-from_list_all}
 use Rattle.std.proofs.lemmas.Str.{is_utf8-from_IsUtf8, IsUtf8-from_is_utf8}
-use Rattle.annex_base.specs.RepoText.{repo_text}
+use Rattle.std.proofs.lemmas.Option.{same_Some}
+use Rattle.annex_base.specs.RepoText.{repo_of, repo_text}
+use Rattle.annex_base.proofs.Options.{bind_some, where_some}
+use Rattle.annex_base.proofs.RepoLemmas.{repo_again, repo_takes}
 use Rattle.log_lines.specs.declared.entry.LogKind.{LogKind}
 use Rattle.log_lines.specs.declared.entry.LogKind.TheVariants as kinds
 use Rattle.log_lines.specs.declared.entry.Topic.{Topic}
@@ -15,11 +18,10 @@ use Rattle.log_lines.specs.declared.entry.Value.{Value}
 use Rattle.log_lines.specs.declared.entry.Value.TheVariants as values
 use Rattle.log_lines.specs.declared.entry.Entry.{Entry}
 use Rattle.log_lines.specs.LineText.{space, newline, IsWord, BeginsStamped, IsLineText, IsLocationLine, IsRepoLine, IsLevelBody, IsTextBody, IsGroupLine, Ends, IsGroupTextLine, IsNumberLine, IsStatus, HasForm, IsLine}
-use Rattle.log_lines.specs.Reading.{is_not_newline, first_word, stamp_front, repo_of, repo_line, status_of, location_of, number_of, copies_of, level_body, trust_of, text_body, text_of, group_body, groups_of, group_front, group_text_of, form_of, is_line_text, entry_of}
-use Rattle.log_lines.proofs.Steps.{bind_some, some_is, where_some, both_true}
+use Rattle.log_lines.specs.Reading.{is_not_newline, first_word, stamp_front, repo_line, status_of, location_of, number_of, copies_of, level_body, trust_of, text_body, text_of, group_body, groups_of, group_front, group_text_of, form_of, is_line_text, entry_of}
 use Rattle.log_lines.proofs.WordLemmas.{first_again, first_takes}
 use Rattle.log_lines.proofs.StampLemmas.{front_takes, front_again}
-use Rattle.log_lines.proofs.RepoLemmas.{repo_again, repo_takes, line_takes, line_again}
+use Rattle.log_lines.proofs.RepoLemmas.{line_takes, line_again}
 use Rattle.log_lines.proofs.BodyLemmas.{status_takes, status_again, level_takes, level_value, text_takes, text_again, text_value, groups_takes, groups_value, group_front_takes, group_front_again, number_takes, number_value}
 
 abbrev made : Topic → Option ℕ → Value → Entry
@@ -42,7 +44,7 @@ location_takes line e h =
     let repo = repo_takes word.0.1 id.0 id.1 in
     let rest : begin.0.1 ≡ letter.0 ∷ space ∷ repo_text id.0 =
     first_takes begin.0.1 word.0 word.1 ∙ ap (λ (w : List ℕ). w ++ space ∷ word.0.1) letter.2 ∙ ap (λ (t : List ℕ). letter.0 ∷ space ∷ t) repo.1 in
-    subst (IsLocationLine line) (some_is (made (topics.Repo id.0) (Some begin.0.0) status.0) e id.2) (record {
+    subst (IsLocationLine line) (same_Some (made (topics.Repo id.0) (Some begin.0.0) status.0) e id.2) (record {
       time = begin.0.0;
       letter = letter.0;
       id = id.0;
@@ -75,7 +77,7 @@ unfolding copies_of
 copies_takes line e h =
     let begin = bind_some (stamp_front line) _ e h in
     let number = bind_some (number_of begin.0.1) _ e begin.2 in
-    subst (IsNumberLine line) (some_is (made topics.Whole (Some begin.0.0) (values.Number number.0)) e number.2) (record {
+    subst (IsNumberLine line) (same_Some (made topics.Whole (Some begin.0.0) (values.Number number.0)) e number.2) (record {
       time = begin.0.0;
       digits = begin.0.1;
       begins = front_takes line begin.0 begin.1;
@@ -99,7 +101,7 @@ trust_takes line e h =
     let parts = bind_some (repo_line line) _ e h in
     let level = bind_some (level_body parts.0.1) _ e parts.2 in
     let is = line_takes line parts.0 parts.1 in
-    subst (IsRepoLine IsLevelBody line) (some_is (made (topics.Repo parts.0.0) parts.0.2 (values.Level level.0)) e level.2)
+    subst (IsRepoLine IsLevelBody line) (same_Some (made (topics.Repo parts.0.0) parts.0.2 (values.Level level.0)) e level.2)
     (record { id = parts.0.0; body = parts.0.1; ends = is.1; repo = is.0; says = level_takes parts.0.1 level.0 level.1; topic = refl })
 
 trust_again : (line : List ℕ) (e : Entry) → IsRepoLine IsLevelBody line e → trust_of line ≡ Some e
@@ -115,7 +117,7 @@ text_line_takes line e h =
     let parts = bind_some (repo_line line) _ e h in
     let text = bind_some (text_body parts.0.1) _ e parts.2 in
     let is = line_takes line parts.0 parts.1 in
-    subst (IsRepoLine IsTextBody line) (some_is (made (topics.Repo parts.0.0) parts.0.2 (values.Text text.0)) e text.2)
+    subst (IsRepoLine IsTextBody line) (same_Some (made (topics.Repo parts.0.0) parts.0.2 (values.Text text.0)) e text.2)
     (record { id = parts.0.0; body = parts.0.1; ends = is.1; repo = is.0; says = text_takes parts.0.1 text.0 text.1; topic = refl })
 
 text_line_again : (line : List ℕ) (e : Entry) → IsRepoLine IsTextBody line e → text_of line ≡ Some e
@@ -135,7 +137,7 @@ group_line_takes line e h =
     let parts = bind_some (repo_line line) _ e h in
     let names = bind_some (group_body (is_some parts.0.2) parts.0.1) _ e parts.2 in
     let is = line_takes line parts.0 parts.1 in
-    subst (IsGroupLine line) (some_is (made (topics.Repo parts.0.0) parts.0.2 (values.Groups names.0)) e names.2)
+    subst (IsGroupLine line) (same_Some (made (topics.Repo parts.0.0) parts.0.2 (values.Groups names.0)) e names.2)
     (elim (groups_takes (is_some parts.0.2) parts.0.1 names.0 names.1) [
       | inl says ↦ inl (record { id = parts.0.0; body = parts.0.1; ends = is.1; repo = is.0; says = says; topic = refl })
       | inr left ↦ inr (
@@ -170,7 +172,7 @@ group_text_takes line e h =
     let named = bind_some (group_front begin.0.1) _ e begin.2 in
     let text = bind_some (text_body named.0.1) _ e named.2 in
     let is = group_front_takes begin.0.1 named.0 named.1 in
-    subst (IsGroupTextLine line) (some_is (made (topics.Group named.0.0) (Some begin.0.0) (values.Text text.0)) e text.2) (record {
+    subst (IsGroupTextLine line) (same_Some (made (topics.Group named.0.0) (Some begin.0.0) (values.Text text.0)) e text.2) (record {
       time = begin.0.0;
       group = named.0.0;
       body = named.0.1;
@@ -231,8 +233,8 @@ single_none line all = λ has. newline_fails (slice_index_or line has.0 newline)
 
 line_text : (line : List ℕ) → is_line_text line ≡ true → IsLineText line
 line_text line e =
-    let outer = both_true (nat_le (length line) 8192 && is_utf8 line) (list_all is_not_newline line) e in
-    let inner = both_true (nat_le (length line) 8192) (is_utf8 line) outer.0 in
+    let outer = and_parts (nat_le (length line) 8192 && is_utf8 line) (list_all is_not_newline line) e in
+    let inner = and_parts (nat_le (length line) 8192) (is_utf8 line) outer.0 in
     record {
       short = leb-true (length line) 8192 inner.0;
       utf8 = IsUtf8-from_is_utf8 line inner.1;
@@ -256,4 +258,4 @@ entry_again kind line e is = rw (is_text_again line is.text) (form_again kind li
 
 -- so a line has at most one entry
 pub one_entry : (kind : LogKind) (line : List ℕ) (e e' : Entry) → IsLine kind line e → IsLine kind line e' → e ≡ e'
-one_entry kind line e e' is is' = some_is e e' (sym (entry_again kind line e is) ∙ entry_again kind line e' is')
+one_entry kind line e e' is is' = same_Some e e' (sym (entry_again kind line e is) ∙ entry_again kind line e' is')

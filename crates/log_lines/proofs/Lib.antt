@@ -15,6 +15,5 @@ pub mod PutLemmas
 pub mod ReadLemmas
 pub mod RepoLemmas
 pub mod StampLemmas
-pub mod Steps
 pub mod WordLemmas
 pub mod WriteLemmas

@@ -5,7 +5,10 @@ use Rattle.std.specs.declared.alloc.Global.{Global}
 use Rattle.std.specs.Ordering.{is_lt}
 use Rattle.std.specs.List.{fold}
 use Rattle.std.proofs.lemmas.List.{take_more}
+use Rattle.std.proofs.lemmas.Option.{same_Some, none-some}
 use Rattle.annex_base.specs.Lists.{Member}
+use Rattle.annex_base.proofs.Options.{none_by}
+use Rattle.annex_base.proofs.Conditions.{by_test}
 use Rattle.log_lines.specs.declared.entry.LogKind.{LogKind}
 use Rattle.log_lines.specs.declared.entry.Topic.{Topic}
 use Rattle.log_lines.specs.declared.entry.Entry.{Entry}
@@ -14,10 +17,9 @@ use Rattle.log_lines.specs.Reading.{entry_of}
 use Rattle.log_lines.specs.Newest.{same_topic, entry_cmp, is_older, IsNewest, IsReading, newer, put_if, newest, entry_at, newest_of, ReadAlike}
 use Rattle.log_lines.specs.Latest.{said_of, newer_of}
 use Rattle.log_lines.specs.Keeping.{Says}
-use Rattle.log_lines.proofs.Steps.{some_is, none_some, none_by}
 use Rattle.log_lines.proofs.FormLemmas.{entry_takes, entry_again}
 use Rattle.log_lines.proofs.OrderLemmas.{same_topic_is, same_topic_own}
-use Rattle.log_lines.proofs.NewerLemmas.{by_test, newer_stays, newer_later, newer_not_before, newer_not_after, not_lt_through, tied_is, newer_of_assoc, newer_of_none, said_same}
+use Rattle.log_lines.proofs.NewerLemmas.{newer_stays, newer_later, newer_not_before, newer_not_after, not_lt_through, tied_is, newer_of_assoc, newer_of_none, said_same}
 use Rattle.log_lines.proofs.PutLemmas.{IsRising, none_rising, put_if_rising, put_at, at_member, member_at, rising_same}
 
 -- the newest entry of the topic, by recursion on the lines
@@ -84,11 +86,11 @@ newest_of-push kind lines line t =
 -- ---- what the newest entry of a topic says
 
 pub said_is : (t : Topic) (o : Option Entry) (e : Entry) → said_of t o ≡ Some e → (o ≡ Some e) × (t ≡ e.topic)
-said_is t None e h = absurd (none_some e h)
+said_is t None e h = absurd (none-some e h)
 said_is t (Some f) e h =
     by_test (same_topic t f.topic)
-    (λ s. let is = some_is f e (rw s at h) in (ap Some is, same_topic_is t f.topic s ∙ ap (λ (x : Entry). x.topic) is))
-    (λ s. absurd (none_some e (rw s at h)))
+    (λ s. let is = same_Some f e (rw s at h) in (ap Some is, same_topic_is t f.topic s ∙ ap (λ (x : Entry). x.topic) is))
+    (λ s. absurd (none-some e (rw s at h)))
 
 one_of_both : (a b : Option Entry) (e : Entry) → newer_of a b ≡ Some e → (a ≡ Some e) ⊎ (b ≡ Some e)
 one_of_both None b e h = inr h
@@ -103,7 +105,7 @@ later_says kind line lines e s = record { line = s.line; among = inr s.among; sa
 
 latest_says : (kind : LogKind) (lines : List (List ℕ)) (t : Topic) (e : Entry) → latest kind lines t ≡ Some e → Says kind lines e × (t ≡ e.topic)
 unfolding latest
-latest_says kind [] t e h = absurd (none_some e h)
+latest_says kind [] t e h = absurd (none-some e h)
 latest_says kind (line ∷ lines) t e h =
     elim (one_of_both (said_of t (entry_of kind line)) (latest kind lines t) e h) [
       | inl here ↦
@@ -161,7 +163,7 @@ latest_newest kind lines t e h =
           by_test (same_topic e.topic f.topic)
           (λ s.
           let bound = latest_bounds kind lines t f line among says (found.1 ∙ same_topic_is e.topic f.topic s) in
-          let is = some_is bound.entry e (sym bound.is ∙ h) in
+          let is = same_Some bound.entry e (sym bound.is ∙ h) in
           older_parts e f (subst (λ (x : Entry). is_lt (entry_cmp x f) ≡ false) is bound.last))
           (λ s. rw s refl);
     }
@@ -258,7 +260,7 @@ newest_of_found kind lines t e = (
 pub newest_of_none : (kind : LogKind) (lines : List (List ℕ)) (t : Topic) → (newest_of kind lines t ≡ None) ↔ ((e : Entry) → Says kind lines e → e.topic ≢ t)
 newest_of_none kind lines t = (
   λ none e said topic.
-      let found = newest_of_some kind lines e said in none_some found.0 (sym none ∙ ap (newest_of kind lines) (sym topic) ∙ found.1),
+      let found = newest_of_some kind lines e said in none-some found.0 (sym none ∙ ap (newest_of kind lines) (sym topic) ∙ found.1),
   λ silent. none_by (newest_of kind lines t) (λ e h. let found = newest_of_says kind lines t e h in silent e found.0 found.1),
 )
 

@@ -8,8 +8,10 @@ use Rattle.std.specs.Str.Parse.{digits_value}
 use Rattle.std.proofs.Math.Nat.{pow-le-pow_right}
 use Rattle.std.proofs.lemmas.Bool.{lt-ltb}
 use Rattle.std.proofs.lemmas.List.{get_or-take}
+use Rattle.std.proofs.lemmas.Option.{same_Some}
 use Rattle.annex_base.specs.StampText.{IsStamp, nanos_of}
 use Rattle.annex_base.proofs.StampLemmas.{digits_below, scaled_below}
+use Rattle.annex_base.proofs.Conditions.{by_test}
 use Rattle.log_lines.specs.declared.entry.LogKind.{LogKind}
 use Rattle.log_lines.specs.declared.entry.LogKind.TheVariants as kinds
 use Rattle.log_lines.specs.declared.entry.Topic.{Topic}
@@ -19,10 +21,9 @@ use Rattle.log_lines.specs.LineText.{IsLine, HasForm, IsRepoLine, Ends}
 use Rattle.log_lines.specs.Reading.{entry_of}
 use Rattle.log_lines.specs.Newest.{same_topic, entry_cmp, newer, entry_at, newest_of, ReadAlike, greatest_stamp, next_stamp, stamp_in, newest_stamp}
 use Rattle.log_lines.specs.Latest.{said_of, newer_of}
-use Rattle.log_lines.proofs.Steps.{some_is}
 use Rattle.log_lines.proofs.FormLemmas.{entry_again}
 use Rattle.log_lines.proofs.OrderLemmas.{entry_total, same_topic_is}
-use Rattle.log_lines.proofs.NewerLemmas.{by_test, newer_later, newer_stays, newer_of_none, said_same, said_other}
+use Rattle.log_lines.proofs.NewerLemmas.{newer_later, newer_stays, newer_of_none, said_same, said_other}
 use Rattle.log_lines.proofs.NewestLemmas.{newest_of-cons, newest_of-push, newest_of_is}
 use Rattle.log_lines.proofs.CompactLemmas.{alike_turned}
 
@@ -46,13 +47,13 @@ stamp_below text n is =
 
 ends_below : (line front : List ℕ) (stamp : Option ℕ) (n : ℕ) → Ends line front stamp → stamp ≡ Some n → n ≤ greatest_stamp
 ends_below line front None n ends e = absurd cc
-ends_below line front (Some m) n ends e = subst (λ k. k ≤ greatest_stamp) (some_is m n e) (stamp_below ends.stamp m ends.is)
+ends_below line front (Some m) n ends e = subst (λ k. k ≤ greatest_stamp) (same_Some m n e) (stamp_below ends.stamp m ends.is)
 
 repo_below : (IsBody : Value → List ℕ → Type 0) (line : List ℕ) (e : Entry) (n : ℕ) → IsRepoLine IsBody line e → e.stamp ≡ Some n → n ≤ greatest_stamp
 repo_below IsBody line e n is at = ends_below line _ e.stamp n is.ends at
 
 begins_below : (stamp : Option ℕ) (time n : ℕ) (text : List ℕ) → stamp ≡ Some time → IsStamp text time → stamp ≡ Some n → n ≤ greatest_stamp
-begins_below stamp time n text e is at = subst (λ k. k ≤ greatest_stamp) (some_is time n (sym e ∙ at)) (stamp_below text time is)
+begins_below stamp time n text e is at = subst (λ k. k ≤ greatest_stamp) (same_Some time n (sym e ∙ at)) (stamp_below text time is)
 
 form_below : (kind : LogKind) (line : List ℕ) (e : Entry) (n : ℕ) → HasForm kind line e → e.stamp ≡ Some n → n ≤ greatest_stamp
 form_below kinds.Location line e n f at = begins_below e.stamp f.time n f.begins.stamp f.at f.begins.is at

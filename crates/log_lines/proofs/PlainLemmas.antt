@@ -3,17 +3,16 @@ use Rattle.std.proofs.Common.{◌≡◌, ℕ, ◌+◌, ◌<◌, Bool, true, ◌&
 use Rattle.std.specs.Char.{is_ascii_digit}
 use Rattle.std.specs.List.{AllPass, list_all}
 use Rattle.std.proofs.Math.Seq.{drop-append-add, get_or-append_seam}
-use Rattle.std.proofs.lemmas.Bool.{ltb-true}
+use Rattle.std.proofs.lemmas.Bool.{ltb-true, and_parts}
 use Rattle.std.proofs.lemmas.Bool.Decides.{nat_tests}
 use Rattle.std.proofs.lemmas.List.{take_at}
 use Rattle.std.proofs.lemmas.List.Sums.{AllPass-from_list_all}
 use Rattle.std.proofs.lemmas.Str.{IsUtf8-append, IsUtf8-nil, IsUtf8-from_ascii, IsUtf8-take, IsUtf8-drop, IsCharBoundary-before_ascii, IsCharBoundary-after_ascii}
 use Rattle.std.proofs.lemmas.Str.Ascii.{IsAscii-from_all}
 use Rattle.annex_base.specs.StampText.{IsStamp}
+use Rattle.annex_base.proofs.Lists.{list_all_append, list_all_parts}
 use Rattle.log_lines.specs.LineText.{space}
 use Rattle.log_lines.specs.Reading.{is_not_newline}
-use Rattle.log_lines.proofs.Steps.{both_true}
-use Rattle.log_lines.proofs.WordLemmas.{all_append, append_all}
 use Rattle.log_lines.proofs.StampLemmas.{stamp_all, digits_pass}
 
 pub record Plain (text : List ℕ) : Type 0 where
@@ -21,7 +20,7 @@ pub record Plain (text : List ℕ) : Type 0 where
   pub single : list_all is_not_newline text ≡ true
 
 pub plain_append : (a b : List ℕ) → Plain a → Plain b → Plain (a ++ b)
-plain_append a b p q = record { utf8 = IsUtf8-append a b p.utf8 q.utf8; single = all_append is_not_newline a b p.single q.single }
+plain_append a b p q = record { utf8 = IsUtf8-append a b p.utf8 q.utf8; single = list_all_append is_not_newline a b p.single q.single }
 
 pub plain_nil : Plain []
 plain_nil = record { utf8 = IsUtf8-nil; single = refl }
@@ -33,12 +32,12 @@ is_low b = nat_lt b 128 && is_not_newline b
 low_single : (bs : List ℕ) → list_all is_low bs ≡ true → list_all is_not_newline bs ≡ true
 low_single [] all = refl
 low_single (b ∷ bs) all =
-    let both = both_true (is_low b) (list_all is_low bs) all in
-    let low = both_true (nat_lt b 128) (is_not_newline b) both.0 in rw (low.1, low_single bs both.1) refl
+    let both = and_parts (is_low b) (list_all is_low bs) all in
+    let low = and_parts (nat_lt b 128) (is_not_newline b) both.0 in rw (low.1, low_single bs both.1) refl
 
 pub plain_low : (bs : List ℕ) → list_all is_low bs ≡ true → Plain bs
 plain_low bs all = record {
-  utf8 = IsUtf8-from_ascii bs (IsAscii-from_all bs (λ k d within. ltb-true (get_or bs k d) 128 (both_true (nat_lt (get_or bs k d) 128) (is_not_newline (get_or bs k d)) (AllPass-from_list_all is_low bs all k d within)).0));
+  utf8 = IsUtf8-from_ascii bs (IsAscii-from_all bs (λ k d within. ltb-true (get_or bs k d) 128 (and_parts (nat_lt (get_or bs k d) 128) (is_not_newline (get_or bs k d)) (AllPass-from_list_all is_low bs all k d within)).0));
   single = low_single bs all;
 }
 
@@ -59,7 +58,7 @@ plain_before a b p =
     let at : get_or line (length a) 0 ≡ space = get_or-append_seam a space b 0 in
     record {
       utf8 = subst IsUtf8 (take_at a (space ∷ b) (length a) refl) (IsUtf8-take line (length a) p.utf8 (IsCharBoundary-before_ascii line (length a) within (omega (arith, at))));
-      single = (append_all is_not_newline a (space ∷ b) p.single).0;
+      single = (list_all_parts is_not_newline a (space ∷ b) p.single).0;
     }
 
 pub plain_after : (a b : List ℕ) → Plain (a ++ space ∷ b) → Plain b
@@ -69,5 +68,5 @@ plain_after a b p =
     let at : get_or line (length a) 0 ≡ space = get_or-append_seam a space b 0 in
     record {
       utf8 = subst IsUtf8 (drop-append-add a (space ∷ b) 1) (IsUtf8-drop line (length a + 1) p.utf8 (IsCharBoundary-after_ascii line (length a) p.utf8 within (omega (arith, at))));
-      single = (append_all is_not_newline a (space ∷ b) p.single).1;
+      single = (list_all_parts is_not_newline a (space ∷ b) p.single).1;
     }

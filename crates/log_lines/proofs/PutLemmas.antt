@@ -1,18 +1,20 @@
 -- Entries in order of topic, and one more of them.
-use Rattle.std.proofs.Common.{inl, inr, ◌≡◌, true, false, List, [], ◌∷◌, map, Option, Some, None, refl, sym, ap, subst, ◌∙◌}
-use Rattle.std.specs.declared.cmp.Ordering.{Ordering}
-use Rattle.std.specs.declared.cmp.Ordering.TheVariants.{Less, Equal, Greater}
+use Rattle.std.proofs.Common.{inl, inr, ◌≡◌, ◌↔◌, true, false, List, [], ◌∷◌, map, Option, Some, None, refl, sym, ap, subst, ◌∙◌}
+use Rattle.std.specs.declared.cmp.Ordering.TheVariants.{Less, Greater}
 use Rattle.std.specs.Ordering.{is_eq, is_lt, ordering_reverse}
 use Rattle.std.specs.List.{AllByRecursion}
 use Rattle.std.specs.List.Sorted.{IsStrictlySortedBy}
 use Rattle.std.proofs.lemmas.Cmp.{tied_itself}
+use Rattle.std.proofs.lemmas.Option.{same_Some}
 use Rattle.annex_base.specs.Lists.{Member}
+use Rattle.annex_base.proofs.Conditions.{by_test}
+use Rattle.annex_base.proofs.TextOrder.{by_order}
 use Rattle.log_lines.specs.declared.entry.Topic.{Topic}
 use Rattle.log_lines.specs.declared.entry.Entry.{Entry}
 use Rattle.log_lines.specs.Newest.{topic_cmp, same_topic, newer, put, put_if, entry_at}
 use Rattle.log_lines.specs.Latest.{said_of, newer_of}
 use Rattle.log_lines.proofs.OrderLemmas.{other, topic_total, topic_exact, same_topic_is, same_topic_own}
-use Rattle.log_lines.proofs.NewerLemmas.{by_test, newer_topic, newer_of_none}
+use Rattle.log_lines.proofs.NewerLemmas.{newer_topic, newer_of_none}
 
 abbrev pub topic_in : Entry → Topic
 topic_in e = e.topic
@@ -36,11 +38,6 @@ parts_rising e es past h = (past, h)
 pub none_rising : IsRising []
 unfolding IsStrictlySortedBy
 none_rising = tt
-
-pub by_order : {P : Type 0} (o : Ordering) → (o ≡ Less → P) → (o ≡ Equal → P) → (o ≡ Greater → P) → P
-by_order Less f g h = f refl
-by_order Equal f g h = g refl
-by_order Greater f g h = h refl
 
 not_same : (t u : Topic) → topic_cmp t u ≡ Less → same_topic t u ≡ false
 not_same t u h = ap is_eq h
@@ -133,12 +130,9 @@ at_member [] t e h = absurd cc
 at_member (x ∷ xs) t e h =
     by_test (same_topic t x.topic)
     (λ s.
-    let is : x ≡ e = some_is x e (rw s at h) in
+    let is : x ≡ e = same_Some x e (rw s at h) in
     (inl (sym is), same_topic_is t x.topic s ∙ ap (λ (y : Entry). y.topic) is))
     (λ s. let rest = at_member xs t e (rw s at h) in (inr rest.0, rest.1))
-  where
-    some_is : (a b : Entry) → Some a ≡ Some b → a ≡ b
-    some_is a b q = cc
 
 pub member_at : (es : List Entry) (e : Entry) → IsRising es → Member e es → entry_at es e.topic ≡ Some e
 member_at [] e h among = absurd among
@@ -150,6 +144,12 @@ member_at (x ∷ xs) e h (inr among) =
     let below = past_member x.topic xs e parts.0 among in
     let apart : same_topic e.topic x.topic ≡ false = ap is_eq (topic_total.antisymm e.topic x.topic ∙ ap ordering_reverse below) in
     rw apart (member_at xs e parts.1 among)
+
+pub found_by_topic : (es : List Entry) (topic : Topic) (e : Entry) → IsRising es → (entry_at es topic ≡ Some e) ↔ (Member e es × (e.topic ≡ topic))
+found_by_topic es topic e rising = (
+  λ found. let is = at_member es topic e found in (is.0, sym is.1),
+  λ is. subst (λ (t : Topic). entry_at es t ≡ Some e) is.1 (member_at es e rising is.0),
+)
 
 -- two lists in order with the same members are the same
 pub rising_same : (xs ys : List Entry) → IsRising xs → IsRising ys → ((e : Entry) → Member e xs → Member e ys) → ((e : Entry) → Member e ys → Member e xs) → xs ≡ ys

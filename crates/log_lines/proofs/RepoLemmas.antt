@@ -1,38 +1,14 @@
 -- A text spells at most one identifier.
-use Rattle.std.proofs.Common.{◌≡◌, ℕ, ◌≤◌, List, length, length-append, take, drop, ◌++◌, Option, Some, None, Ok, Err, refl, sym, ap, subst, ◌∙◌, arith, nat_lt}
-use Rattle.std.specs.Str.{bytes_eq}
+use Rattle.std.proofs.Common.{◌≡◌, ℕ, ◌≤◌, List, length, length-append, take, drop, ◌++◌, Option, Some, refl, sym, ap, subst, ◌∙◌, arith, nat_lt}
 use Rattle.std.proofs.lemmas.Bool.{le-ltb}
 use Rattle.std.proofs.lemmas.List.{take-append-drop, take_at, drop_at}
-use Rattle.std.proofs.lemmas.Slice.Eq.{bytes_eq-Decides}
-use Rattle.uuid.specs.Text.{parsed}
-use Rattle.annex_base.specs.RepoText.{IsId, repo_text}
-use Rattle.annex_base.proofs.RepoLemmas.{length-repo_text, parsed-repo_text, parsed_id}
+use Rattle.std.proofs.lemmas.Option.{same_Some}
+use Rattle.annex_base.specs.RepoText.{IsId, repo_of, repo_text}
+use Rattle.annex_base.proofs.RepoLemmas.{length-repo_text, repo_again, repo_takes}
+use Rattle.annex_base.proofs.Options.{bind_some, map_some, unless_some}
 use Rattle.log_lines.specs.LineText.{Ends}
-use Rattle.log_lines.specs.Reading.{repo_of, stamp_end, repo_front, repo_line}
+use Rattle.log_lines.specs.Reading.{stamp_end, repo_front, repo_line}
 use Rattle.log_lines.proofs.StampLemmas.{end_takes, end_again}
-use Rattle.log_lines.proofs.Steps.{bind_some, map_some, some_where, unless_some, some_is, none_by}
-
-pub repo_again : (text id : List ℕ) → IsId id → text ≡ repo_text id → repo_of text ≡ Some id
-unfolding repo_of
-repo_again text id is spelled =
-    let read : parsed text ≡ Some id = ap parsed spelled ∙ sym (parsed-repo_text id is) in
-    rw (read, (bytes_eq-Decides text (repo_text id)).1 spelled) refl
-
-pub repo_takes : (text id : List ℕ) → repo_of text ≡ Some id → IsId id × (text ≡ repo_text id)
-unfolding repo_of
-repo_takes text id e =
-    let read = bind_some (parsed text) _ id e in
-    let test = some_where (bytes_eq text (repo_text read.0)) read.0 id read.2 in
-    let spelled : text ≡ repo_text read.0 = (bytes_eq-Decides text (repo_text read.0)).0 test.0 in (
-      subst IsId test.1 (parsed_id text text read.0 spelled refl refl (sym read.1)),
-      spelled ∙ ap repo_text test.1,
-    )
-
-err_ok : {E : Type 0} (x : List ℕ) (e : E) → Err e ≡ Ok x → ⊥
-err_ok x e h = cc
-
-pub repo_none : {E : Type 0} (text : List ℕ) (e : E) → ((id : List ℕ) → IsId id → text ≡ repo_text id → Err e ≡ Ok id) → repo_of text ≡ None
-repo_none text e only = none_by (repo_of text) (λ id found. let is = repo_takes text id found in err_ok id e (only id is.0 is.1))
 
 -- ---- an identifier in front
 
@@ -62,7 +38,7 @@ line_takes line x e =
     let end = bind_some (stamp_end line) _ x e in
     let repo = bind_some (repo_front end.0.0) _ x end.2 in
     let is = front_takes end.0.0 repo.0 repo.1 in
-    let same : (repo.0.0, repo.0.1, end.0.1) ≡ x = some_is (repo.0.0, repo.0.1, end.0.1) x repo.2 in
+    let same : (repo.0.0, repo.0.1, end.0.1) ≡ x = same_Some (repo.0.0, repo.0.1, end.0.1) x repo.2 in
     subst (λ (y : List ℕ × List ℕ × Option ℕ). IsId y.0 × Ends line (repo_text y.0 ++ y.1) y.2) same
     (is.0, subst (λ (f : List ℕ). Ends line f end.0.1) is.1 (end_takes line end.0 end.1))
 

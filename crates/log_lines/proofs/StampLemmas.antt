@@ -8,13 +8,17 @@ use Rattle.std.proofs.lemmas.List.{get_or-take, length-take}
 use Rattle.std.proofs.lemmas.Bool.Decides.{nat_tests, Decides-eqb}
 use Rattle.std.proofs.lemmas.List.Sums.{list_all-from_AllPass}
 use Rattle.std.proofs.lemmas.Slice.Eq.{starts_is}
+use Rattle.std.proofs.lemmas.Option.{cond_some, same_Some}
+use Rattle.std.proofs.lemmas.Bool.{and_parts}
 use Rattle.annex_base.specs.StampText.{IsStamp, fraction_text, nanos_of}
 use Rattle.annex_base.specs.StampReading.{stamp_of}
 use Rattle.annex_base.proofs.StampLemmas.{stamp_takes, stamp_again, digits_below, scaled_below}
+use Rattle.annex_base.proofs.Options.{bind_some, map_some, none_by, none_and_some}
+use Rattle.annex_base.proofs.Lists.{list_all_append, list_all_parts}
+use Rattle.annex_base.proofs.Numbers.{fraction_all}
 use Rattle.log_lines.specs.LineText.{space, is_not_space, IsWord, stamp_mark, EndsMarked, BeginsStamped, Ends}
 use Rattle.log_lines.specs.Reading.{first_word, last_word, after_mark, mark_at, end_of, stamp_end, stamp_front}
-use Rattle.log_lines.proofs.Steps.{bind_some, map_some, some_where, some_is, none_by, both_true}
-use Rattle.log_lines.proofs.WordLemmas.{all_append, append_all, first_again, first_takes, last_again, last_takes}
+use Rattle.log_lines.proofs.WordLemmas.{first_again, first_takes, last_again, last_takes}
 
 -- ---- a stamp is a word
 
@@ -22,14 +26,10 @@ use Rattle.log_lines.proofs.WordLemmas.{all_append, append_all, first_again, fir
 digits_all : (p : ℕ → Bool) → ((b : ℕ) → is_ascii_digit b ≡ true → p b ≡ true) → (ds : List ℕ) → list_all is_ascii_digit ds ≡ true → list_all p ds ≡ true
 digits_all p digit [] all = refl
 digits_all p digit (d ∷ ds) all =
-    let both = both_true (is_ascii_digit d) (list_all is_ascii_digit ds) all in rw (digit d both.0, digits_all p digit ds both.1) refl
+    let both = and_parts (is_ascii_digit d) (list_all is_ascii_digit ds) all in rw (digit d both.0, digits_all p digit ds both.1) refl
 
 pub digits_pass : (p : ℕ → Bool) → ((b : ℕ) → is_ascii_digit b ≡ true → p b ≡ true) → (ds : List ℕ) → AllPass is_ascii_digit ds → list_all p ds ≡ true
 digits_pass p digit ds all = digits_all p digit ds (list_all-from_AllPass is_ascii_digit ds all)
-
-fraction_all : (p : ℕ → Bool) → p 46 ≡ true → (ds : List ℕ) → list_all p ds ≡ true → list_all p (fraction_text ds) ≡ true
-fraction_all p point [] is = refl
-fraction_all p point (d ∷ ds) is = rw point is
 
 ending_all : (p : ℕ → Bool) → p 115 ≡ true → (ending : List ℕ) → (ending ≡ []) ⊎ (ending ≡ codes "s") → list_all p ending ≡ true
 ending_all p unit ending is = elim is [ inl none ↦ rw none refl | inr s ↦ rw (s, unit) refl ]
@@ -37,8 +37,8 @@ ending_all p unit ending is = elim is [ inl none ↦ rw none refl | inr s ↦ rw
 pub stamp_all : (p : ℕ → Bool) → ((b : ℕ) → is_ascii_digit b ≡ true → p b ≡ true) → p 46 ≡ true → p 115 ≡ true → (text : List ℕ) (n : ℕ) → IsStamp text n → list_all p text ≡ true
 stamp_all p digit point unit text n is =
     ap (list_all p) is.spelled
-    ∙ all_append p is.seconds (fraction_text is.fraction ++ is.ending) (digits_pass p digit is.seconds is.digits)
-    (all_append p (fraction_text is.fraction) is.ending (fraction_all p point is.fraction (digits_pass p digit is.fraction is.fraction_digits)) (ending_all p unit is.ending is.unit))
+    ∙ list_all_append p is.seconds (fraction_text is.fraction ++ is.ending) (digits_pass p digit is.seconds is.digits)
+    (list_all_append p (fraction_text is.fraction) is.ending (fraction_all p point is.fraction (digits_pass p digit is.fraction is.fraction_digits)) (ending_all p unit is.ending is.unit))
 
 digit_no_space : (b : ℕ) → is_ascii_digit b ≡ true → is_not_space b ≡ true
 digit_no_space b is = grind (arith, nat_tests)
@@ -72,7 +72,7 @@ unfolding stamp_front
 front_takes line x e =
     let first = bind_some (first_word line) _ x e in
     let time = bind_some (stamp_of first.0.0) _ x first.2 in
-    let same : (time.0, first.0.1) ≡ x = some_is (time.0, first.0.1) x time.2 in
+    let same : (time.0, first.0.1) ≡ x = same_Some (time.0, first.0.1) x time.2 in
     subst (λ (y : ℕ × List ℕ). BeginsStamped line y.0 y.1) same
     (record { stamp = first.0.0; is = stamp_takes first.0.0 time.0 time.1; spelled = first_takes line first.0 first.1 })
 
@@ -86,7 +86,7 @@ front_again line time rest is =
 
 mark_again : (front rest : List ℕ) → IsWord rest → mark_at (front ++ space ∷ (stamp_mark ++ rest)) ≡ Some (front, rest)
 unfolding mark_at after_mark
-mark_again front rest is = rw (last_again front (stamp_mark ++ rest) (all_append is_not_space stamp_mark rest refl is)) refl
+mark_again front rest is = rw (last_again front (stamp_mark ++ rest) (list_all_append is_not_space stamp_mark rest refl is)) refl
 
 mark_takes : (line : List ℕ) (x : List ℕ × List ℕ) → mark_at line ≡ Some x → IsWord x.1 × (line ≡ x.0 ++ space ∷ (stamp_mark ++ x.1))
 unfolding mark_at after_mark
@@ -94,16 +94,13 @@ mark_takes line x e =
     let last = bind_some (last_word line) _ x e in
     let text = map_some (after_mark last.0.1) _ x last.2 in
     let is = last_takes line last.0 last.1 in
-    let test = some_where (starts_with ◌==◌ last.0.1 stamp_mark) (drop 10 last.0.1) text.0 text.1 in
+    let test = cond_some (starts_with ◌==◌ last.0.1 stamp_mark) (drop 10 last.0.1) text.0 text.1 in
     let marked : last.0.1 ≡ stamp_mark ++ drop 10 last.0.1 = (starts_is Decides-eqb last.0.1 stamp_mark (starts_with ◌==◌ last.0.1 stamp_mark) refl).0 test.0 in
     let same : (last.0.0, drop 10 last.0.1) ≡ x = ap (λ (t : List ℕ). (last.0.0, t)) test.1 ∙ text.2 in
     subst (λ (y : List ℕ × List ℕ). IsWord y.1 × (line ≡ y.0 ++ space ∷ (stamp_mark ++ y.1))) same (
-      (append_all is_not_space stamp_mark (drop 10 last.0.1) (subst IsWord marked is.0)).1,
+      (list_all_parts is_not_space stamp_mark (drop 10 last.0.1) (subst IsWord marked is.0)).1,
       is.1 ∙ ap (λ (w : List ℕ). last.0.0 ++ space ∷ w) marked,
     )
-
-none_some : {A : Type 0} (o : Option A) (x : A) → o ≡ None → o ≡ Some x → ⊥
-none_some o x n e = absurd cc
 
 marked : (line : List ℕ) (has : EndsMarked line) → mark_at line ≡ Some (has.front, has.rest)
 marked line has = ap mark_at has.spelled ∙ mark_again has.front has.rest has.word
@@ -114,8 +111,8 @@ mark_none line other =
 
 end_cases : (line : List ℕ) (o : Option (List ℕ × List ℕ)) (x : List ℕ × Option ℕ) → mark_at line ≡ o → end_of line o ≡ Some x → Ends line x.0 x.1
 end_cases line None x at e =
-    subst (λ (y : List ℕ × Option ℕ). Ends line y.0 y.1) (some_is (line, None) x e)
-    (λ has. none_some (mark_at line) (has.front, has.rest) at (marked line has), refl)
+    subst (λ (y : List ℕ × Option ℕ). Ends line y.0 y.1) (same_Some (line, None) x e)
+    (λ has. none_and_some (mark_at line) (has.front, has.rest) at (marked line has), refl)
 end_cases line (Some m) x at e =
     let time = map_some (stamp_of m.1) _ x e in
     subst (λ (y : List ℕ × Option ℕ). Ends line y.0 y.1) time.2

@@ -5,6 +5,8 @@ use Rattle.std.specs.Ordering.{is_lt}
 use Rattle.std.specs.Map.{lookup}
 use Rattle.std.specs.Option.{option_map}
 use Rattle.std.specs.BTreeMap.{insert_entry, is_at}
+use Rattle.annex_base.proofs.Conditions.{by_test}
+use Rattle.annex_base.proofs.TextOrder.{by_order}
 use Rattle.log_lines.specs.declared.entry.Topic.{Topic}
 use Rattle.log_lines.specs.declared.entry.Topic.TheVariants as topics
 use Rattle.log_lines.specs.declared.statement.Statement.{Statement}
@@ -16,8 +18,7 @@ use Rattle.log_lines.specs.Latest.{statement_cmp, is_news, is_old}
 use Rattle.log_lines.specs.contracts.entry.TopicPartialEq.TheImpl as topic_impl
 use Rattle.log_lines.proofs.EqualLemmas.{topic_same, topic_equal}
 use Rattle.log_lines.proofs.OrderLemmas.{other, topic_exact, same_topic_is, same_topic_own}
-use Rattle.log_lines.proofs.NewerLemmas.{by_test}
-use Rattle.log_lines.proofs.PutLemmas.{IsRising, put_if_rising, ArePast, rising_parts, past_further, by_order}
+use Rattle.log_lines.proofs.PutLemmas.{IsRising, put_if_rising, ArePast, rising_parts, past_further}
 
 -- the derived order of topics is theirs
 pub topic_order : (t u : Topic) → topic_ord.ghosts.cmp t u ≡ topic_cmp t u

@@ -1,31 +1,26 @@
 -- The first and the last word of a line.
-use Rattle.std.proofs.Common.{◌⊎◌, inl, inr, ◌≡◌, ℕ, suc, ◌+◌, ◌-◌, ◌<◌, Bool, true, false, nat_lt, List, [], ◌∷◌, ◌++◌, length, length-append, take, drop, reverse, get_or, Option, Some, None, refl, sym, ap, subst, ◌∙◌, arith}
+use Rattle.std.proofs.Common.{◌⊎◌, inl, inr, ◌≡◌, ℕ, suc, ◌+◌, ◌-◌, ◌<◌, Bool, true, false, nat_lt, List, [], ◌∷◌, ◌++◌, length, length-append, take, drop, reverse, get_or, Some, None, refl, sym, ap, subst, ◌∙◌, arith}
 use Rattle.std.specs.List.{list_all, prefix_len, position_or_len, suffix_len}
 use Rattle.std.proofs.Math.Seq.{drop-append-add}
-use Rattle.std.proofs.lemmas.Bool.{ltb-true, lt-ltb, le-ltb, eqb-true, cases_Bool}
+use Rattle.std.proofs.lemmas.Bool.{ltb-true, lt-ltb, le-ltb, eqb-true, cases_Bool, and_parts}
 use Rattle.std.proofs.lemmas.List.{reverse-append, length-reverse, take_at}
-use Rattle.std.proofs.lemmas.List.Folds.{list_all-append}
 use Rattle.std.proofs.lemmas.List.Sums.{split_at_first, passes_at_first}
+use Rattle.std.proofs.lemmas.Option.{cond_some, same_Some}
+use Rattle.annex_base.proofs.Lists.{list_all_reverse}
+use Rattle.annex_base.proofs.Options.{none_and_some}
 use Rattle.log_lines.specs.LineText.{space, is_not_space, IsWord}
 use Rattle.log_lines.specs.Reading.{is_space, first_word, last_word}
-use Rattle.log_lines.proofs.Steps.{some_where, some_is, both_true, true_both}
-
-pub all_append : (p : ℕ → Bool) (xs ys : List ℕ) → list_all p xs ≡ true → list_all p ys ≡ true → list_all p (xs ++ ys) ≡ true
-all_append p xs ys a b = list_all-append p xs ys ∙ true_both (list_all p xs) (list_all p ys) a b
-
-pub append_all : (p : ℕ → Bool) (xs ys : List ℕ) → list_all p (xs ++ ys) ≡ true → (list_all p xs ≡ true) × (list_all p ys ≡ true)
-append_all p xs ys e = both_true (list_all p xs) (list_all p ys) (sym (list_all-append p xs ys) ∙ e)
 
 -- the front that passes, where what follows doesn't
 prefix_of : (p : ℕ → Bool) (front : List ℕ) (b : ℕ) (rest : List ℕ) → list_all p front ≡ true → p b ≡ false → prefix_len p (front ++ b ∷ rest) ≡ length front
 prefix_of p [] b rest all stops = rw stops refl
 prefix_of p (x ∷ xs) b rest all stops =
-    let both = both_true (p x) (list_all p xs) all in rw (both.0, prefix_of p xs b rest both.1 stops) (omega arith)
+    let both = and_parts (p x) (list_all p xs) all in rw (both.0, prefix_of p xs b rest both.1 stops) (omega arith)
 
 prefix_whole : (p : ℕ → Bool) (front : List ℕ) → list_all p front ≡ true → prefix_len p front ≡ length front
 prefix_whole p [] all = refl
 prefix_whole p (x ∷ xs) all =
-    let both = both_true (p x) (list_all p xs) all in rw (both.0, prefix_whole p xs both.1) (omega arith)
+    let both = and_parts (p x) (list_all p xs) all in rw (both.0, prefix_whole p xs both.1) (omega arith)
 
 -- ---- the first word
 
@@ -46,7 +41,7 @@ pub first_takes : (line : List ℕ) (x : List ℕ × List ℕ) → first_word li
 unfolding first_word
 first_takes line x e =
     let n = position_or_len is_space line in
-    let h = some_where (nat_lt n (length line)) (take n line, drop (n + 1) line) x e in
+    let h = cond_some (nat_lt n (length line)) (take n line, drop (n + 1) line) x e in
     let within : n < length line = ltb-true n (length line) h.0 in
     let at : get_or line n 0 ≡ space = eqb-true (get_or line n 0) space (passes_at_first is_space line 0 within) in
     split_at_first is_space line 0 within ∙ ap (λ (b : ℕ). take n line ++ b ∷ drop (n + 1) line) at
@@ -54,17 +49,11 @@ first_takes line x e =
 
 -- ---- the last word
 
-reverse_all : (p : ℕ → Bool) (xs : List ℕ) → list_all p xs ≡ true → list_all p (reverse xs) ≡ true
-reverse_all p [] all = refl
-reverse_all p (x ∷ xs) all =
-    let both = both_true (p x) (list_all p xs) all in
-    rw (reverse-append (x ∷ []) xs) (all_append p (reverse xs) (x ∷ []) (reverse_all p xs both.1) (rw both.0 refl))
-
 last_len : (front word : List ℕ) → IsWord word → suffix_len is_not_space (front ++ space ∷ word) ≡ length word
 last_len front word is =
     let turned : reverse (front ++ space ∷ word) ≡ reverse word ++ space ∷ reverse front =
     reverse-append front (space ∷ word) ∙ ap (λ (l : List ℕ). l ++ reverse front) (reverse-append (space ∷ []) word) ∙ append_one (reverse word) space (reverse front) in
-    rw turned (prefix_of is_not_space (reverse word) space (reverse front) (reverse_all is_not_space word is) refl ∙ length-reverse word) where
+    rw turned (prefix_of is_not_space (reverse word) space (reverse front) (list_all_reverse is_not_space word is) refl ∙ length-reverse word) where
       append_one : (xs : List ℕ) (b : ℕ) (ys : List ℕ) → (xs ++ b ∷ []) ++ ys ≡ xs ++ b ∷ ys
       append_one [] b ys = refl
       append_one (x ∷ xs) b ys = ap (λ l. x ∷ l) (append_one xs b ys)
@@ -100,17 +89,14 @@ last_or_none (b ∷ bs) =
 last_none : (line : List ℕ) → IsWord line → last_word line ≡ None
 unfolding last_word
 last_none line is =
-    let whole : suffix_len is_not_space line ≡ length line = prefix_whole is_not_space (reverse line) (reverse_all is_not_space line is) ∙ length-reverse line in
+    let whole : suffix_len is_not_space line ≡ length line = prefix_whole is_not_space (reverse line) (list_all_reverse is_not_space line is) ∙ length-reverse line in
     rw (whole, le-ltb (length line) (length line) (omega arith)) refl
-
-none_some : {A : Type 0} (o : Option A) (x : A) → o ≡ None → o ≡ Some x → ⊥
-none_some o x n e = absurd cc
 
 pub last_takes : (line : List ℕ) (x : List ℕ × List ℕ) → last_word line ≡ Some x → IsWord x.1 × (line ≡ x.0 ++ space ∷ x.1)
 last_takes line x e =
     elim (last_or_none line) [
-      | inl whole ↦ absurd (none_some (last_word line) x (last_none line whole) e)
+      | inl whole ↦ absurd (none_and_some (last_word line) x (last_none line whole) e)
       | inr has ↦
-          let same : (has.front, has.word) ≡ x = some_is (has.front, has.word) x (sym (last_again has.front has.word has.is) ∙ sym (ap last_word has.spelled) ∙ e) in
+          let same : (has.front, has.word) ≡ x = same_Some (has.front, has.word) x (sym (last_again has.front has.word has.is) ∙ sym (ap last_word has.spelled) ∙ e) in
           subst (λ (y : List ℕ × List ℕ). IsWord y.1 × (line ≡ y.0 ++ space ∷ y.1)) same (has.is, has.spelled)
     ]

@@ -8,9 +8,11 @@ use Rattle.std.proofs.lemmas.List.{append-nil, take_all}
 use Rattle.std.proofs.lemmas.List.Sums.{AllPass-from_list_all}
 use Rattle.std.proofs.lemmas.Fmt.{digits_decimal, digits_value-decimal, decimal_nonempty, length-decimal-le}
 use Rattle.std.proofs.lemmas.Str.Parse.{IsNumeralModel, numerals_by_value}
+use Rattle.std.proofs.lemmas.Option.{same_Some}
 use Rattle.annex_base.specs.RepoText.{repo_text}
 use Rattle.annex_base.specs.StampText.{IsStamp, stamp_text}
 use Rattle.annex_base.proofs.StampLemmas.{stamp_written}
+use Rattle.annex_base.proofs.Lists.{list_all_append, nil_cons}
 use Rattle.log_lines.specs.declared.entry.LogKind.{LogKind}
 use Rattle.log_lines.specs.declared.entry.LogKind.TheVariants as kinds
 use Rattle.log_lines.specs.declared.entry.Topic.{Topic}
@@ -19,9 +21,8 @@ use Rattle.log_lines.specs.declared.entry.Value.TheVariants as values
 use Rattle.log_lines.specs.declared.entry.Entry.{Entry}
 use Rattle.log_lines.specs.LineText.{space, is_not_space, stamp_mark, EndsMarked, BeginsStamped, Ends, IsLocationLine, IsRepoLine, IsLevelBody, IsTextBody, IsGroupBody, IsUngroupedLine, IsGroupLine, IsGroupTextLine, IsNumber, IsNumberLine, IsStatus, HasForm, IsLine, HasLine, topic_text, value_text, spaced_value, stamp_first, stamp_last, location_text, repo_line_text, group_line_text, number_line_text, line_text}
 use Rattle.log_lines.specs.Reading.{last_word}
-use Rattle.log_lines.proofs.Steps.{some_is}
 use Rattle.log_lines.proofs.NumberLemmas.{nine_digits_below}
-use Rattle.log_lines.proofs.WordLemmas.{all_append, last_again}
+use Rattle.log_lines.proofs.WordLemmas.{last_again}
 use Rattle.log_lines.proofs.StampLemmas.{stamp_below}
 use Rattle.log_lines.proofs.FormLemmas.{single_all, single_none}
 use Rattle.log_lines.proofs.PlainLemmas.{Plain, plain_append, plain_nil, plain_low, digits_plain, stamp_plain, plain_before, plain_after}
@@ -174,17 +175,14 @@ last_plain line front None ends = plain_nil
 last_plain line front (Some time) ends =
     plain_append (space ∷ stamp_mark) (stamp_text time) (plain_low (space ∷ stamp_mark) refl) (stamp_plain (stamp_text time) time (stamp_written time (stamp_below ends.stamp time ends.is)))
 
-nothing : (x : ℕ) (xs : List ℕ) → [] ≡ x ∷ xs → ⊥
-nothing x xs e = cc
-
 -- after the last space stands one word
 two_words : (a b : List ℕ × List ℕ) → Some a ≡ Some b → a.1 ≡ b.1
-two_words a b e = ap (λ (x : List ℕ × List ℕ). x.1) (some_is a b e)
+two_words a b e = ap (λ (x : List ℕ × List ℕ). x.1) (same_Some a b e)
 
 space_unmarked : (repo : List ℕ) → ¬ EndsMarked (repo ++ (space ∷ []))
 space_unmarked repo = λ has.
-    let last = sym (last_again repo [] refl) ∙ ap last_word has.spelled ∙ last_again has.front (stamp_mark ++ has.rest) (all_append is_not_space stamp_mark has.rest refl has.word) in
-    nothing 116 _ (two_words (repo, []) (has.front, stamp_mark ++ has.rest) last)
+    let last = sym (last_again repo [] refl) ∙ ap last_word has.spelled ∙ last_again has.front (stamp_mark ++ has.rest) (list_all_append is_not_space stamp_mark has.rest refl has.word) in
+    nil_cons 116 _ (two_words (repo, []) (has.front, stamp_mark ++ has.rest) last)
 
 same_unmarked : (line repo body body' : List ℕ) → ¬ EndsMarked line → line ≡ repo ++ body → SameBody body' body → ¬ EndsMarked (repo ++ body')
 same_unmarked line repo body body' other spelled same =

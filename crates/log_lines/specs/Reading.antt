@@ -3,10 +3,10 @@ use Rattle.std.specs.Prelude.{ℕ, ◌+◌, ◌-◌, ◌==◌, Bool, true, false
 use Rattle.std.specs.Char.{is_ascii_digit}
 use Rattle.std.specs.List.{list_all, position_or_len, suffix_len, starts_with, slice_split}
 use Rattle.std.specs.Option.{is_some, option_map}
-use Rattle.std.specs.Str.{is_utf8, bytes_eq}
+use Rattle.std.specs.Str.{is_utf8}
 use Rattle.std.specs.Str.Parse.{digits_value}
-use Rattle.uuid.specs.Text.{parsed}
-use Rattle.annex_base.specs.RepoText.{repo_text}
+use Rattle.annex_base.specs.OptionSteps.{◌>>=◌}
+use Rattle.annex_base.specs.RepoText.{repo_of}
 use Rattle.annex_base.specs.StampReading.{stamp_of}
 use Rattle.annex_base.specs.declared.kinds.Level.{Level}
 use Rattle.annex_base.specs.declared.kinds.Level.TheVariants as levels
@@ -17,11 +17,6 @@ use Rattle.log_lines.specs.declared.entry.Value.{Value}
 use Rattle.log_lines.specs.declared.entry.Value.TheVariants as values
 use Rattle.log_lines.specs.declared.entry.Entry.{Entry}
 use Rattle.log_lines.specs.LineText.{space, newline, is_not_space, is_group, stamp_mark}
-
-infixl 10 ◌>>=◌
-abbrev pub ◌>>=◌ : {A B : Type 0} → Option A → (A → Option B) → Option B
-None >>= f = None
-(Some x) >>= f = f x
 
 abbrev pub is_space : ℕ → Bool
 is_space b = b == space
@@ -54,10 +49,6 @@ end_of line (Some x) = option_map (λ time. (x.0, Some time)) (stamp_of x.1)
 
 unfoldable pub stamp_end : List ℕ → Option (List ℕ × Option ℕ)
 stamp_end line = end_of line (mark_at line)
-
--- the identifier that the text spells
-unfoldable pub repo_of : List ℕ → Option (List ℕ)
-repo_of text = parsed text >>= λ id. if bytes_eq text (repo_text id) then Some id else None
 
 -- the identifier in front
 unfoldable pub repo_front : List ℕ → Option (List ℕ × List ℕ)

@@ -1,8 +1,9 @@
 //! The laws. Each is the contract of a function that does nothing.
 
-ghost use Rattle.std.specs.Prelude.{◌≡◌, ◌≢◌, ◌↔◌, ℕ, List, [], ◌∷◌, ◌++◌, Some, None};
+ghost use Rattle.std.specs.Prelude.{◌≡◌, ◌≢◌, ◌↔◌, ℕ, List, [], ◌∷◌, ◌++◌, map, Some, None};
 ghost use Rattle.std.specs.declared.cmp.Ordering.TheVariants.{Equal};
 ghost use Rattle.std.specs.Cmp.{IsTotalOrder};
+ghost use Rattle.std.specs.List.Sorted.{IsStrictlySortedBy};
 ghost use Rattle.annex_base.specs.Lists.{Member};
 ghost use Rattle.log_lines.specs.declared.entry.LogKind.{LogKind};
 ghost use Rattle.log_lines.specs.declared.entry.LogKind.TheVariants as kinds;
@@ -10,7 +11,7 @@ ghost use Rattle.log_lines.specs.declared.entry.Topic.{Topic};
 ghost use Rattle.log_lines.specs.declared.entry.Entry.{Entry};
 ghost use Rattle.log_lines.specs.Files.{file_name, kind_named};
 ghost use Rattle.log_lines.specs.LineText.{IsLine};
-ghost use Rattle.log_lines.specs.Newest.{topic_cmp, entry_cmp, newer, IsNewest, IsReading, ReadAlike, newest, newest_of, newest_stamp, next_stamp, greatest_stamp, compacted};
+ghost use Rattle.log_lines.specs.Newest.{topic_cmp, entry_cmp, newer, IsNewest, IsReading, ReadAlike, newest, entry_at, newest_of, newest_stamp, next_stamp, greatest_stamp, compacted};
 ghost use Rattle.log_lines.specs.Keeping.{Says, HasNewer, SameLines, Keeps};
 
 /// A file's name tells its kind: of each kind but that of location logs there is one file (git-annex internals).
@@ -37,6 +38,12 @@ pub fn readings_are_exact()
         → (newest_of kind lines topic ≡ Some e) ↔ (IsNewest kind lines e × (e.topic ≡ topic)) }
     ensures nothing { (kind : LogKind) (lines : List (List ℕ)) (topic : Topic)
         → (newest_of kind lines topic ≡ None) ↔ ((e : Entry) → Says kind lines e → e.topic ≢ topic) }
+{}
+
+/// Of entries in order of topic, one a topic, the entry of a topic is the one among them that speaks of it (own).
+pub fn entries_are_found_by_topic()
+    ensures { (es : List Entry) (topic : Topic) (e : Entry) → IsStrictlySortedBy topic_cmp (map (λ e. e.topic) es)
+        → (entry_at es topic ≡ Some e) ↔ (Member e es × (e.topic ≡ topic)) }
 {}
 
 /// What lines say depends on which they are, and neither on their order nor on how often each stands there (git-annex

@@ -29,8 +29,8 @@ pub use entry::{Entry, LogKind, Topic, Value};
 pub use group_list::GroupList;
 pub use index::Newest;
 pub use laws::{
-    compaction_keeps_the_reading, file_names_are_exact, next_entries_are_read, order_is_total,
-    readings_are_exact, readings_depend_on_the_set,
+    compaction_keeps_the_reading, entries_are_found_by_topic, file_names_are_exact,
+    next_entries_are_read, order_is_total, readings_are_exact, readings_depend_on_the_set,
 };
 pub use one_topic::newest_of;
 pub use read::{lines_are_exact, read_line};

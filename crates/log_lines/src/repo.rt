@@ -2,7 +2,8 @@
 
 ghost use Rattle.std.specs.Prelude.{◌≡◌, length};
 ghost use Rattle.std.specs.Option.{option_map};
-ghost use Rattle.log_lines.specs.Reading.{repo_of, repo_front, repo_line};
+ghost use Rattle.annex_base.specs.RepoText.{repo_of};
+ghost use Rattle.log_lines.specs.Reading.{repo_front, repo_line};
 
 use crate::stamps::split_stamp_end;
 use annex_base::{RepoId, Stamp};
@@ -14,10 +15,7 @@ const REPO_LENGTH: usize = 36;
 pub(crate) fn repo_of(text: &[u8]) -> Option<RepoId>
     ensures { result ≡ repo_of text.now }
 {
-    match RepoId::parse(text) {
-        Ok(id) => Some(id),
-        Err(_) => None,
-    }
+    RepoId::parse(text).ok()
 }
 
 #[tactic(auto, unfolding(crate::specs::Reading::repo_front))]

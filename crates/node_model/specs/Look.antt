@@ -1,12 +1,12 @@
 -- What a turn finds beside the repository's own past, and what it makes of it.
-use Rattle.std.specs.Prelude.{ℕ, Bool, ◌&&◌, ◌==◌, if◌then◌else◌, List, [], ◌∷◌, Option, Some, None, find}
+use Rattle.std.specs.Prelude.{ℕ, Bool, ◌&&◌, if◌then◌else◌, List, [], ◌∷◌, Option, Some, None, find}
 use Rattle.std.specs.List.{list_any}
 use Rattle.annex_base.specs.declared.kinds.Call.TheVariants.{PutFile}
 use Rattle.run_data.specs.declared.entry.Entry.{Entry}
 use Rattle.run_data.specs.declared.entry.EntryKind.{EntryKind}
 use Rattle.run_data.specs.declared.entry.FrameView.{FrameView}
 use Rattle.annex_base.specs.declared.kinds.Call.{Call}
-use Rattle.annex_base.specs.declared.kinds.Call.TheVariants as calls
+use Rattle.annex_base.specs.Calls.{same_call}
 use Rattle.annex_base.specs.declared.kinds.Word.{Word}
 use Rattle.node_model.specs.Ends.{EndName, End, may_take, takes_at}
 
@@ -41,25 +41,6 @@ waiting c k a = find (λ f. takes_at a f && may_take c f) k.at_hand
 abbrev pub first_some : {X Y : Type 0} → (X → Option Y) → List X → Option Y
 first_some f [] = None
 first_some f (x ∷ xs) = first_of (f x) (first_some f xs)
-
-abbrev pub call_number : Call → ℕ
-call_number calls.Has = 0
-call_number calls.Size = 1
-call_number calls.Read = 2
-call_number calls.PartSize = 3
-call_number calls.ReadPart = 4
-call_number calls.Append = 5
-call_number calls.Commit = 6
-call_number calls.DropPart = 7
-call_number calls.Remove = 8
-call_number calls.Hold = 9
-call_number calls.Unhold = 10
-call_number calls.Holds = 11
-call_number calls.PutFile = 12
-call_number calls.File = 13
-
-abbrev pub same_call : Call → Call → Bool
-same_call c d = call_number c == call_number d
 
 -- the one of these calls that fails
 abbrev pub failing : Option Call → List Call → Option Call

@@ -170,7 +170,7 @@ on_remove_before h n key = if nat_lt (now_of h) (1000 * n) then on_remove h key 
 
 abbrev pub on_put : Here → List ℕ → Reply
 on_put h key =
-    tries h (to_offer (is_here h key) (h.filled key)) refuses
+    tries h (to_offer h.part (is_here h key) (h.filled key)) refuses
     (reply (Talk None) (put_answer h.part (is_here h key) (h.filled key)))
 
 -- a request, of a session that waits for one and speaks this version

@@ -1,40 +1,23 @@
 -- A line that is read as a message is that message's line.
 use Rattle.std.proofs.Common.{◌≡◌, ℕ, suc, Bool, true, false, List, [], ◌∷◌, Option, Some, None, refl, sym, ap, ◌∙◌, arith}
-use Rattle.std.specs.Prelude.{◌^◌, ◌&&◌, if◌then◌else◌, nat_lt, nat_le, length, codes, bytes_eq, option_map, option_and_then, is_none}
+use Rattle.std.specs.Prelude.{◌^◌, ◌&&◌, if◌then◌else◌, nat_lt, nat_le, length, codes, bytes_eq, option_map, is_none}
 use Rattle.std.specs.List.{position_or_len}
 use Rattle.std.specs.Fmt.{decimal}
 use Rattle.std.specs.Str.{is_utf8}
 use Rattle.std.specs.Str.Parse.{digits_value}
-use Rattle.std.proofs.lemmas.Bool.{eqb-true}
+use Rattle.std.proofs.lemmas.Bool.{eqb-true, and_parts}
 use Rattle.std.proofs.lemmas.Slice.Eq.{bytes_eq-Decides}
+use Rattle.std.proofs.lemmas.Option.{same_Some}
 use Rattle.annex_base.specs.RepoText.{repo_text}
 use Rattle.annex_key.specs.View.{first_fault}
 use Rattle.annex_base.specs.RepoText.{repo_of}
 use Rattle.annex_base.proofs.RepoLemmas.{repo_takes}
+use Rattle.annex_base.proofs.Options.{map_some, bind_some, where_some}
 use Rattle.p2p_wire.specs.declared.message.Message.{Message}
 use Rattle.p2p_wire.specs.declared.message.Message.TheVariants.{AuthSuccess, Version, CheckPresent, LockContent, UnlockContent, Remove, RemoveBefore, GetTimestamp, Timestamp, Get, Put, PutFrom, AlreadyHave, Data, Valid, Invalid, Success, Failure, Error}
 use Rattle.p2p_wire.specs.Messages.{◌⊳◌, alone, is_space, key_in, message_by, message_of, number_in, rest_in, text_in, text_of, then_in, with_file, with_key, with_number, with_one, word_in}
 
 -- ---- steps that may fail
-
-some_is : {X : Type 0} (x y : X) → Some x ≡ Some y → x ≡ y
-some_is x y e = cc
-
-map_some : {X Y : Type 0} (o : Option X) (f : X → Y) (y : Y) → option_map f o ≡ Some y → (x : X) × (o ≡ Some x) × (f x ≡ y)
-map_some None f y e = absurd cc
-map_some (Some x) f y e = (x, refl, cc)
-
-then_some : {X Y : Type 0} (o : Option X) (f : X → Option Y) (y : Y) → option_and_then f o ≡ Some y → (x : X) × (o ≡ Some x) × (f x ≡ Some y)
-then_some None f y e = absurd cc
-then_some (Some x) f y e = (x, refl, e)
-
-where_some : {X : Type 0} (b : Bool) (o : Option X) (y : X) → (if b then o else None) ≡ Some y → (b ≡ true) × (o ≡ Some y)
-where_some true o y e = (refl, e)
-where_some false o y e = absurd cc
-
-both_true : (a b : Bool) → (a && b) ≡ true → (a ≡ true) × (b ≡ true)
-both_true true b h = (refl, h)
-both_true false b h = absurd cc
 
 -- ---- a line is its first word, and the rest behind a space
 
@@ -47,7 +30,7 @@ with_rest (b ∷ bs) rest e = go (with_rest bs rest) (is_space b) refl
   where
     go : (rest_in bs ≡ Some rest → word_in bs ⊳ rest ≡ bs) → (t : Bool) → is_space b ≡ t → word_in (b ∷ bs) ⊳ rest ≡ b ∷ bs
     go more true is =
-        let same : bs ≡ rest = some_is bs rest (rw is at e) in
+        let same : bs ≡ rest = same_Some bs rest (rw is at e) in
         rw is (ap (λ (x : ℕ). x ∷ rest) (sym (eqb-true b 32 is)) ∙ ap (λ xs. b ∷ xs) (sym same))
     go more false is = rw (later b bs is) (ap (λ xs. b ∷ xs) (more (rw (later b bs is) at e)))
 
@@ -62,8 +45,8 @@ without_rest (b ∷ bs) e = go (without_rest bs) (is_space b) refl
 then_is : {X Y : Type 0} (first : List ℕ → Option X) (second : X → List ℕ → Option Y) (text : List ℕ) (y : Y) → then_in first second text ≡ Some y
     → (x : X) × (rest : List ℕ) × (first (word_in text) ≡ Some x) × (second x rest ≡ Some y) × (word_in text ⊳ rest ≡ text)
 then_is first second text y e =
-    let r = then_some (rest_in text) _ y e in
-    let x = then_some (first (word_in text)) _ y r.2 in
+    let r = bind_some (rest_in text) _ y e in
+    let x = bind_some (first (word_in text)) _ y r.2 in
     (x.0, r.0, x.1, x.2, with_rest text r.0 r.1)
 
 -- ---- what is read of a word
@@ -71,13 +54,13 @@ then_is first second text y e =
 number_is : (word : List ℕ) (n : ℕ) → number_in word ≡ Some n → decimal n ≡ word
 number_is word n e =
     let x = where_some (nat_lt (digits_value 10 word) (2 ^ 63) && bytes_eq (decimal (digits_value 10 word)) word) (Some (digits_value 10 word)) n e in
-    ap decimal (sym (some_is (digits_value 10 word) n x.1)) ∙ (bytes_eq-Decides (decimal (digits_value 10 word)) word).0 (both_true _ _ x.0).1
+    ap decimal (sym (same_Some (digits_value 10 word) n x.1)) ∙ (bytes_eq-Decides (decimal (digits_value 10 word)) word).0 (and_parts _ _ x.0).1
 
 key_is : (text key : List ℕ) → key_in text ≡ Some key → key ≡ text
-key_is text key e = sym (some_is text key (where_some (is_none (first_fault text)) (Some text) key e).1)
+key_is text key e = sym (same_Some text key (where_some (is_none (first_fault text)) (Some text) key e).1)
 
 utf8_is : (text read : List ℕ) → text_in text ≡ Some read → read ≡ text
-utf8_is text read e = sym (some_is text read (where_some (is_utf8 text) (Some text) read e).1)
+utf8_is text read e = sym (same_Some text read (where_some (is_utf8 text) (Some text) read e).1)
 
 id_is : (text id : List ℕ) → repo_of text ≡ Some id → repo_text id ≡ text
 id_is text id e = sym (repo_takes text id e).1
@@ -95,7 +78,7 @@ named {P = P} word name one other m this else' e = go (bytes_eq word name) refl
 
 -- it stands alone
 said : (word name : List ℕ) (one m : Message) → text_of one ≡ name → word ≡ name → Some one ≡ Some m → text_of m ≡ word
-said word name one m text is same = ap text_of (sym (some_is one m same)) ∙ text ∙ sym is
+said word name one m text is same = ap text_of (sym (same_Some one m same)) ∙ text ∙ sym is
 
 -- one thing follows it
 with_thing : {X : Type 0} (read : List ℕ → Option X) (write : X → List ℕ) → ((text : List ℕ) (x : X) → read text ≡ Some x → write x ≡ text)
@@ -130,7 +113,7 @@ file_is : (make : List ℕ → List ℕ → Message) (text : List ℕ) (m : Mess
 file_is make text m e =
     let t = then_is (λ (word : List ℕ). Some word) (λ file rest. option_map (make file) (key_in rest)) text m e in
     let k = map_some (key_in t.1) (make t.0) m t.3 in
-    (t.0, k.0, k.2, ap (λ (r : List ℕ). t.0 ⊳ r) (key_is t.1 k.0 k.1) ∙ ap (λ (w : List ℕ). w ⊳ t.1) (sym (some_is (word_in text) t.0 t.2)) ∙ t.4)
+    (t.0, k.0, k.2, ap (λ (r : List ℕ). t.0 ⊳ r) (key_is t.1 k.0 k.1) ∙ ap (λ (w : List ℕ). w ⊳ t.1) (sym (same_Some (word_in text) t.0 t.2)) ∙ t.4)
 
 before_is : (word rest : List ℕ) (m : Message) → word ≡ codes "REMOVE-BEFORE" → with_number RemoveBefore rest ≡ Some m → text_of m ≡ word ⊳ rest
 before_is word rest m is e =

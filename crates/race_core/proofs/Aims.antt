@@ -26,6 +26,7 @@ use Rattle.node_model.specs.Jobs.{AsksLock, AsksLook, Drops, Fresh, GetsData, Ge
 use Rattle.run_model.specs.States.{rows_at, works, state_of}
 use Rattle.annex_base.specs.Lists.{Member}
 use Rattle.annex_base.specs.declared.kinds.Word.{Word}
+use Rattle.annex_base.proofs.Conditions.{if_either}
 use Rattle.run_data.specs.declared.job.Job.{Job}
 use Rattle.run_data.specs.declared.job.JobKind.{JobKind}
 use Rattle.run_data.specs.declared.job.JobKind.TheVariants as kinds
@@ -37,20 +38,19 @@ use Rattle.race_core.proofs.StepFacts.{kind_found}
 use Rattle.race_core.proofs.PhaseFacts.{readies_place}
 use Rattle.race_core.proofs.JobSteps.{Origin, invariant}
 use Rattle.race_core.proofs.WorkFits.{step_runs}
-use Rattle.race_core.proofs.Cases.{if_found}
 
 -- it stays at its part, or is a move
 abbrev Turns : Work → Work → Type 0
 Turns w x = (x.part ≡ w.part) ⊎ (is_move w.what.kind ≡ true)
 
 transferred_turns : (w : Work) (o : Outcome) → Turns w (transferred w o)
-transferred_turns w o = if_found (Turns w) (Jobs.is_move w.what.kind) (record w { part = Drops; phase = Fresh; fills = false }) (record w { phase = Jobs.Ends o; fills = false }) (λ e. inr e) (λ e. inl refl)
+transferred_turns w o = if_either (Turns w) (Jobs.is_move w.what.kind) (record w { part = Drops; phase = Fresh; fills = false }) (record w { phase = Jobs.Ends o; fills = false }) (λ e. inr e) (λ e. inl refl)
 
 closed_turns : (r : ℕ) (w : Work) (peer : ℕ) (part : Part) → Turns w (closed_part r w peer part)
 closed_turns r w peer Gets = inl refl
 closed_turns r w peer Puts = inl refl
 closed_turns r w peer Drops =
-    if_found (Turns w) (target_of r w == peer) (Jobs.to_phase w (Jobs.Ends (outcomes.Refused (refusals.Lost (Jobs.is_ordered w.phase))))) (Jobs.hears w peer (Jobs.Lacks causes.Closed)) (λ e. inl refl) (λ e. inl refl)
+    if_either (Turns w) (target_of r w == peer) (Jobs.to_phase w (Jobs.Ends (outcomes.Refused (refusals.Lost (Jobs.is_ordered w.phase))))) (Jobs.hears w peer (Jobs.Lacks causes.Closed)) (λ e. inl refl) (λ e. inl refl)
 
 word_turns : (w : Work) (word : Option Message) (phase : Phase) → Turns w (word_taken w word phase)
 word_turns w word (GetsWord peer start size) = inl refl
@@ -111,7 +111,7 @@ talks_turns rows r w e [] = hears_turns rows r w e.taken
 on_turns : (rows : Rows) (r : ℕ) (w : Work) (e : Entry) (p : Option ℕ) → Turns w (talks_on rows r w e p)
 on_turns rows r w e None = talks_turns rows r w e e.sent
 on_turns rows r w e (Some peer) =
-    if_found (Turns w) (end_after (job_end w peer) (rows.ends (job_end w peer)) e).opened (talks rows r w e e.sent) (closed_part r w peer w.part)
+    if_either (Turns w) (end_after (job_end w peer) (rows.ends (job_end w peer)) e).opened (talks rows r w e e.sent) (closed_part r w peer w.part)
     (λ h. talks_turns rows r w e e.sent) (λ h. closed_turns r w peer w.part)
 
 fault_turns : (r : ℕ) (w : Work) (part : Part) (side : Side) (phase : Phase) → Turns w (fault_phase r w part side phase)

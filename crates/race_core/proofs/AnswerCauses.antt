@@ -2,6 +2,7 @@
 use Rattle.std.proofs.Common.{◌≡◌, ℕ, Bool, true, false, List, [], Option, Some, None, ◌⊎◌, inl, inr, refl, sym, ap, ◌∙◌, subst}
 use Rattle.std.specs.Prelude.{◌||◌, ◌&&◌, bytes_eq, option_map, slice_get}
 use Rattle.std.specs.List.{list_any}
+use Rattle.std.proofs.lemmas.Bool.{and_parts}
 use Rattle.annex_base.specs.declared.kinds.Found.TheVariants as found
 use Rattle.annex_base.specs.declared.kinds.Word.{Word}
 use Rattle.run_data.specs.declared.entry.Entry.{Entry}
@@ -22,7 +23,7 @@ use Rattle.node_model.specs.SetUp.{SetUp, served}
 use Rattle.run_model.specs.States.{state_of, works}
 use Rattle.node_model.specs.Ends.{server_end}
 use Rattle.run_model.specs.Words.{word_of, word_of_kind, word_told}
-use Rattle.node_model.specs.Jobs.{Denied, running}
+use Rattle.node_model.specs.Jobs.{running}
 use Rattle.node_model.specs.Knows.{denial_of}
 use Rattle.node_model.specs.DropStep
 use Rattle.node_model.specs.SessionStep.{is_filled, session_fills}
@@ -37,7 +38,6 @@ use Rattle.race_core.proofs.DeniedWords.{DeniedAt, DeniedBy, denied_words}
 use Rattle.race_core.proofs.RefusalCauses.{DropSettled, Ending, drop_settled, ending, ending_words, job_of, transfer_settled}
 use Rattle.race_core.proofs.Own.{Meets, MessagePast}
 use Rattle.race_core.proofs.Flights.{occurs_always}
-use Rattle.race_core.proofs.Plain.{and_true}
 use Rattle.race_core.proofs.EpochJobs.{any_member}
 
 -- ---- what is left: answers fit their requests
@@ -75,7 +75,7 @@ order_fails None key kind x = x
 order_fails (Some n) key kind x = x
 
 pub own_of : (r j : ℕ) (e : Entry) → is_job r j e ≡ true → is_of r e ≡ true
-own_of r j e h = (and_true (is_of r e) _ h).0
+own_of r j e h = (and_parts (is_of r e) _ h).0
 
 module _ (s : SetUp) (past : List Entry) (words : ℕ → Option Word) (e : Entry) (h : OwnPast s past) (own : OwnPart s past words e) (j : ℕ) where
   abbrev r : ℕ

@@ -14,6 +14,8 @@ use Rattle.run_data.specs.declared.row.Hold.{Hold}
 use Rattle.run_model.specs.Past.{bar, clock, holds, present}
 use Rattle.node_model.specs.Rows.{blocks, is_blocked}
 use Rattle.std.specs.List.{list_any}
+use Rattle.std.proofs.lemmas.Bool.{and_parts, eqb-true}
+use Rattle.annex_base.proofs.Lists.{find_member}
 use Rattle.drop_proof.specs.declared.rule.Need.{Need}
 use Rattle.drop_proof.specs.Judging.{least_end}
 use Rattle.run_model.specs.States.{works, state_of}
@@ -31,16 +33,14 @@ use Rattle.node_model.specs.Look.{Look, Made, entry_of}
 use Rattle.node_model.specs.Step.{step}
 use Rattle.node_model.specs.Found.{BySession, GivesAt, InTime, TakesAt, agrees}
 use Rattle.race_core.proofs.ServerAnswers.{MayBar, MayRemove, MayObey, MayShare, OwnFree, SaysYes}
-use Rattle.race_core.proofs.Plain.{and_true, eqb_true}
-use Rattle.race_core.proofs.Cases.{find_was}
 use Rattle.race_core.proofs.StepFacts.{bar_found, removes_found, check_found, obeyed_found, own_share_found, share_found}
 
 -- what a server's end takes is listed with its peer and slot, on the way up
 end_takes_from : (peer slot : ℕ) (f : FrameView) → takes_at (server_end peer slot) f ≡ true → (f.peer ≡ peer) × (f.slot ≡ slot) × (f.up ≡ true)
 end_takes_from peer slot f e =
-    let two = and_true ((f.peer == peer) && (f.slot == slot)) (same_bool false (if f.up then false else true)) e in
-    let first = and_true (f.peer == peer) (f.slot == slot) two.0 in
-    (eqb_true f.peer peer first.0, eqb_true f.slot slot first.1, up f.up two.1)
+    let two = and_parts ((f.peer == peer) && (f.slot == slot)) (same_bool false (if f.up then false else true)) e in
+    let first = and_parts (f.peer == peer) (f.slot == slot) two.0 in
+    (eqb-true f.peer peer first.0, eqb-true f.slot slot first.1, up f.up two.1)
   where
     up : (b : Bool) → same_bool false (if b then false else true) ≡ true → b ≡ true
     up true h = refl
@@ -54,7 +54,7 @@ line_epoch c f m told may = go f.body told may
     go Opening told may = absurd (cc)
     go Closing told may = absurd (cc)
     go (Bytes n) told may = absurd (cc)
-    go (Line text) told may = sym (eqb_true f.epoch c.epoch (and_true c.opened (f.epoch == c.epoch) may).1)
+    go (Line text) told may = sym (eqb-true f.epoch c.epoch (and_parts c.opened (f.epoch == c.epoch) may).1)
 
 back_is : (r peer slot epoch : ℕ) (f : FrameView) → f.peer ≡ peer → f.slot ≡ slot → f.up ≡ true → epoch ≡ f.epoch
     → Path Way (record { client = peer; server = r; slot = slot; up = false; epoch = epoch }) (down_of (way_of r f))
@@ -156,7 +156,7 @@ module _ (s : SetUp) (past : List Entry) (k : Look) (m : Made) (e : step s (stat
         unheld = subst (λ q. is_blocked (holds past s.number) q (clock s.repos past s.number k.time) ≡ false) (sym f.key_is)
             (unheld_is (holds past s.number) (blocks w.what.key (clock s.repos past s.number k.time)) f.unheld);
         w = w;
-        runs = (find_was (λ v. v.slot == x.by.slot) (works past s.number) w x.by.runs).0;
+        runs = (find_member (λ v. v.slot == x.by.slot) (works past s.number) w x.by.runs).0;
         number_is = f.number_is;
         first = f.first;
         dropping = f.part_is;
@@ -173,7 +173,7 @@ module _ (s : SetUp) (past : List Entry) (k : Look) (m : Made) (e : step s (stat
       let both : by_job j ≡ by_job w.number = f.by_is in
       record {
         w = w;
-        runs = (find_was (λ v. v.slot == x.by.slot) (works past s.number) w x.by.runs).0;
+        runs = (find_member (λ v. v.slot == x.by.slot) (works past s.number) w x.by.runs).0;
         number_is = cc;
         next = f.next;
         dropping = f.part_is;

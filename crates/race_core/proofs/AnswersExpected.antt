@@ -2,6 +2,7 @@
 -- FAILURE, to GETTIMESTAMP a TIMESTAMP.
 use Rattle.std.proofs.Common.{◌≡◌, ℕ, true, false, List, Option, Some, None, ◌⊎◌, inl, inr, refl, sym, ap, ◌∙◌, subst}
 use Rattle.std.specs.Prelude.{option_map}
+use Rattle.std.proofs.lemmas.Option.{same_Some}
 use Rattle.annex_base.specs.Lists.{Each}
 use Rattle.run_data.specs.declared.entry.Entry.{Entry}
 use Rattle.run_data.specs.declared.entry.EntryKind.{EntryKind}
@@ -18,7 +19,6 @@ use Rattle.run_model.specs.Frames.{Flying, last_request, said_of, up_of, way_of}
 use Rattle.node_model.specs.Sessions.{line_in}
 use Rattle.node_model.specs.Jobs.{AsksLock, AsksLook, AsksTime, Orders, Phase, PutsAnswer, partner}
 use Rattle.run_model.specs.Run.{RunPast, RunStep, set_up}
-use Rattle.race_core.proofs.Plain.{some_inj}
 use Rattle.race_core.proofs.SaidDown.{Alike, said_is}
 use Rattle.race_core.proofs.SessionAnswers.{AnswerFits, Answering}
 use Rattle.race_core.proofs.ClientCounts.{LastIs, Request, request}
@@ -105,10 +105,10 @@ module _ (key : List ℕ) (target : Option ℕ) (peer : ℕ) (kind : EntryKind) 
   word time m i last = yes_or_no m kind a.m k i (subst (λ q. AnswerFits q kind a.m) (last_asked o r asked time m is said last) a.fits) a.alike
 
   expects : (phase : Phase) → partner target phase ≡ Some peer → LastIs key target phase peer (option_map asked_by o) → Expects phase k
-  expects (AsksLock p since) on last = word since (LockContent key) tt (last (some_inj p peer on))
-  expects (AsksLook p) on last = let x = last (some_inj p peer on) in word x.0 (CheckPresent key) tt x.1
+  expects (AsksLock p since) on last = word since (LockContent key) tt (last (same_Some p peer on))
+  expects (AsksLook p) on last = let x = last (same_Some p peer on) in word x.0 (CheckPresent key) tt x.1
   expects Orders on last = let x = last on in word x.0 (order_of x.1 key) (order_asked x.1 key) x.2
-  expects (PutsAnswer p start) on last = let x = last (some_inj p peer on) in word x.0 Valid tt x.1
+  expects (PutsAnswer p start) on last = let x = last (same_Some p peer on) in word x.0 Valid tt x.1
   expects AsksTime on last = let x = last on in times_only kind a.m k (subst (λ q. AnswerFits q kind a.m) (last_asked o r asked x.0 GetTimestamp is said x.1) a.fits) a.alike
   expects phase on last = tt
 

@@ -2,6 +2,7 @@
 -- that the request may have.
 use Rattle.std.proofs.Common.{◌≡◌, ℕ, true, false, List, [], ◌∷◌, length, Some, inl, inr, refl, sym, ap, ◌∙◌, subst}
 use Rattle.std.specs.Prelude.{slice_get}
+use Rattle.std.proofs.lemmas.Option.{same_Some}
 use Rattle.annex_base.specs.Lists.{Each}
 use Rattle.run_data.specs.declared.entry.Entry.{Entry}
 use Rattle.run_data.specs.declared.entry.EntryKind.{EntryKind}
@@ -17,7 +18,7 @@ use Rattle.run_model.specs.Frames.{Flying, MayTake, last_request, said_of, sende
 use Rattle.run_model.specs.Run.{RunPast, RunStep, set_up}
 use Rattle.race_core.proofs.SaidDown.{Alike}
 use Rattle.race_core.proofs.SessionAnswers.{AnswerFits, Answering}
-use Rattle.race_core.proofs.Flights.{sending, some_inj}
+use Rattle.race_core.proofs.Flights.{sending}
 use Rattle.race_core.proofs.Turns.{right_turn}
 use Rattle.race_core.proofs.Told.{message_at, one_answers, prefixes, sends_member, sends_on, up_at, way_sent, way_up}
 use Rattle.race_core.proofs.AnswerCauses.{FailsFor, FailuresFit}
@@ -93,11 +94,11 @@ module _ (run : Run) (repos : Each IsSetUp run.repos) where
   failure_of past h r x before o is f takes down says' it next =
       let at = step_at run past x before h o in
       let may = (part_of (set_up run) before x r at.0 is).frames.takes f takes in
-      subst (λ (z : Flying). AnswerOf before r f z Failure) (some_inj may.it it (sym may.next ∙ next)) (answer_of run repos before x r f Failure at.1 at.0 is takes down says' refl may)
+      subst (λ (z : Flying). AnswerOf before r f z Failure) (same_Some may.it it (sym may.next ∙ next)) (answer_of run repos before x r f Failure at.1 at.0 is takes down says' refl may)
 
   -- **a FAILURE says what its sender found**
   pub failures_fit : (past : List Entry) → RunPast (set_up run) past → FailuresFit past
   failures_fit past h r x before o is f takes down says' asked it last next =
       let y = failure_of past h r x before o is f takes down says' it next in
-      let same : y.request ≡ asked = some_inj y.request asked (sym y.last ∙ last) in
+      let same : y.request ≡ asked = same_Some y.request asked (sym y.last ∙ last) in
       subst (λ q. FailsFor q it.entry.kind) (sym y.asked_is ∙ ap said_of same) (fails_for y.asked it.entry.kind (failure_fits y.asked it.entry.kind y.answering))

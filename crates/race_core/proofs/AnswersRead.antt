@@ -1,6 +1,7 @@
 -- Each line that goes down is read, within the bounds of a run.
 use Rattle.std.proofs.Common.{◌≡◌, ℕ, ◌≤◌, List, [], ◌∷◌, Some, ◌⊎◌, inl, inr, sym, ap, ◌∙◌, subst}
 use Rattle.annex_base.specs.Lists.{Member}
+use Rattle.annex_base.proofs.Lists.{Each-member, Member-filter_from}
 use Rattle.run_data.specs.declared.entry.Entry.{Entry}
 use Rattle.run_data.specs.declared.entry.FrameView.{FrameView}
 use Rattle.run_data.specs.declared.entry.FrameText.{FrameText}
@@ -13,7 +14,6 @@ use Rattle.run_model.specs.States.{end_at, session, state_of}
 use Rattle.node_model.specs.SessionStep.{here, on_frame}
 use Rattle.race_core.proofs.BySteps.{ByStep}
 use Rattle.run_model.specs.Run.{OwnPast}
-use Rattle.race_core.proofs.Plain.{each_member, filter_member}
 use Rattle.race_core.proofs.ServerEnds.{GivesHere, ServerDoes, Shuts, TakesHere, server_does}
 use Rattle.race_core.proofs.EndEpochs.{sends_is}
 use Rattle.race_core.proofs.SessionReads.{SaysRead, frame_read, gives_read}
@@ -40,8 +40,8 @@ read_step s past words e h bound is part g text m u b = go (server_does s past w
         (gives_read s past h part.known x.k x.part_small (subst (λ n. n ≤ 1000000000000) x.time_is bound.in_time) (server_end p q) (session past s.number (server_end p q)).doing x.x x.next) g text m b
 
     shut : ((p q : ℕ) → Shuts (server_end p q) e) → g.body ≡ Closing
-    shut x = each_member (λ (h : FrameView). h.body ≡ Closing) (sent_at (server_end g.peer g.slot) e.sent) g (x g.peer g.slot).closes
-        (filter_member (sends_at (server_end g.peer g.slot)) e.sent g m (sends_is (server_end g.peer g.slot) g (λ i. record { peer = g.peer; slot = g.slot; client = u i })))
+    shut x = Each-member (λ (h : FrameView). h.body ≡ Closing) (sent_at (server_end g.peer g.slot) e.sent) g (x g.peer g.slot).closes
+        (Member-filter_from (sends_at (server_end g.peer g.slot)) e.sent g m (sends_is (server_end g.peer g.slot) g (λ i. record { peer = g.peer; slot = g.slot; client = u i })))
 
     go : ServerDoes s past e → (k : Message) × (message_of text ≡ Some k)
     go (inl x) = at_end x.0 x.1 x.3

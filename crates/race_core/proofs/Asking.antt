@@ -4,6 +4,7 @@ use Rattle.std.proofs.Common.{◌≡◌, ◌≢◌, ℕ, Bool, true, false, List
 use Rattle.std.specs.Prelude.{◌==◌}
 use Rattle.annex_base.specs.declared.kinds.Call.{Call}
 use Rattle.annex_base.specs.declared.kinds.Call.TheVariants.{PutFile, Unhold}
+use Rattle.annex_base.proofs.Conditions.{if_either}
 use Rattle.drop_proof.specs.declared.rule.Side.{Side}
 use Rattle.drop_proof.specs.declared.rule.Side.TheVariants.{Remote}
 use Rattle.run_data.specs.declared.entry.Entry.{Entry}
@@ -25,7 +26,6 @@ use Rattle.node_model.specs.Jobs.{AsksLock, AsksLook, AsksTime, Drops, Fresh, Ge
 use Rattle.node_model.specs.Look.{Made}
 use Rattle.node_model.specs.JobStep.{Turn, end_with}
 use Rattle.node_model.specs.Found.{JobKind}
-use Rattle.race_core.proofs.Cases.{if_found}
 use Rattle.race_core.proofs.ReadAs.{SameHead}
 use Rattle.race_core.proofs.TalkFacts.{Apart, Chosen, Fits, DropAsks, PartSays, SaysOne, TalkKind}
 use Rattle.race_core.proofs.PhaseFacts.{only_word, readies_place}
@@ -124,7 +124,7 @@ module _ (t : Turn) (e : Entry) where
     closed_comes r peer Gets is = absurd (let no_part : Gets ≡ Drops = is in cc)
     closed_comes r peer Puts is = absurd (let no_part : Puts ≡ Drops = is in cc)
     closed_comes r peer Drops is =
-        if_found (Comes w) (target_of r w == peer) (to_phase w (Jobs.Ends (outcomes.Refused (refusals.Lost (Jobs.is_ordered w.phase))))) (Jobs.hears w peer (Jobs.Lacks causes.Closed))
+        if_either (Comes w) (target_of r w == peer) (to_phase w (Jobs.Ends (outcomes.Refused (refusals.Lost (Jobs.is_ordered w.phase))))) (Jobs.hears w peer (Jobs.Lacks causes.Closed))
         (λ h. away w (to_phase w (Jobs.Ends (outcomes.Refused (refusals.Lost (Jobs.is_ordered w.phase))))) refl) (λ h. away w (Jobs.hears w peer (Jobs.Lacks causes.Closed)) refl)
 
     puts_comes : (k : ℕ) (phase : Phase) → w.phase ≡ phase → Fits Drops phase → Comes w (to_phase w (Jobs.puts_bytes k phase))
@@ -184,7 +184,7 @@ module _ (t : Turn) (e : Entry) where
     on_comes : (rows : Rows) (r : ℕ) (p : Option ℕ) → w.part ≡ Drops → Comes w (talks rows r w e e.sent) → Comes w (talks_on rows r w e p)
     on_comes rows r None part said = said
     on_comes rows r (Some peer) part said =
-        if_found (Comes w) (end_after (job_end w peer) (rows.ends (job_end w peer)) e).opened (talks rows r w e e.sent) (closed_part r w peer w.part)
+        if_either (Comes w) (end_after (job_end w peer) (rows.ends (job_end w peer)) e).opened (talks rows r w e e.sent) (closed_part r w peer w.part)
         (λ h. said) (λ h. closed_comes r peer w.part part)
 
   fault_comes : (r : ℕ) (w : Work) (part : Part) (side : Side) (phase : Phase) → Comes w (fault_phase r w part side phase)

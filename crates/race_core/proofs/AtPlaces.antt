@@ -14,12 +14,12 @@ use Rattle.run_data.specs.declared.run.Run.{Run}
 use Rattle.run_data.specs.declared.run.RepoView.{RepoView}
 use Rattle.node_model.specs.Evidence.{is_locked, is_trusted}
 use Rattle.annex_base.specs.Lists.{Member}
+use Rattle.annex_base.proofs.Lists.{list_all_member}
+use Rattle.annex_base.proofs.Conditions.{bytes_eq-refl}
 use Rattle.run_model.specs.Past.{present}
 use Rattle.run_model.specs.Safety.{Removal, all_stand, backed, claim, is_gone, judged, least_need, owned, past_at, stands, within}
 use Rattle.run_model.specs.Run.{IsRun}
 use Rattle.race_core.specs.Places.{claim_at, count_at, removal_at, removals_at}
-use Rattle.race_core.proofs.Lists.{all-Member}
-use Rattle.race_core.proofs.Changes.{bytes_refl}
 use Rattle.race_core.proofs.Pasts.{past_more}
 use Rattle.race_core.proofs.FromStep.{runs_are_safe}
 
@@ -58,7 +58,7 @@ item_stands : (run : Run) (key : List ℕ) (place : ℕ) (e : Entry) (x : Remova
     → Member item x.items → stands run.repos (past_at run (place + 1)) key item ≡ true
 item_stands run key place e x item h at is m =
     subst (λ past. stands run.repos past key item ≡ true) (sym (past_next run place e at))
-    (all-Member (stands run.repos (e ∷ past_at run place) key) item x.items stand m)
+    (list_all_member (stands run.repos (e ∷ past_at run place) key) x.items item stand m)
   where
     left : backed run.repos (e ∷ past_at run place) key ≡ true
     left = subst (λ past. backed run.repos past key ≡ true) (past_next run place e at) ((runs_are_safe run h).kept key (place + 1))
@@ -88,7 +88,7 @@ one_drop run key place e by h at kind = judged_some (removal_at run key place e)
         go (is_gone key e.kind) gone k
       where
         gone : is_gone key e.kind ≡ true
-        gone = rw kind (bytes_refl key)
+        gone = rw kind (bytes_eq-refl key)
 
         go : (b : Bool) → b ≡ true → (not b || judged (removal_at run key place e)) ≡ true → judged (removal_at run key place e) ≡ true
         go true e' k = k

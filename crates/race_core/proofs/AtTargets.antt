@@ -1,6 +1,7 @@
 -- A remote drop that stands at its target knows enough, and what it read is fixed from the first step of its drop.
 use Rattle.std.proofs.Common.{◌≡◌, ◌≢◌, ℕ, Bool, true, false, List, [], ◌∷◌, Some, ◌⊎◌, inl, inr, refl, sym, ap, ◌∙◌, subst}
 use Rattle.std.specs.Prelude.{◌&&◌, length}
+use Rattle.std.proofs.lemmas.Bool.{and_from, or_left, or_right}
 use Rattle.annex_base.specs.Lists.{Member}
 use Rattle.annex_base.specs.Settings.{Settings}
 use Rattle.drop_proof.specs.declared.rule.Need.{Need}
@@ -22,7 +23,6 @@ use Rattle.node_model.specs.Jobs.{Drops, Fresh, Gets, Heard, Part, Phase, Puts, 
 use Rattle.node_model.specs.Knows.{is_unasked, offer_by, standing_of}
 use Rattle.race_core.proofs.Knowing.{knows_enough}
 use Rattle.run_model.specs.Run.{OwnPast}
-use Rattle.race_core.proofs.Plain.{both_true, or_left, or_right}
 use Rattle.race_core.proofs.JobKept.{kind_kept}
 use Rattle.race_core.proofs.PhaseFacts.{GoodTo, is_fresh}
 use Rattle.race_core.proofs.JobSteps.{Origin, Steps, invariant, turn_at}
@@ -99,7 +99,7 @@ module _ (s : SetUp) where
 
       new : b.by.w.part ≢ Drops → in_drop (e ∷ p) s.number x.number ≡ true
       new apart = or_right (in_drop p s.number x.number) (is_of s.number e && starts_drop p s.number x.number e e.kind)
-          (both_true (is_of s.number e) (starts_drop p s.number x.number e e.kind) is (moves_begun s p e r is x b apart part))
+          (and_from (is_of s.number e) (starts_drop p s.number x.number e e.kind) is (moves_begun s p e r is x b apart part))
 
       go : (q : Part) → b.by.w.part ≡ q → in_drop (e ∷ p) s.number x.number ≡ true
       go Drops at = or_left (in_drop p s.number x.number) (is_of s.number e && starts_drop p s.number x.number e e.kind) (subst (λ n. in_drop p s.number n ≡ true) (sym number) (was at))

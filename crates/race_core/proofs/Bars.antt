@@ -1,12 +1,13 @@
 -- The bar of a local drop that is under way stands on its key until it removes the content or ends.
 use Rattle.std.proofs.Common.{◌≡◌, ◌≢◌, ℕ, true, false, List, ◌∷◌, Option, Some, None, ◌⊎◌, inl, inr, refl, sym, ap, ◌∙◌, subst, arith}
 use Rattle.std.specs.Prelude.{◌==◌, bytes_eq}
-use Rattle.std.specs.Cmp.Lexicographic.{bytes_decides}
 use Rattle.std.proofs.lemmas.Bool.Decides.{nat_tests}
 use Rattle.annex_base.specs.Lists.{Member}
 use Rattle.annex_base.specs.declared.kinds.Call.{Call}
 use Rattle.annex_base.specs.declared.kinds.Call.TheVariants.{PutFile, Unhold}
 use Rattle.annex_base.specs.declared.kinds.Word.{Word}
+use Rattle.annex_base.proofs.Lists.{find_member}
+use Rattle.annex_base.proofs.Conditions.{if_either, bytes_eq-true, bytes_eq-refl}
 use Rattle.drop_proof.specs.declared.rule.Need.{Need}
 use Rattle.drop_proof.specs.declared.rule.Side.{Side}
 use Rattle.drop_proof.specs.declared.rule.Side.TheVariants.{Local, Remote}
@@ -30,7 +31,6 @@ use Rattle.node_model.specs.Look.{Made}
 use Rattle.node_model.specs.JobStep.{Turn, key_of}
 use Rattle.run_model.specs.Run.{IsStep, OwnPart, OwnRun}
 use Rattle.node_model.specs.Found.{JobKind}
-use Rattle.race_core.proofs.Cases.{find_was, if_found}
 use Rattle.race_core.proofs.JobKept.{kind_kept}
 use Rattle.race_core.proofs.StepFacts.{bar_found, kind_found, removes_found}
 use Rattle.race_core.proofs.TalkFacts.{Fits, TalkKind, under_way}
@@ -41,12 +41,6 @@ use Rattle.race_core.proofs.WorkFits.{step_kind, step_runs, step_talk, steps_goo
 -- a local drop that is under way has its bar
 abbrev pub Barring : ℕ → List Entry → Work → Type 0
 Barring r past w = w.part ≡ Drops → side_of w ≡ Local → under_way w.phase ≡ true → bar past r w.what.key ≡ Some w.number
-
-same_key : (a b : List ℕ) → bytes_eq a b ≡ true → a ≡ b
-same_key a b e = (bytes_decides a b).0 e
-
-key_same : (a : List ℕ) → bytes_eq a a ≡ true
-key_same a = (bytes_decides a a).1 refl
 
 local_not_remote : (side : Side) → side ≡ Local → side ≡ Remote → ⊥
 local_not_remote side l r = let no_side : Local ≡ Remote = sym l ∙ r in cc
@@ -120,7 +114,7 @@ gone_bar s past words e own barring by key is = elim (own.does) [
     step x = elim (kind_found s (state_of s past) x.look x.made (Gone by key) x.makes (sym (ap (λ (z : Entry). z.kind) x.is) ∙ is) (λ h. h)) [
       | inl y ↦ inl y.found.free
       | inr y ↦ (let w = y.by.w in
-          let runs = (find_was (λ v. v.slot == y.by.slot) (works past s.number) w y.by.runs).0 in
+          let runs = (find_member (λ v. v.slot == y.by.slot) (works past s.number) w y.by.runs).0 in
           let bars : bar past s.number w.what.key ≡ Some w.number = barring w runs y.found.part_is y.found.side (subst (λ p. under_way p ≡ true) (sym y.found.next) refl) in
           inr (w.number, y.found.by_is, subst (λ k. bar past s.number k ≡ Some w.number) (sym y.found.key_is) bars))
     ]
@@ -131,13 +125,13 @@ equal_off a b e f = grind (arith, nat_tests)
 stays_bar : (s : SetUp) (past : List Entry) (words : ℕ → Option Word) (e : Entry) → OwnPart s past words e → ((w : Work) → Member w (works past s.number) → Barring s.number past w)
     → (w : Work) → Stays s past e w → bar past s.number w.what.key ≡ Some w.number → (kind : EntryKind) → e.kind ≡ kind → bar_after w.what.key (Some w.number) kind ≡ Some w.number
 stays_bar s past words e own barring w stays bars (Bar j need key) is =
-    if_found (λ (b : Option ℕ). b ≡ Some w.number) (bytes_eq key w.what.key) (Some j) (Some w.number)
-    (λ same. let none : bar past s.number w.what.key ≡ None = subst (λ k. bar past s.number k ≡ None) (same_key key w.what.key same) (bar_free s past words e own j need key is) in
+    if_either (λ (b : Option ℕ). b ≡ Some w.number) (bytes_eq key w.what.key) (Some j) (Some w.number)
+    (λ same. let none : bar past s.number w.what.key ≡ None = subst (λ k. bar past s.number k ≡ None) (bytes_eq-true key w.what.key same) (bar_free s past words e own j need key is) in
     let both : Some w.number ≡ None = sym bars ∙ none in absurd (cc))
     (λ same. refl)
 stays_bar s past words e own barring w stays bars (Gone by key) is =
-    if_found (λ (b : Option ℕ). b ≡ Some w.number) (bytes_eq key w.what.key) None (Some w.number)
-    (λ same. absurd (go (same_key key w.what.key same) (gone_bar s past words e own barring by key is)))
+    if_either (λ (b : Option ℕ). b ≡ Some w.number) (bytes_eq key w.what.key) None (Some w.number)
+    (λ same. absurd (go (bytes_eq-true key w.what.key same) (gone_bar s past words e own barring by key is)))
     (λ same. refl)
   where
     go : key ≡ w.what.key → (bar past s.number key ≡ None) ⊎ ((j : ℕ) × (by ≡ by_job j) × (bar past s.number key ≡ Some j)) → ⊥
@@ -148,7 +142,7 @@ stays_bar s past words e own barring w stays bars (Gone by key) is =
         let still : is_step w.number (Gone by key) ≡ false = subst (λ k. is_step w.number k ≡ false) is stays.still in
         equal_off mine.0 w.number number (subst (λ b. is_step w.number (Gone b key) ≡ false) mine.1 still)
 stays_bar s past words e own barring w stays bars (ends_job job outcome) is =
-    if_found (λ (b : Option ℕ). b ≡ Some w.number) (w.number == job) None (Some w.number)
+    if_either (λ (b : Option ℕ). b ≡ Some w.number) (w.number == job) None (Some w.number)
     (λ same. let number : w.number ≡ job = grind (arith, nat_tests) in absurd (stays.goes_on outcome (is ∙ ap (λ n. ends_job n outcome) (sym number))))
     (λ same. refl)
 stays_bar s past words e own barring w stays bars (Crash clock) is = absurd (stays.no_crash clock is)
@@ -184,7 +178,7 @@ bars_stand s past run w m =
         bar_by : (p : List Entry) (e : Entry) (v : Work)
             → ((need : Need) × (e.kind ≡ Bar v.number need v.what.key)) ⊎ ((under_way v.phase ≡ true) × ((key : List ℕ) (was : Option ℕ) → bar_after key was e.kind ≡ was))
             → (under_way v.phase ≡ true → bar p s.number v.what.key ≡ Some v.number) → bar_after v.what.key (bar p s.number v.what.key) e.kind ≡ Some v.number
-        bar_by p e v (inl puts) was = ap (bar_after v.what.key (bar p s.number v.what.key)) puts.1 ∙ rw (key_same v.what.key) refl
+        bar_by p e v (inl puts) was = ap (bar_after v.what.key (bar p s.number v.what.key)) puts.1 ∙ rw (bytes_eq-refl v.what.key) refl
         bar_by p e v (inr keeps) was = keeps.1 v.what.key (bar p s.number v.what.key) ∙ was keeps.0
 
 -- a removal by a job stands under the job's bar
@@ -199,7 +193,7 @@ removal_barred s past words e run own j key is = elim (own.does) [
     step x =
         let y = removes_found s (state_of s past) x.look x.made x.makes j key (sym (ap (λ (z : Entry). z.kind) x.is) ∙ is) in
         let w = y.by.w in
-        let runs = (find_was (λ v. v.slot == y.by.slot) (works past s.number) w y.by.runs).0 in
+        let runs = (find_member (λ v. v.slot == y.by.slot) (works past s.number) w y.by.runs).0 in
         let bars : bar past s.number w.what.key ≡ Some w.number = bars_stand s past run w runs y.found.part_is y.found.side (subst (λ p. under_way p ≡ true) (sym y.found.next) refl) in
         let both : by_job j ≡ by_job w.number = y.found.by_is in
         let number : w.number ≡ j = cc in

@@ -1,8 +1,9 @@
 -- What a job carries from entry to entry: the version that its peer answered, that it fills a key, and the causes of a get.
-use Rattle.std.proofs.Common.{◌≡◌, ℕ, ◌+◌, ◌-◌, Bool, true, false, List, [], ◌∷◌, ◌++◌, Option, Some, None, ◌⊎◌, inl, inr, refl, sym, ap, ◌∙◌, subst}
+use Rattle.std.proofs.Common.{◌≡◌, ℕ, Bool, true, false, List, [], ◌∷◌, ◌++◌, Option, Some, None, ◌⊎◌, inl, inr, refl, sym, ap, ◌∙◌, subst}
 use Rattle.std.specs.Prelude.{if◌then◌else◌, ◌==◌}
 use Rattle.annex_base.specs.declared.kinds.Call.{Call}
 use Rattle.annex_base.specs.declared.kinds.Call.TheVariants.{Unhold, PutFile}
+use Rattle.annex_base.proofs.Conditions.{if_either}
 use Rattle.drop_proof.specs.declared.rule.Side.{Side}
 use Rattle.drop_proof.specs.declared.rule.Side.TheVariants.{Remote}
 use Rattle.run_data.specs.declared.entry.Entry.{Entry}
@@ -26,7 +27,6 @@ use Rattle.node_model.specs.Sessions.{line_in}
 use Rattle.node_model.specs.Ends.{end_after}
 use Rattle.node_model.specs.Jobs
 use Rattle.node_model.specs.Jobs.{AsksLock, AsksLook, Drops, Ends, Fresh, GetsData, GetsWord, Gets, Greets, Next, Orders, Part, Phase, Puts, PutsAnswer, PutsOffer, Rows, Work, claims, closed_part, fault_of, fault_phase, first_look, gained, hears_frame, is_move, job_end, learns, listens, partner, quiet, says, says_some, sends, side_of, source_cause, talks, talks_on, taken_message, target_of, to_phase, took, took_line, transferred, unreleased, word_taken, work_kind}
-use Rattle.race_core.proofs.Cases.{if_found}
 use Rattle.race_core.proofs.EndReasons.{Like, SaysFirst, ShutOn, shut_like, shut_same, talker_like}
 
 -- a peer gave a get nothing: the connection with it is closed; or the job answers its word by FAILURE
@@ -69,13 +69,13 @@ module _ (rows : Rows) (r : ℕ) (e : Entry) where
   stays w = (refl, (λ f. f), inl refl, inr refl)
 
   transferred_keeps : (w : Work) (o : Outcome) → Keeps w (transferred w o)
-  transferred_keeps w o = if_found (Keeps w) (is_move w.what.kind) (record w { part = Drops; phase = Fresh; fills = false }) (record w { phase = Ends o; fills = false })
+  transferred_keeps w o = if_either (Keeps w) (is_move w.what.kind) (record w { part = Drops; phase = Fresh; fills = false }) (record w { phase = Ends o; fills = false })
       (λ h. (refl, (λ f. let no' : false ≡ true = f in cc), inl refl, inr refl)) (λ h. (refl, (λ f. let no' : false ≡ true = f in cc), inl refl, inr refl))
 
   closed_keeps : (w : Work) (x : ShutOn rows w e) (part : Part) → w.part ≡ part → Keeps w (closed_part r w x.peer part)
   closed_keeps w x Gets is = (refl, (λ f. f), inr (inl (record { peer = x.peer; cause = sources.Closed; list = refl; gets = is; on = x.on; next = refl; why = (refl, x, refl) })), inr refl)
   closed_keeps w x Puts is = same w _
-  closed_keeps w x Drops is = if_found (Keeps w) (target_of r w == x.peer) (to_phase w (Ends (Refused (refusals.Lost (Jobs.is_ordered w.phase))))) (Jobs.hears w x.peer (Jobs.Lacks causes.Closed)) (λ h. same w _) (λ h. (refl, (λ f. f), inl refl, inl refl))
+  closed_keeps w x Drops is = if_either (Keeps w) (target_of r w == x.peer) (to_phase w (Ends (Refused (refusals.Lost (Jobs.is_ordered w.phase))))) (Jobs.hears w x.peer (Jobs.Lacks causes.Closed)) (λ h. same w _) (λ h. (refl, (λ f. f), inl refl, inl refl))
 
   word_keeps : (w : Work) (phase : Phase) → w.phase ≡ phase → SaysFirst e Failure → Keeps w (word_taken w (taken_message e.taken) phase)
   word_keeps w (GetsWord peer start size) is h = (refl, (λ f. f), inr (inr (record { peer = peer; start = start; size = size; phase_is = is; list = refl; next = refl; says = h })), inr refl)
@@ -150,7 +150,7 @@ module _ (rows : Rows) (r : ℕ) (e : Entry) where
 
   pub on_keeps : (w : Work) (p : Option ℕ) → partner w.what.peer w.phase ≡ p → Keeps w (talks_on rows r w e p)
   on_keeps w None on = talks_keeps w e.sent refl
-  on_keeps w (Some peer) on = if_found (Keeps w) (end_after (job_end w peer) (rows.ends (job_end w peer)) e).opened (talks rows r w e e.sent) (closed_part r w peer w.part)
+  on_keeps w (Some peer) on = if_either (Keeps w) (end_after (job_end w peer) (rows.ends (job_end w peer)) e).opened (talks rows r w e e.sent) (closed_part r w peer w.part)
       (λ h. talks_keeps w e.sent refl) (λ h. closed_keeps w (record { peer = peer; on = on; closed = h }) w.part refl)
 
   unreleased_keeps : (w : Work) (time : ℕ) (phase : Phase) → Keeps w (unreleased w time phase)
@@ -207,7 +207,7 @@ claims_fill w Gets Fresh is at f = inr (is, at)
 claims_fill w part phase is at f = inl f
 
 learns_carry : (v : Work) (phase : Phase) (taken : Option FrameView) → ((learns v phase taken).fills ≡ v.fills) × ((learns v phase taken).causes ≡ v.causes) × ((learns v phase taken).heard ≡ v.heard)
-learns_carry v (Greets peer) (Some f) = if_found (λ (y : Work). (y.fills ≡ v.fills) × (y.causes ≡ v.causes) × (y.heard ≡ v.heard)) (option_is v.what.peer peer) (record v { version = Jobs.version_said v.version (line_in f.body) }) v (λ e. (refl, refl, refl)) (λ e. (refl, refl, refl))
+learns_carry v (Greets peer) (Some f) = if_either (λ (y : Work). (y.fills ≡ v.fills) × (y.causes ≡ v.causes) × (y.heard ≡ v.heard)) (option_is v.what.peer peer) (record v { version = Jobs.version_said v.version (line_in f.body) }) v (λ e. (refl, refl, refl)) (λ e. (refl, refl, refl))
 learns_carry v phase taken = (refl, refl, refl)
 
 keeps_on : (rows : Rows) (w : Work) (e : Entry) (x : Work) → Carries rows w e x → CarriesOn rows w e x

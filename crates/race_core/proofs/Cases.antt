@@ -1,6 +1,5 @@
 -- Cases of what a step may be.
-use Rattle.std.proofs.Common.{◌≡◌, Bool, true, false, List, [], ◌∷◌, Option, Some, None, ◌⊎◌, inl, inr, refl, sym, ◌∙◌, subst}
-use Rattle.std.specs.Prelude.{find, if◌then◌else◌}
+use Rattle.std.proofs.Common.{◌≡◌, List, [], ◌∷◌, Option, Some, None, ◌⊎◌, inl, inr, refl, ◌∙◌}
 use Rattle.annex_base.specs.declared.kinds.Call.{Call}
 use Rattle.annex_base.specs.Lists.{Member}
 use Rattle.node_model.specs.Look.{first_of, first_some, unless}
@@ -9,10 +8,6 @@ use Rattle.node_model.specs.Look.{first_of, first_some, unless}
 pub unless_found : {X : Type 0} (P : X → Type 0) (c : Option Call) (fault : Call → X) (x : X) → ((call : Call) → P (fault call)) → P x → P (unless c fault x)
 unless_found P None fault x f g = g
 unless_found P (Some c) fault x f g = f c
-
-pub if_found : {X : Type 0} (P : X → Type 0) (b : Bool) (x y : X) → (b ≡ true → P x) → (b ≡ false → P y) → P (if b then x else y)
-if_found P true x y f g = f refl
-if_found P false x y f g = g refl
 
 pub first_was : {X : Type 0} (x y : Option X) (z : X) → first_of x y ≡ Some z → (x ≡ Some z) ⊎ (y ≡ Some z)
 first_was None y z e = inr e
@@ -27,14 +22,3 @@ some_was {X = X} {Y = Y} f (x ∷ xs) y e = go (λ g. some_was f xs y g) (f x) r
         → (z : X) × (Member z (x ∷ xs)) × (f z ≡ Some y)
     go more None is g = let w = more (rw is at g) in (w.0, inr w.1, w.2)
     go more (Some z) is g = (x, inl refl, is ∙ (rw is at g))
-
-pub find_was : {X : Type 0} (q : X → Bool) (xs : List X) (x : X) → find q xs ≡ Some x → Member x xs × (q x ≡ true)
-find_was q [] x e = absurd (cc)
-find_was {X = X} q (y ∷ ys) x e = go (λ g. find_was q ys x g) (q y) refl e
-  where
-    go : (find q ys ≡ Some x → Member x ys × (q x ≡ true)) → (b : Bool) → q y ≡ b → find q (y ∷ ys) ≡ Some x → Member x (y ∷ ys) × (q x ≡ true)
-    go more true is g =
-        let h : Some y ≡ Some x = rw is at g in
-        let same : y ≡ x = cc in
-        (inl (sym same), subst (λ z. q z ≡ true) same is)
-    go more false is g = let w = more (rw is at g) in (inr w.0, w.1)

@@ -2,6 +2,7 @@
 -- an entry here. That this is so in every run is RunCauses'.
 use Rattle.std.proofs.Common.{◌≡◌, ℕ, true, List, [], ◌∷◌, Option, Some, None, inl, inr, refl, sym, ◌∙◌, subst}
 use Rattle.std.specs.Prelude.{reverse}
+use Rattle.std.proofs.lemmas.Bool.{eqb-true}
 use Rattle.annex_base.specs.Lists.{Each, Member}
 use Rattle.annex_base.specs.Settings.{Settings}
 use Rattle.annex_base.specs.declared.kinds.Word.{Word}
@@ -32,7 +33,6 @@ use Rattle.race_core.proofs.RefusalCauses.{DropSettled, Ending, absent_found, ba
 use Rattle.race_core.proofs.ClosedCauses.{ShutsTold}
 use Rattle.race_core.proofs.ClosedFound.{InvalidsFit, OrdersTold, SourcesInOrder, closed_found, lost_found, no_source_found}
 use Rattle.race_core.proofs.Own.{MessagePast}
-use Rattle.race_core.proofs.Lists.{eqb_true}
 use Rattle.race_core.proofs.EvidenceCauses.{CausesTold, expired_found, lacking_found, old_found}
 use Rattle.race_core.proofs.AnswerCauses.{FailuresFit, SessionsFill, busy_found, denied_found, rejected_found}
 use Rattle.race_core.proofs.AnswersFit.{failures_fit}
@@ -123,7 +123,7 @@ module _ (s : SetUp) (past : List Entry) (words : ℕ → Option Word) (e : Entr
 
 same_repo : (o : Option ℕ) (a b : ℕ) → option_is o a ≡ true → option_is o b ≡ true → a ≡ b
 same_repo None a b p q = absurd (cc)
-same_repo (Some n) a b p q = sym (eqb_true n a p) ∙ eqb_true n b q
+same_repo (Some n) a b p q = sym (eqb-true n a p) ∙ eqb-true n b q
 
 -- **one entry**
 pub caused : (s : SetUp) (past : List Entry) (words : ℕ → Option Word) (e : Entry) → OwnPast s past → OwnPart s past words e → FramesPart past s.number words e → is_of s.number e ≡ true → MessagePast s.repos past → Grounds s past → IsCaused s.repos past e

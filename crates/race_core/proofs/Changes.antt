@@ -4,8 +4,9 @@ use Rattle.std.proofs.Common.{◌≡◌, ◌≢◌, ℕ, ◌+◌, ◌<◌, ◌�
 use Rattle.std.specs.Prelude.{bytes_eq, if◌then◌else◌, ◌==◌, nat_lt, nat_le, filter, map}
 use Rattle.std.specs.List.{list_any}
 use Rattle.std.specs.Cmp.Lexicographic.{bytes_decides}
-use Rattle.std.proofs.lemmas.Bool.{true≢false}
+use Rattle.std.proofs.lemmas.Bool.{true≢false, or_left, or_right, and_parts, eqb-true, or_cases, and_from, cases_Bool}
 use Rattle.std.proofs.lemmas.Bool.Decides.{nat_tests}
+use Rattle.std.proofs.lemmas.Option.{same_Some}
 use Rattle.annex_base.specs.declared.kinds.Call.TheVariants.{Unhold}
 use Rattle.annex_base.specs.declared.kinds.Found.{Found}
 use Rattle.annex_base.specs.declared.kinds.Found.TheVariants.{Present}
@@ -25,8 +26,10 @@ use Rattle.run_model.specs.Frames.{Sent, sender, is_job}
 use Rattle.run_model.specs.Drops.{Vouch, Lock, Look, look_of, vouch_kind, vouch, vouches, newer, Asker, asker, is_asker, asked_at, tells, told_by, reply}
 use Rattle.run_model.specs.Safety.{Removal, removal, removal_by, barred_removal, local_removal, remote_removal, ordered, sent_order, add_removal}
 use Rattle.annex_base.specs.Lists.{Member}
-use Rattle.race_core.proofs.Flights.{some_inj, occurs_vouch, occurs_vouches, sender_occurs}
-use Rattle.race_core.proofs.Lists.{eqb_refl, or_left, or_right, if_is, and_true, eqb_true, or_true, both, any_map, any_was_map, any_filter, any_was_filter, any_weaker, Member-append, Member-left, Member-right, true_or_false}
+use Rattle.annex_base.proofs.Conditions.{eqb_refl, if_is, bytes_eq-refl}
+use Rattle.annex_base.proofs.Lists.{list_any_weaker, Member-append_cases, Member-append_left, Member-append_right}
+use Rattle.race_core.proofs.Flights.{occurs_vouch, occurs_vouches, sender_occurs}
+use Rattle.race_core.proofs.Lists.{any_map, any_was_map, any_filter, any_was_filter}
 
 -- the entry takes the key away from r
 pub record TakesAway (e : Entry) (r : ℕ) (key : List ℕ) : Type 0 where
@@ -82,7 +85,7 @@ pub record Decides (e : Entry) (past : List Entry) (a j : ℕ) (d : Decision) : 
 decided-kind : (place j : ℕ) (was : Option Decision) (kind : EntryKind) (d : Decision) → decided_after place j was kind ≡ Some d → (was ≡ Some d) ⊎ ((kind ≡ Bar j d.need d.key) × (d.place ≡ place))
 decided-kind place j was (Bar job need k) d h =
     elim (if_is (job == j) (Some (record { place = place; key = k; need = need })) was (Some d) h) [
-      | inl t ↦ let it : job ≡ j = eqb_true job j t.0 in
+      | inl t ↦ let it : job ≡ j = eqb-true job j t.0 in
           let d_is : record { place = place; key = k; need = need } ≡ d = cc in
           inr (rw it (ap (λ x. Bar j x.need x.key) d_is), sym (ap (λ x. x.place) d_is))
       | inr t ↦ inl t.1
@@ -130,7 +133,7 @@ pub record Shares (e : Entry) (r : ℕ) (key : List ℕ) : Type 0 where
   pub kind_is : e.kind ≡ Share hold end owner key
 
 not_kept : (key : List ℕ) (clock : ℕ) (x : Hold) → blocks key clock (record x { kept = true }) ≡ true → blocks key clock x ≡ true
-not_kept key clock x k = let w = and_true (bytes_eq x.key key) (nat_lt clock x.end) k in both (bytes_eq x.key key) (not x.kept || nat_lt clock x.end) w.0 (or_right (not x.kept) (nat_lt clock x.end) w.1)
+not_kept key clock x k = let w = and_parts (bytes_eq x.key key) (nat_lt clock x.end) k in and_from (bytes_eq x.key key) (not x.kept || nat_lt clock x.end) w.0 (or_right (not x.kept) (nat_lt clock x.end) w.1)
 
 blocks-keep_of : (key : List ℕ) (clock : ℕ) (owner : By) (x : Hold) → blocks key clock (keep_of owner x) ≡ true → blocks key clock x ≡ true
 blocks-keep_of key clock owner x k = go (same_owner x.owner owner) k
@@ -141,8 +144,8 @@ blocks-keep_of key clock owner x k = go (same_owner x.owner owner) k
 
 blocked-kind : (was : List Hold) (key : List ℕ) (clock : ℕ) (kind : EntryKind) → is_blocked (holds_after was kind) key clock ≡ true
     → (is_blocked was key clock ≡ true) ⊎ (((hold : ℕ) × ((end : ℕ) × ((owner : By) × (kind ≡ Share hold end owner key)))) ⊎ ((to : ℕ) × (kind ≡ Crash to)))
-blocked-kind was key clock (Share hold end owner k) h = elim (or_true (bytes_eq k key && (not false || nat_lt clock end)) (is_blocked was key clock) h) [
-  | inl s ↦ let same : k ≡ key = (bytes_decides k key).0 (and_true (bytes_eq k key) true s).0 in inr (inl (hold, (end, (owner, ap (λ x. Share hold end owner x) same))))
+blocked-kind was key clock (Share hold end owner k) h = elim (or_cases (bytes_eq k key && (not false || nat_lt clock end)) (is_blocked was key clock) h) [
+  | inl s ↦ let same : k ≡ key = (bytes_decides k key).0 (and_parts (bytes_eq k key) true s).0 in inr (inl (hold, (end, (owner, ap (λ x. Share hold end owner x) same))))
   | inr s ↦ inl s
 ]
 blocked-kind was key clock (Release number k) h = inl (any_was_filter (blocks key clock) (λ x. not (x.number == number)) was h)
@@ -172,16 +175,16 @@ blocked_was e past r key clock h = go (is_of r e) refl h
 -- later, no more blocks
 blocks_earlier : (key : List ℕ) (c d : ℕ) → c ≤ d → (x : Hold) → blocks key d x ≡ true → blocks key c x ≡ true
 blocks_earlier key c d le x k =
-    let w = and_true (bytes_eq x.key key) (not x.kept || nat_lt d x.end) k in
-    both (bytes_eq x.key key) (not x.kept || nat_lt c x.end) w.0
-    (elim (or_true (not x.kept) (nat_lt d x.end) w.1) [ inl s ↦ or_left (not x.kept) (nat_lt c x.end) s | inr s ↦ or_right (not x.kept) (nat_lt c x.end) (less s) ])
+    let w = and_parts (bytes_eq x.key key) (not x.kept || nat_lt d x.end) k in
+    and_from (bytes_eq x.key key) (not x.kept || nat_lt c x.end) w.0
+    (elim (or_cases (not x.kept) (nat_lt d x.end) w.1) [ inl s ↦ or_left (not x.kept) (nat_lt c x.end) s | inr s ↦ or_right (not x.kept) (nat_lt c x.end) (less s) ])
   where
     less : nat_lt d x.end ≡ true → nat_lt c x.end ≡ true
     less s = grind (arith, nat_tests)
 
 pub unblocked_later : (hs : List Hold) (key : List ℕ) (c d : ℕ) → c ≤ d → is_blocked hs key c ≡ false → is_blocked hs key d ≡ false
-unblocked_later hs key c d le h = elim (true_or_false (is_blocked hs key d)) [
-  | inl s ↦ absurd (true≢false (sym (any_weaker (blocks key d) (blocks key c) (blocks_earlier key c d le) hs s) ∙ h))
+unblocked_later hs key c d le h = elim (cases_Bool (is_blocked hs key d)) [
+  | inl s ↦ absurd (true≢false (sym (list_any_weaker (blocks key d) (blocks key c) (blocks_earlier key c d le) hs s) ∙ h))
   | inr s ↦ s
 ]
 
@@ -218,16 +221,16 @@ lasts-other : (number until m : ℕ) (owner : By) (key : List ℕ) → (m == num
 lasts-other number until m owner key e x k = go (x.number == m) refl
   where
     is : x.number ≡ number
-    is = eqb_true x.number number (and_true (x.number == number) _ k).0
+    is = eqb-true x.number number (and_parts (x.number == number) _ k).0
 
     go : (b : Bool) → (x.number == m) ≡ b → not b ≡ true
     go false f = refl
-    go true f = let same : x.number ≡ m = eqb_true x.number m f in let it : m ≡ number = cc in let not_so : (number == number) ≡ false = rw it at e in absurd (true≢false (sym (eqb_refl number) ∙ not_so))
+    go true f = let same : x.number ≡ m = eqb-true x.number m f in let it : m ≡ number = cc in let not_so : (number == number) ≡ false = rw it at e in absurd (true≢false (sym (eqb_refl number) ∙ not_so))
 
 pub same_owner_true : (a b : By) → same_owner a b ≡ true → a ≡ b
 same_owner_true Script Script e = refl
-same_owner_true (by_job i) (by_job j) e = ap (λ x. by_job x) (eqb_true i j e)
-same_owner_true (Peer p s) (Peer q t) e = let w = and_true (p == q) (s == t) e in let one : p ≡ q = eqb_true p q w.0 in let two : s ≡ t = eqb_true s t w.1 in cc
+same_owner_true (by_job i) (by_job j) e = ap (λ x. by_job x) (eqb-true i j e)
+same_owner_true (Peer p s) (Peer q t) e = let w = and_parts (p == q) (s == t) e in let one : p ≡ q = eqb-true p q w.0 in let two : s ≡ t = eqb-true s t w.1 in cc
 same_owner_true Script (by_job j) e = cc
 same_owner_true Script (Peer q t) e = cc
 same_owner_true (by_job i) Script e = cc
@@ -238,11 +241,11 @@ same_owner_true (Peer p s) (by_job j) e = cc
 pub same_owner_refl : (a : By) → same_owner a a ≡ true
 same_owner_refl Script = refl
 same_owner_refl (by_job i) = eqb_refl i
-same_owner_refl (Peer p s) = both (p == p) (s == s) (eqb_refl p) (eqb_refl s)
+same_owner_refl (Peer p s) = and_from (p == p) (s == s) (eqb_refl p) (eqb_refl s)
 
 lasts-job : (number until : ℕ) (owner : By) (key : List ℕ) (job : ℕ) → same_owner owner (by_job job) ≡ false → (x : Hold) → lasts_one number until owner key x ≡ true → (x.kept || not (same_owner x.owner (by_job job))) ≡ true
 lasts-job number until owner key job e x k =
-    let is : x.owner ≡ owner = same_owner_true x.owner owner (and_true (same_owner x.owner owner) _ (and_true (x.number == number) _ k).1).0 in
+    let is : x.owner ≡ owner = same_owner_true x.owner owner (and_parts (same_owner x.owner owner) _ (and_parts (x.number == number) _ k).1).0 in
     rw (is, e) (or_right x.kept true refl)
 
 lasts-kind : (was : List Hold) (number until : ℕ) (owner : By) (key : List ℕ) (kind : EntryKind) → lasts was number until owner key ≡ true
@@ -252,7 +255,7 @@ lasts-kind was number until owner key (Release m k) h stands = go (m == number) 
   where
     go : (b : Bool) → (m == number) ≡ b → (lasts (filter (λ x. not (x.number == m)) was) number until owner key ≡ true)
         ⊎ (((k' : List ℕ) × (Release m k ≡ Release number k')) ⊎ ((job : ℕ) × ((outcome : Outcome) × ((Release m k ≡ End job outcome) × (owner ≡ by_job job) × (is_lost_ordered outcome ≡ false)))))
-    go true e = inr (inl (k, ap (λ x. Release x k) (eqb_true m number e)))
+    go true e = inr (inl (k, ap (λ x. Release x k) (eqb-true m number e)))
     go false e = inl (any_filter (lasts_one number until owner key) (λ x. not (x.number == m)) (lasts-other number until m owner key e) was h)
 lasts-kind was number until owner key (Close peer slot true) h stands = inl h
 lasts-kind was number until owner key (Close peer slot false) h stands = inl (any_map (lasts_one number until owner key) (keep_of (Peer peer slot)) (lasts-keep_of number until owner (Peer peer slot) key) was h)
@@ -291,27 +294,27 @@ lasts_crash e past r number was until owner key t le h = rw (t.repo_is, t.kind_i
 
     one : (x : Hold) → lasts_one number was owner key x ≡ true → lasts_one number until owner key (restart t.clock x) ≡ true
     one x k =
-        let a = and_true (x.number == number) _ k in
-        let b = and_true (same_owner x.owner owner) _ a.1 in
-        let c = and_true (bytes_eq x.key key) _ b.1 in
-        both (x.number == number) _ a.0 (both (same_owner x.owner owner) _ b.0 (both (bytes_eq x.key key) (nat_le until (t.clock + hold_time)) c.0 late))
+        let a = and_parts (x.number == number) _ k in
+        let b = and_parts (same_owner x.owner owner) _ a.1 in
+        let c = and_parts (bytes_eq x.key key) _ b.1 in
+        and_from (x.number == number) _ a.0 (and_from (same_owner x.owner owner) _ b.0 (and_from (bytes_eq x.key key) (nat_le until (t.clock + hold_time)) c.0 late))
 
     go : (xs : List Hold) → lasts xs number was owner key ≡ true → lasts (map (restart t.clock) xs) number until owner key ≡ true
     go [] k = k
-    go (x ∷ xs) k = elim (or_true (lasts_one number was owner key x) (lasts xs number was owner key) k) [
+    go (x ∷ xs) k = elim (or_cases (lasts_one number was owner key x) (lasts xs number was owner key) k) [
       | inl s ↦ or_left (lasts_one number until owner key (restart t.clock x)) (lasts (map (restart t.clock) xs) number until owner key) (one x s)
       | inr s ↦ or_right (lasts_one number until owner key (restart t.clock x)) (lasts (map (restart t.clock) xs) number until owner key) (go xs s)
     ]
 
 pub lasts-blocks : (hs : List Hold) (number until : ℕ) (owner : By) (key : List ℕ) (clock : ℕ) → clock < until → lasts hs number until owner key ≡ true → is_blocked hs key clock ≡ true
-lasts-blocks hs number until owner key clock lt h = any_weaker (lasts_one number until owner key) (blocks key clock) one hs h
+lasts-blocks hs number until owner key clock lt h = list_any_weaker (lasts_one number until owner key) (blocks key clock) one hs h
   where
     one : (x : Hold) → lasts_one number until owner key x ≡ true → blocks key clock x ≡ true
     one x k =
-        let w = and_true (bytes_eq x.key key) (nat_le until x.end) (and_true (same_owner x.owner owner) _ (and_true (x.number == number) _ k).1).1 in
+        let w = and_parts (bytes_eq x.key key) (nat_le until x.end) (and_parts (same_owner x.owner owner) _ (and_parts (x.number == number) _ k).1).1 in
         let le : nat_le until x.end ≡ true = w.1 in
         let less : nat_lt clock x.end ≡ true = grind (arith, nat_tests) in
-        both (bytes_eq x.key key) (not x.kept || nat_lt clock x.end) w.0 (or_right (not x.kept) (nat_lt clock x.end) less)
+        and_from (bytes_eq x.key key) (not x.kept || nat_lt clock x.end) w.0 (or_right (not x.kept) (nat_lt clock x.end) less)
 
 -- what an entry leaves alone, and what it makes
 
@@ -320,7 +323,7 @@ decided-keeps-kind : (place j : ℕ) (was : Option Decision) (kind : EntryKind) 
 decided-keeps-kind place j was (Bar job need k) d h = go (job == j) refl
   where
     go : (b : Bool) → (job == j) ≡ b → ((if b then Some (record { place = place; key = k; need = need }) else was) ≡ Some d) ⊎ ((need' : Need) × ((key : List ℕ) × (Bar job need k ≡ Bar j need' key)))
-    go true e = inr (need, (k, ap (λ x. Bar x need k) (eqb_true job j e)))
+    go true e = inr (need, (k, ap (λ x. Bar x need k) (eqb-true job j e)))
     go false e = inl h
 decided-keeps-kind place j was _ d h = inl h
 
@@ -344,16 +347,13 @@ decided_new e past a j need key is kind = rw (is, kind, eqb_refl j) refl
 
 repo-some : (o : Option ℕ) (r : ℕ) → option_is o r ≡ true → o ≡ Some r
 repo-some None r e = cc
-repo-some (Some q) r e = ap (λ x. Some x) (eqb_true q r e)
+repo-some (Some q) r e = ap (λ x. Some x) (eqb-true q r e)
 
 pub repo_of : (e : Entry) (r : ℕ) → is_of r e ≡ true → e.repo ≡ Some r
 repo_of e r is = repo-some e.repo r is
 
 pub same_repo : (e : Entry) (r q : ℕ) → is_of r e ≡ true → is_of q e ≡ true → r ≡ q
 same_repo e r q f g = let k : Some r ≡ Some q = sym (repo_of e r f) ∙ repo_of e q g in cc
-
-pub bytes_refl : (key : List ℕ) → bytes_eq key key ≡ true
-bytes_refl key = (bytes_decides key key).1 refl
 
 pub is_some : (o : Option ℕ) (r : ℕ) → o ≡ Some r → option_is o r ≡ true
 is_some o r e = rw e (eqb_refl r)
@@ -409,8 +409,8 @@ RemoteKind repos past key repo taken kind x =
 ordered-kind : (repos : List RepoView) (past : List Entry) (key : List ℕ) (r a : ℕ) (s : Sent) (kind : EntryKind) (x : Removal) → ordered repos past key r a s kind ≡ Some x
     → (j : ℕ) × ((deadline : Option ℕ) × ((need : Need) × ((kind ≡ Order j r deadline need key) × (x ≡ remote_removal repos past r a j need s))))
 ordered-kind repos past key r a s (Order j target deadline need k) x h = elim (if_is ((target == r) && bytes_eq k key) (Some (remote_removal repos past r a j need s)) None (Some x) h) [
-  | inl t ↦ let w = and_true (target == r) (bytes_eq k key) t.0 in
-      (j, (deadline, (need, (ap (λ y. Order j y deadline need k) (eqb_true target r w.0) ∙ ap (λ y. Order j r deadline need y) ((bytes_decides k key).0 w.1), some_inj _ _ (sym t.1)))))
+  | inl t ↦ let w = and_parts (target == r) (bytes_eq k key) t.0 in
+      (j, (deadline, (need, (ap (λ y. Order j y deadline need k) (eqb-true target r w.0) ∙ ap (λ y. Order j r deadline need y) ((bytes_decides k key).0 w.1), same_Some _ _ (sym t.1)))))
   | inr t ↦ cc
 ]
 ordered-kind repos past key r a s _ x h = cc
@@ -425,7 +425,7 @@ removal-kind repos past key (Some r) taken (Gone (by_job j) k) x h = elim (if_is
     go : (o : Option Decision) → decided past r j ≡ o → barred_removal repos past key r j o ≡ Some x → k ≡ key → LocalKind repos past key (Some r) (Gone (by_job j) k) x
     go None e f same = cc
     go (Some d) e f same = elim (if_is (bytes_eq d.key key) (Some (local_removal repos past r j d)) None (Some x) f) [
-      | inl t ↦ (r, (j, (d, (refl, ap (λ y. Gone (by_job j) y) same, e, (bytes_decides d.key key).0 t.0, some_inj _ _ (sym t.1)))))
+      | inl t ↦ (r, (j, (d, (refl, ap (λ y. Gone (by_job j) y) same, e, (bytes_decides d.key key).0 t.0, same_Some _ _ (sym t.1)))))
       | inr t ↦ cc
     ]
 removal-kind repos past key (Some r) taken (Gone (Peer p slot) k) x h = elim (if_is (bytes_eq k key) (sent_order repos past key r p (sender past r taken)) None (Some x) h) [
@@ -466,11 +466,11 @@ removal_was repos e past key x h = elim (removal-kind repos past key e.repo e.ta
 
 pub removal_is : (repos : List RepoView) (e : Entry) (past : List Entry) (r j : ℕ) (key : List ℕ) (d : Decision) → is_of r e ≡ true → e.kind ≡ Gone (by_job j) key → decided past r j ≡ Some d → d.key ≡ key
     → removal repos past key e ≡ Some (local_removal repos past r j d)
-removal_is repos e past r j key d is kind h same = rw (repo_of e r is, kind, bytes_refl key, h, same, bytes_refl key) refl
+removal_is repos e past r j key d is kind h same = rw (repo_of e r is, kind, bytes_eq-refl key, h, same, bytes_eq-refl key) refl
 
 pub order_is : (repos : List RepoView) (e : Entry) (past : List Entry) (r a slot j : ℕ) (deadline : Option ℕ) (need : Need) (key : List ℕ) (s : Sent) → is_of r e ≡ true → e.kind ≡ Gone (Peer a slot) key
     → sender past r e.taken ≡ Some s → is_of a s.entry ≡ true → s.entry.kind ≡ Order j r deadline need key → removal repos past key e ≡ Some (remote_removal repos past r a j need s)
-order_is repos e past r a slot j deadline need key s is kind h from k = rw (repo_of e r is, kind, bytes_refl key, h, from, k, eqb_refl r, bytes_refl key) refl
+order_is repos e past r a slot j deadline need key s is kind h from k = rw (repo_of e r is, kind, bytes_eq-refl key, h, from, k, eqb_refl r, bytes_eq-refl key) refl
 
 -- ---- vouches
 
@@ -492,8 +492,8 @@ look_kind r a j _ key v m = absurd m
 vouch-kind : (r a j time : ℕ) (asker : Option Asker) (kind : EntryKind) (v : Vouch) → Member v (vouch_kind r a j time asker kind) → VouchedBy r a j kind v
 vouch-kind r a j time asker (Share hold end (by_job i) key) v m =
     let w = one_of ((r == a) && (i == j)) (Lock hold time (by_job i) key) v m in
-    let k = and_true (r == a) (i == j) w.0 in
-    subst (λ x. VouchedBy r a j (Share hold end (by_job i) key) x) (sym w.1) (end, (refl, λ l e. (eqb_true r a k.0, by_inj l i (sym e) ∙ eqb_true i j k.1)))
+    let k = and_parts (r == a) (i == j) w.0 in
+    subst (λ x. VouchedBy r a j (Share hold end (by_job i) key) x) (sym w.1) (end, (refl, λ l e. (eqb-true r a k.0, by_inj l i (sym e) ∙ eqb-true i j k.1)))
 vouch-kind r a j time asker (Share hold end (Peer p s) key) v m =
     let w = one_of (is_asker a j asker) (Lock hold (asked_at asker) (Peer p s) key) v m in
     subst (λ x. VouchedBy r a j (Share hold end (Peer p s) key) x) (sym w.1) (end, (refl, λ l e. absurd (peer_no_job p s l e)))
@@ -514,7 +514,7 @@ vouch_was past e r a j v m = go (is_of r e) refl m
 -- a hold for a job is that job's own
 pub own_lock : (past : List Entry) (r a j hold since i : ℕ) (owner : By) (key : List ℕ) → Member (Lock hold since owner key) (vouches past r a j) → owner ≡ by_job i → (r ≡ a) × (i ≡ j)
 own_lock [] r a j hold since i owner key m e = absurd m
-own_lock (x ∷ past) r a j hold since i owner key m e = elim (Member-append (Lock hold since owner key) (vouch past x r a j) (vouches past r a j) m) [
+own_lock (x ∷ past) r a j hold since i owner key m e = elim (Member-append_cases (vouch past x r a j) (vouches past r a j) (Lock hold since owner key) m) [
   | inl k ↦ (vouch_was past x r a j (Lock hold since owner key) k).1.1.1 i e
   | inr k ↦ own_lock past r a j hold since i owner key k e
 ]
@@ -532,20 +532,20 @@ tells_vouches : (past : List Entry) (e : Entry) (r a j : ℕ) (v : Vouch) → Me
 tells_vouches past e r a j v m = go (r == a) (is_job a j e) m
   where
     go : (own is : Bool) → Member v (if own then vouch past e r a j else (if is then told_by r a j (sender past a e.taken) else [])) → Member v (vouches (e ∷ past) r a j)
-    go true is k = Member-left v (vouch past e r a j) (vouches past r a j) k
-    go false true k = Member-right v (vouch past e r a j) (vouches past r a j) (sender_vouched past a e.taken r a j v (sender past a e.taken) refl k)
+    go true is k = Member-append_left (vouch past e r a j) (vouches past r a j) v k
+    go false true k = Member-append_right (vouch past e r a j) (vouches past r a j) v (sender_vouched past a e.taken r a j v (sender past a e.taken) refl k)
     go false false k = absurd k
 
 pub newer-was : (vs : List Vouch) (old : Option Vouch) (v : Vouch) → newer vs old ≡ Some v → Member v vs ⊎ (old ≡ Some v)
 newer-was [] old v h = inr h
-newer-was (w ∷ ws) old v h = inl (inl (some_inj v w (sym h)))
+newer-was (w ∷ ws) old v h = inl (inl (same_Some v w (sym h)))
 
 -- what a job was told was vouched to it
 pub reply_vouched : (past : List Entry) (a j r : ℕ) (v : Vouch) → reply past a j r ≡ Some v → Member v (vouches past r a j)
 reply_vouched [] a j r v h = cc
 reply_vouched (e ∷ past) a j r v h = elim (newer-was (tells past e r a j) (reply past a j r) v h) [
   | inl m ↦ tells_vouches past e r a j v m
-  | inr k ↦ Member-right v (vouch past e r a j) (vouches past r a j) (reply_vouched past a j r v k)
+  | inr k ↦ Member-append_right (vouch past e r a j) (vouches past r a j) v (reply_vouched past a j r v k)
 ]
 
 -- ---- jobs

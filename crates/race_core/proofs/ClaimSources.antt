@@ -2,8 +2,10 @@
 use Rattle.std.proofs.Common.{◌≡◌, ℕ, ◌≤◌, Bool, true, false, ◌&&◌, ◌||◌, List, [], ◌∷◌, length, Option, Some, None, ◌⊎◌, inl, inr, refl, sym, ap, ◌∙◌, subst, arith}
 use Rattle.std.specs.Prelude.{◌==◌, count_by, min}
 use Rattle.std.specs.List.{range_with_len}
-use Rattle.std.proofs.lemmas.Bool.{true≢false}
+use Rattle.std.proofs.lemmas.Bool.{true≢false, and_parts, eqb-true, cases_Bool}
+use Rattle.std.proofs.lemmas.Option.{same_Some}
 use Rattle.annex_base.specs.Lists.{Member}
+use Rattle.annex_base.proofs.Lists.{list_any_found}
 use Rattle.drop_proof.specs.declared.evidence.Evidence.{Evidence}
 use Rattle.run_data.specs.declared.entry.Entry.{Entry}
 use Rattle.run_data.specs.declared.run.RepoView.{RepoView}
@@ -14,10 +16,7 @@ use Rattle.run_model.specs.Safety.{Removal, add_removal, copies_at, least_need, 
 use Rattle.run_model.specs.Run.{IsRun}
 use Rattle.race_core.specs.Places.{claim_at, count_at, removals_at}
 use Rattle.race_core.specs.Removals.{IsRemovalBefore, IsTrustedBefore}
-use Rattle.race_core.proofs.Lists.{and_true, eqb_true, true_or_false}
-use Rattle.race_core.proofs.Flights.{some_inj}
 use Rattle.race_core.proofs.Latest.{least_least}
-use Rattle.race_core.proofs.ItemSources.{some_member}
 use Rattle.race_core.proofs.EntryPlaces.{at_occurs, occurs_at}
 use Rattle.race_core.proofs.AtPlaces.{enough_least}
 
@@ -66,7 +65,7 @@ least_was [] m h = absurd (cc)
 least_was (x ∷ xs) m h = go (λ k l. least_was xs k l) (least_need xs) refl
   where
     is : smaller x.need.m (least_need xs) ≡ m
-    is = some_inj (smaller x.need.m (least_need xs)) m h
+    is = same_Some (smaller x.need.m (least_need xs)) m h
 
     go : ((k : ℕ) → least_need xs ≡ Some k → (y : Removal) × Member y xs × (y.need.m ≡ k)) → (o : Option ℕ) → least_need xs ≡ o → (y : Removal) × Member y (x ∷ xs) × (y.need.m ≡ m)
     go ih None o = (x, inl refl, ap (smaller x.need.m) (sym o) ∙ is)
@@ -87,17 +86,17 @@ least_of_all run key place least x h w = least_least x (removals_at run key plac
 -- a claim is a trusted item of a removal before
 pub claim_was : (run : Run) (key : List ℕ) (place r : ℕ) → claim_at run key place r ≡ true → IsTrustedBefore run key place r
 claim_was run key place r h =
-    let t = some_member (trusts r) (removals_at run key place) h in
-    let i = some_member (λ (i : Evidence). (i.repo == r) && is_trusted i.kind) t.0.items t.2 in
-    let a = and_true (i.0.repo == r) (is_trusted i.0.kind) i.2 in
-    record { removal = t.0; before = removal_before run key place t.0 t.1; item = i.0; among = i.1; repo_is = eqb_true i.0.repo r a.0; trusted = a.1 }
+    let t = list_any_found (trusts r) (removals_at run key place) h in
+    let i = list_any_found (λ (i : Evidence). (i.repo == r) && is_trusted i.kind) t.0.items t.2 in
+    let a = and_parts (i.0.repo == r) (is_trusted i.0.kind) i.2 in
+    record { removal = t.0; before = removal_before run key place t.0 t.1; item = i.0; among = i.1; repo_is = eqb-true i.0.repo r a.0; trusted = a.1 }
 
 -- no removal of these has a trusted item
 no_claim : (run : Run) (key : List ℕ) (place r : ℕ) → ((x : Removal) (item : Evidence) → Member x (removals_at run key place) → Member item x.items → is_trusted item.kind ≡ false) → claim_at run key place r ≡ false
-no_claim run key place r none = elim (true_or_false (claim_at run key place r)) [
-  | inl h ↦ (let t = some_member (trusts r) (removals_at run key place) h in
-      let i = some_member (λ (i : Evidence). (i.repo == r) && is_trusted i.kind) t.0.items t.2 in
-      absurd (true≢false (sym (and_true (i.0.repo == r) (is_trusted i.0.kind) i.2).1 ∙ none t.0 i.0 t.1 i.1)))
+no_claim run key place r none = elim (cases_Bool (claim_at run key place r)) [
+  | inl h ↦ (let t = list_any_found (trusts r) (removals_at run key place) h in
+      let i = list_any_found (λ (i : Evidence). (i.repo == r) && is_trusted i.kind) t.0.items t.2 in
+      absurd (true≢false (sym (and_parts (i.0.repo == r) (is_trusted i.0.kind) i.2).1 ∙ none t.0 i.0 t.1 i.1)))
   | inr h ↦ h
 ]
 

@@ -1,7 +1,7 @@
 -- A job takes an answer where it has sent one more request than it took answers, and that request is what its phase says.
 use Rattle.std.proofs.Common.{◌≡◌, ℕ, ◌+◌, true, false, List, length, Option, Some, refl, sym, ap, ◌∙◌, subst, not}
 use Rattle.std.specs.Prelude.{if◌then◌else◌, ◌==◌, ◌&&◌, nat_lt, option_map}
-use Rattle.std.proofs.lemmas.Bool.{true≢false}
+use Rattle.std.proofs.lemmas.Bool.{true≢false, eqb-true, and_parts}
 use Rattle.annex_base.specs.declared.kinds.Word.{Word}
 use Rattle.run_data.specs.declared.entry.Entry.{Entry}
 use Rattle.run_data.specs.declared.entry.FrameView.{FrameView}
@@ -17,7 +17,6 @@ use Rattle.node_model.specs.SetUp.{SetUp}
 use Rattle.run_model.specs.States.{end_at}
 use Rattle.node_model.specs.Jobs.{job_end}
 use Rattle.run_model.specs.Run.{OwnPart, OwnPast}
-use Rattle.race_core.proofs.Plain.{and_right, eqb_true}
 use Rattle.race_core.proofs.Makers.{TakenBy, taken_of, taker}
 use Rattle.race_core.proofs.ClientCounts.{Counted, Request, LastIs, and_left, awaits_of, counts_at, is_answering, unit}
 use Rattle.race_core.proofs.ClientTurns.{live_on}
@@ -35,7 +34,7 @@ answer_epoch c f e may = go f.body refl
 
     go : (body : FrameText) → f.body ≡ body → f.epoch ≡ c.epoch
     go Opening is = absurd (true≢false (sym e ∙ ap is_answering is))
-    go (Line text) is = eqb_true f.epoch c.epoch (and_right c.opened (f.epoch == c.epoch) (at (Line text) is))
+    go (Line text) is = eqb-true f.epoch c.epoch ((and_parts c.opened (f.epoch == c.epoch) (at (Line text) is)).1)
     go Closing is = absurd (true≢false (sym e ∙ ap is_answering is))
     go (Bytes n) is = absurd (true≢false (sym e ∙ ap is_answering is))
 
@@ -56,8 +55,8 @@ module _ (s : SetUp) (past : List Entry) (past_is : OwnPast s past) (e : Entry) 
 
   pub taken_way : way_of s.number f ≡ way_at s.number t.peer t.w.slot (end_at past s.number (job_end t.w t.peer)).epoch
   taken_way = way_is s.number t.peer t.w.slot (end_at past s.number (job_end t.w t.peer)).epoch f down
-      (eqb_true f.peer t.peer (and_left (f.peer == t.peer) (f.slot == t.w.slot) two))
-      (eqb_true f.slot t.w.slot (and_right (f.peer == t.peer) (f.slot == t.w.slot) two))
+      (eqb-true f.peer t.peer (and_left (f.peer == t.peer) (f.slot == t.w.slot) two))
+      (eqb-true f.slot t.w.slot ((and_parts (f.peer == t.peer) (f.slot == t.w.slot) two).1))
       (answer_epoch (end_at past s.number (job_end t.w t.peer)) f body_answers t.may)
 
   counted : Counted t.w.what.key t.w.what.peer t.w.phase t.peer (counts_at past s.number (job_end t.w t.peer))

@@ -2,7 +2,8 @@
 -- that stands there says of this.
 use Rattle.std.proofs.Common.{◌≡◌, ℕ, ◌+◌, Bool, true, false, List, [], ◌∷◌, Option, Some, None, ◌⊎◌, inl, inr, refl, sym, ap, ◌∙◌, subst}
 use Rattle.std.specs.Prelude.{if◌then◌else◌, ◌==◌, ◌&&◌, bytes_eq, codes, fold}
-use Rattle.std.proofs.lemmas.Bool.{true≢false}
+use Rattle.std.proofs.lemmas.Bool.{true≢false, eqb-true, and_right}
+use Rattle.annex_base.proofs.Conditions.{eqb_refl}
 use Rattle.run_data.specs.declared.entry.Entry.{Entry}
 use Rattle.run_data.specs.declared.entry.FrameView.{FrameView}
 use Rattle.run_data.specs.declared.entry.FrameText.{FrameText}
@@ -15,7 +16,6 @@ use Rattle.p2p_wire.specs.declared.message.Message.TheVariants.{AuthSuccess, Ver
 use Rattle.p2p_wire.specs.Messages.{order_of, message_of}
 use Rattle.node_model.specs.Jobs.{Phase, AsksLock, AsksLook, AsksTime, GetsBytes, GetsData, GetsWord, Orders, PutsAnswer, PutsOffer, Ends, Work, job_end, partner}
 use Rattle.node_model.specs.Turns.{is_awaiting}
-use Rattle.race_core.proofs.Plain.{and_no, eqb_refl, eqb_true}
 
 -- ---- requests and answers
 
@@ -181,7 +181,7 @@ self_takes w peer f e = rw e refl
 else_takes : (w : Work) (peer : ℕ) (f : FrameView) → takes_at (job_end w peer) f ≡ true → (p : ℕ) → (peer == p) ≡ false → taken_at (job_end w p) (Some f) ≡ None
 else_takes w peer f e p other =
     let first : (f.peer == peer) && (f.slot == w.slot) ≡ true = and_left ((f.peer == peer) && (f.slot == w.slot)) (same_bool true (if f.up then false else true)) e in
-    let is : f.peer ≡ peer = eqb_true f.peer peer (and_left (f.peer == peer) (f.slot == w.slot) first) in
+    let is : f.peer ≡ peer = eqb-true f.peer peer (and_left (f.peer == peer) (f.slot == w.slot) first) in
     let apart : (f.peer == p) ≡ false = subst (λ n. (n == p) ≡ false) (sym is) other in
     rw apart refl
 
@@ -215,7 +215,7 @@ not_of target phase peer p (inr some) apart = some_is (partner target phase) pee
 
 -- on another's connection nothing is awaited
 pub away : (target : Option ℕ) (phase : Phase) (peer p : ℕ) → Stays target phase peer → (peer == p) ≡ false → awaits_of target phase p ≡ false
-away target phase peer p stays apart = and_no (is_awaiting phase) (option_is (partner target phase) p) (not_of target phase peer p stays apart)
+away target phase peer p stays apart = and_right (is_awaiting phase) (option_is (partner target phase) p) (not_of target phase peer p stays apart)
 
 pub is_of_some : (o : Option ℕ) (p : ℕ) → o ≡ Some p → option_is o p ≡ true
 is_of_some o p e = rw e (eqb_refl p)
@@ -230,7 +230,7 @@ last_away key target (PutsOffer peer) p last apart = λ e. absurd (true≢false 
 last_away key target (GetsData peer start) p last apart = λ e. absurd (true≢false (sym (is_of_some (Some peer) p (ap (λ x. Some x) e)) ∙ apart))
 last_away key target (GetsBytes peer start size left) p last apart = λ e. absurd (true≢false (sym (is_of_some (Some peer) p (ap (λ x. Some x) e)) ∙ apart))
 last_away key target (GetsWord peer start size) p last apart = λ e. absurd (true≢false (sym (is_of_some (Some peer) p (ap (λ x. Some x) e)) ∙ apart))
-last_away key target phase p last apart = λ e. absurd (true≢false (sym e ∙ and_no (is_awaiting phase) (option_is (partner target phase) p) apart))
+last_away key target phase p last apart = λ e. absurd (true≢false (sym e ∙ and_right (is_awaiting phase) (option_is (partner target phase) p) apart))
 
 -- what was counted there stands
 pub counted_away : (key : List ℕ) (target : Option ℕ) (phase next : Phase) (peer p : ℕ) (q : Counts) → Stays target phase peer → Stays target next peer → (peer == p) ≡ false

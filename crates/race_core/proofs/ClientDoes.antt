@@ -1,9 +1,11 @@
 -- What an own entry does at a client's end of a running job that is open after it: nothing, or it is the job's step.
 use Rattle.std.proofs.Common.{◌≡◌, ◌≢◌, ℕ, Bool, true, false, List, [], ◌∷◌, Option, Some, None, ◌⊎◌, inl, inr, refl, sym, ap, ◌∙◌, subst}
 use Rattle.std.specs.Prelude.{if◌then◌else◌, ◌==◌, ◌&&◌}
-use Rattle.std.proofs.lemmas.Bool.{true≢false}
+use Rattle.std.proofs.lemmas.Bool.{true≢false, eqb-true}
 use Rattle.annex_base.specs.Lists.{Each, Member}
 use Rattle.annex_base.specs.declared.kinds.Word.{Word}
+use Rattle.annex_base.proofs.Lists.{Each-filter, filter_none}
+use Rattle.annex_base.proofs.Conditions.{eqb_refl}
 use Rattle.run_data.specs.declared.entry.Entry.{Entry}
 use Rattle.run_data.specs.declared.entry.EntryKind.TheVariants.{Begin, End as ends_job}
 use Rattle.run_data.specs.declared.entry.FrameView.{FrameView}
@@ -21,13 +23,12 @@ use Rattle.node_model.specs.AnyTime.{MayCome}
 use Rattle.node_model.specs.Jobs.{Work, job_end, new_work, work_kind}
 use Rattle.node_model.specs.Found.{JobKind}
 use Rattle.run_model.specs.Run.{IsStep, OwnPart, OwnRun, ComesAnyTime}
-use Rattle.race_core.proofs.Plain.{each_filter, eqb_refl, eqb_true}
 use Rattle.race_core.proofs.StepFacts.{kind_found}
 use Rattle.race_core.proofs.JobSteps.{Begins, KindAfter, Origin, Stays, Stepped, Steps, origin, stepped_found, stepped_job, stepped_runs, still_after, turn_at}
 use Rattle.race_core.proofs.NotDropping.{entry_moved, moved_on}
 use Rattle.race_core.proofs.ClientTurns.{made_entry, moved}
 use Rattle.race_core.proofs.WorkNumbers.{same_slot_same_work}
-use Rattle.race_core.proofs.ServerEnds.{GivesHere, Shuts, TakesHere, come_closes, filter_none, gives_elsewhere, takes_elsewhere}
+use Rattle.race_core.proofs.ServerEnds.{GivesHere, Shuts, TakesHere, come_closes, gives_elsewhere, takes_elsewhere}
 use Rattle.race_core.proofs.EndMoves.{end_own, end_shuts, sends_all, shuts_none}
 use Rattle.race_core.proofs.NewSessions.{close_shuts}
 use Rattle.race_core.proofs.OpenEnds.{shut}
@@ -143,7 +144,7 @@ module _ (s : SetUp) (past : List Entry) (e : Entry) (run : OwnRun s (e ∷ past
 
   stays_does : (words : ℕ → Option Word) → OwnPart s past words e → Stays s past e x → ClientDoes s past e x a
   stays_does words own b = elim (who s past words e own) [
-    | inl z ↦ inl (closes_none (record { takes_none = ap (taken_at a) z.1.takes_none; closes = each_filter (λ g. g.body ≡ Closing) (sends_at a) e.sent (alone z.2) }) b.ran)
+    | inl z ↦ inl (closes_none (record { takes_none = ap (taken_at a) z.1.takes_none; closes = Each-filter (λ g. g.body ≡ Closing) (sends_at a) e.sent (alone z.2) }) b.ran)
     | inr z ↦ elim z [
       | inl y ↦ inl (closes_none (session y.1.0 y.1.1 y.1.3) b.ran)
       | inr y ↦ slots y (y.w.slot == x.slot) refl
@@ -168,7 +169,7 @@ module _ (s : SetUp) (past : List Entry) (e : Entry) (run : OwnRun s (e ∷ past
 
       slots : (y : Stepped s past e) → (c : Bool) → (y.w.slot == x.slot) ≡ c → ClientDoes s past e x a
       slots y false apart = inl (closes_none (other_slot y apart) b.ran)
-      slots y true same = inr (same_moved y b (same_slot_same_work s past run.1 y.w x (stepped_runs s past e y) b.ran (eqb_true y.w.slot x.slot same)))
+      slots y true same = inr (same_moved y b (same_slot_same_work s past run.1 y.w x (stepped_runs s past e y) b.ran (eqb-true y.w.slot x.slot same)))
 
   pub client_does : Member x (works (e ∷ past) s.number) → ClientDoes s past e x a
   client_does m = by (origin s past e run is x m)

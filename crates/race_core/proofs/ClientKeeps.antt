@@ -5,6 +5,7 @@ use Rattle.std.specs.Prelude.{if◌then◌else◌, ◌==◌, ◌&&◌, find, fol
 use Rattle.std.specs.List.{list_all}
 use Rattle.annex_base.specs.Lists.{Each}
 use Rattle.annex_base.specs.declared.kinds.Word.{Word}
+use Rattle.annex_base.proofs.Lists.{Each-filter, find_member}
 use Rattle.run_data.specs.declared.entry.Entry.{Entry}
 use Rattle.run_data.specs.declared.entry.EntryKind.{EntryKind}
 use Rattle.run_data.specs.declared.entry.EntryKind.TheVariants.{Gain, Share, Bar, Gone, Order, Talk, Fault, End as ends_job}
@@ -25,8 +26,7 @@ use Rattle.node_model.specs.JobStep.{Turn, end_with, farewell, farewells, has_lo
 use Rattle.node_model.specs.Turns.{awaits, by_partner, goes, goes_on, has_room, is_awaiting, job_step, needs, slot_step, takes_frame, with_partner}
 use Rattle.run_model.specs.Run.{IsStep, OwnPart, OwnPast}
 use Rattle.node_model.specs.Found.{ByOwed, BySession, JobKind}
-use Rattle.race_core.proofs.Plain.{each_filter}
-use Rattle.race_core.proofs.Cases.{find_was, first_was, some_was}
+use Rattle.race_core.proofs.Cases.{first_was, some_was}
 use Rattle.race_core.proofs.SessionFacts.{session_found}
 use Rattle.race_core.proofs.StepFacts.{pays_found}
 use Rattle.race_core.proofs.JobFacts.{Goes, frame_found, goes_found, partner_found}
@@ -193,7 +193,7 @@ module _ (s : SetUp) (past : List Entry) (k : Look) (w : Work) (m : Made) (does 
   kind_sends a (Order j peer deadline need key) x read = one_sends a peer (Line (text_of (order_of deadline key))) x.sent_is
   kind_sends a (Gain by size key) x read = one_sends a x.peer (Line (text_of Success)) x.sent_is
   kind_sends a (ends_job j outcome) x read = inl (subst (λ (fs : List FrameView). NoneAsks (sent_at a fs)) (sym x.sent_is)
-      (each_filter (λ (g : FrameView). is_asking g.body ≡ false) (sends_at a) (farewells t (is_lost_ordered outcome)) (farewells_none read (is_lost_ordered outcome))))
+      (Each-filter (λ (g : FrameView). is_asking g.body ≡ false) (sends_at a) (farewells t (is_lost_ordered outcome)) (farewells_none read (is_lost_ordered outcome))))
   kind_sends a (Talk (Some j)) x read = elim (x.1) [ inl none ↦ none_sends a none | inr one ↦ one_sends a one.0 one.1 one.2 ]
   kind_sends a (Fault call by) x read = none_sends a x.1
   kind_sends a kind x read = absurd x
@@ -226,13 +226,13 @@ module _ (s : SetUp) (past : List Entry) (h : OwnPast s past) where
       by_slot : (slot : ℕ) (o : Option Work) → find (λ w. w.slot == slot) (works past s.number) ≡ o → slot_step s (state_of s past) k o ≡ Some m → Sends s past a (entry_of s.number k m)
       by_slot slot None is g = absurd (cc)
       by_slot slot (Some w) is g =
-          let runs = (find_was (λ (y : Work). y.slot == slot) (works past s.number) w is).0 in
+          let runs = (find_member (λ (y : Work). y.slot == slot) (works past s.number) w is).0 in
           kind_sends s past k w m g may a m.kind (partner_found (turn_of s (state_of s past) k w) m (partner w.what.peer w.phase) refl g).found (unlock_read s past h.run w runs)
 
   own_sends : (words : ℕ → Option Word) (e : Entry) → OwnPart s past words e → (peer slot : ℕ) → Sends s past (client_end peer slot) e
   own_sends words e own peer slot = elim (own.does) [
     | inl x ↦ subst (Sends s past (client_end peer slot)) (sym x.is) (stepped x)
-    | inr x ↦ inl (closes_ask (sent_at (client_end peer slot) e.sent) (each_filter (λ (g : FrameView). g.body ≡ Closing) (sends_at (client_end peer slot)) e.sent (come_closes s past e.lines e.sent e.kind x.may)))
+    | inr x ↦ inl (closes_ask (sent_at (client_end peer slot) e.sent) (Each-filter (λ (g : FrameView). g.body ≡ Closing) (sends_at (client_end peer slot)) e.sent (come_closes s past e.lines e.sent e.kind x.may)))
   ]
     where
       stepped : (x : IsStep s past words e) → Sends s past (client_end peer slot) (entry_of s.number x.look x.made)

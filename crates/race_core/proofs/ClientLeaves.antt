@@ -1,7 +1,7 @@
 -- The steps of a job by what they take and send: each keeps what its phase says of requests and answers.
 use Rattle.std.proofs.Common.{◌≡◌, ℕ, ◌+◌, Bool, true, false, List, [], ◌∷◌, Option, Some, None, inl, inr, refl, sym, ap, ◌∙◌, subst, arith}
 use Rattle.std.specs.Prelude.{if◌then◌else◌}
-use Rattle.std.proofs.lemmas.Bool.{true≢false}
+use Rattle.std.proofs.lemmas.Bool.{true≢false, and_right}
 use Rattle.run_data.specs.declared.entry.EntryKind.{EntryKind}
 use Rattle.run_data.specs.declared.entry.FrameView.{FrameView}
 use Rattle.run_data.specs.declared.entry.FrameText.{FrameText}
@@ -14,7 +14,6 @@ use Rattle.node_model.specs.Jobs.{Phase, Work, closed_part, job_end, partner, sa
 use Rattle.node_model.specs.Look.{Made}
 use Rattle.node_model.specs.JobStep.{Turn, end_with, key_of, me, quietly, says_to, sends_to}
 use Rattle.node_model.specs.Turns.{is_awaiting}
-use Rattle.race_core.proofs.Plain.{and_no}
 use Rattle.race_core.proofs.ClientCounts.{last_away, none_is, Counted, Counts, LastIs, Request, Stays, IsLive, answers_here, answers_it, asks_for, awaits_of, counts_sends, counts_takes, is_answering, is_of_some, quiet_here, request, sends_here, takes_here, unit}
 use Rattle.race_core.proofs.ClientTurns.{EvenTo, alone_even, closed_alone, live_on, local_even, talker_phase, talker_slot, made_entry, rows_of, talk_even, talker}
 
@@ -48,7 +47,7 @@ pub awaits_true : (target : Option ℕ) (phase : Phase) (peer : ℕ) → is_awai
 awaits_true target phase peer waits on = rw (waits, on) (is_of_some (Some peer) peer refl)
 
 pub awaits_none : (target : Option ℕ) (phase : Phase) (peer : ℕ) → partner target phase ≡ None → awaits_of target phase peer ≡ false
-awaits_none target phase peer on = rw on (and_no (is_awaiting phase) false refl)
+awaits_none target phase peer on = rw on (and_right (is_awaiting phase) false refl)
 
 pub awaits_not : (target : Option ℕ) (phase : Phase) (peer : ℕ) → is_awaiting phase ≡ false → awaits_of target phase peer ≡ false
 awaits_not target phase peer e = rw e refl

@@ -1,10 +1,12 @@
 -- Over the own part of a run: what the phase of each running job says of requests and answers is so, at each of its open ends (J4).
 use Rattle.std.proofs.Common.{◌≡◌, ◌≢◌, ℕ, ◌<◌, Bool, true, false, List, [], ◌∷◌, length, Option, Some, None, ◌⊎◌, inl, inr, refl, sym, ap, ◌∙◌, subst}
 use Rattle.std.specs.Prelude.{if◌then◌else◌, ◌==◌, ◌&&◌, find, flat_map, fold, map, not}
-use Rattle.std.proofs.lemmas.Bool.{true≢false}
+use Rattle.std.proofs.lemmas.Bool.{true≢false, eqb-true, not-true, and_parts, and_right}
 use Rattle.annex_base.specs.Lists.{Each, Member}
 use Rattle.annex_base.specs.declared.kinds.Call.TheVariants.{PutFile}
 use Rattle.annex_base.specs.declared.kinds.Word.{Word}
+use Rattle.annex_base.proofs.Lists.{Each-append, Each-filter, Member-filter_parts, find_member}
+use Rattle.annex_base.proofs.Conditions.{eqb_refl, eqb_sym, if_either}
 use Rattle.run_data.specs.declared.entry.By.{By}
 use Rattle.run_data.specs.declared.entry.By.TheVariants.{Script}
 use Rattle.run_data.specs.declared.entry.Entry.{Entry}
@@ -37,8 +39,7 @@ use Rattle.run_model.specs.Run.{IsStep, ComesAnyTime, OwnRun}
 use Rattle.node_model.specs.Found.{ByJob, ByOwed, BySession, GivesAt, JobKind, SessionKind, TakesAt}
 use Rattle.race_core.proofs.JobSteps.{job_is}
 use Rattle.race_core.proofs.WorkNumbers.{same_work}
-use Rattle.race_core.proofs.Plain.{and_right, each_append, each_filter, eqb_refl, eqb_sym, eqb_true, member_filter, not_true}
-use Rattle.race_core.proofs.Cases.{find_was, first_was, if_found, some_was}
+use Rattle.race_core.proofs.Cases.{first_was, some_was}
 use Rattle.race_core.proofs.JobFacts.{partner_found}
 use Rattle.race_core.proofs.JobKept.{after_kept, jobs_are}
 use Rattle.race_core.proofs.JobNumbers.{Falling, jobs_numbered}
@@ -139,8 +140,8 @@ works_were : (rows : Rows) (r : ℕ) (was : List Work) (e : Entry) (kind : Entry
 works_were rows r was e (Begin job what) is x (inl m) = inl (record { job = job; what = what; begins = refl; is = m })
 works_were rows r was e (Begin job what) is x (inr m) = inr (inl (record { ran = m; job = job; what = what; begins = refl }))
 works_were rows r was e (ends_job j outcome) is x m =
-    let y = member_filter (λ (w : Work). not (w.number == j)) was x m in
-    let other : (x.number == j) ≡ false = not_true (x.number == j) y.1 in
+    let y = Member-filter_parts (λ (w : Work). not (w.number == j)) was x m in
+    let other : (x.number == j) ≡ false = not-true (x.number == j) y.1 in
     inr (inr (record { w = x; ran = y.0; goes_on = ap (λ k. ends_it k x.number) is ∙ other; is = same (eqb_sym j x.number ∙ other) }))
   where
     same : (j == x.number) ≡ false → x ≡ work_after rows r e x
@@ -167,13 +168,13 @@ quiet_idle e slot none nothing p = record {
 pub closes_idle : (e : Entry) (slot : ℕ) → e.taken ≡ None → Each (λ f. f.body ≡ Closing) e.sent → IdleAt slot e
 closes_idle e slot none all p = record {
   takes_none = ap (taken_at (client_end p slot)) none;
-  closes = each_filter (λ f. f.body ≡ Closing) (sends_at (client_end p slot)) e.sent all;
+  closes = Each-filter (λ f. f.body ≡ Closing) (sends_at (client_end p slot)) e.sent all;
 }
 
 -- ---- entries that may come at any point
 
 close_closes : (s : SetUp) (past : List Entry) (a : EndName) → Each (λ f. f.body ≡ Closing) (close_at s (state_of s past) a)
-close_closes s past a = if_found (Each (λ (f : FrameView). f.body ≡ Closing)) (end_at past s.number a).opened (frames a (end_at past s.number a) (Closing ∷ [])) [] (λ e. (refl, tt)) (λ e. tt)
+close_closes s past a = if_either (Each (λ (f : FrameView). f.body ≡ Closing)) (end_at past s.number a).opened (frames a (end_at past s.number a) (Closing ∷ [])) [] (λ e. (refl, tt)) (λ e. tt)
 
 -- what an entry that may come at any point is to a job that ran
 pub record Aside (rows : Rows) (r : ℕ) (e : Entry) (kind : EntryKind) : Type 0 where
@@ -208,14 +209,10 @@ up_of_server : (up : Bool) → same_bool false (if up then false else true) ≡ 
 up_of_server true e = refl
 up_of_server false e = absurd (cc)
 
-no_take : (b c : Bool) → c ≡ false → (b && c) ≡ false
-no_take true c e = e
-no_take false c e = refl
-
 server_takes : (peer slot : ℕ) (f : FrameView) (p n : ℕ) → takes_at (server_end peer slot) f ≡ true → taken_at (client_end p n) (Some f) ≡ None
 server_takes peer slot f p n e =
-    let up : same_bool false (if f.up then false else true) ≡ true = and_right ((f.peer == peer) && (f.slot == slot)) (same_bool false (if f.up then false else true)) e in
-    let apart : takes_at (client_end p n) f ≡ false = no_take ((f.peer == p) && (f.slot == n)) (same_bool true (if f.up then false else true)) (up_of_server f.up up) in
+    let up : same_bool false (if f.up then false else true) ≡ true = (and_parts ((f.peer == peer) && (f.slot == slot)) (same_bool false (if f.up then false else true)) e).1 in
+    let apart : takes_at (client_end p n) f ≡ false = and_right ((f.peer == p) && (f.slot == n)) (same_bool true (if f.up then false else true)) (up_of_server f.up up) in
     rw apart refl
 
 pub session_idle : (s : SetUp) (st : State) (k : Look) (m : Made) (x : BySession s st k m) (slot : ℕ) → IdleAt slot (entry_of s.number k m)
@@ -250,7 +247,7 @@ session_job s st k at doing asked says kind x = absurd x
 
 each_flat : {X Y : Type 0} (P : Y → Type 0) (f : X → List Y) (xs : List X) → ((x : X) → Each P (f x)) → Each P (flat_map f xs)
 each_flat P f [] all = tt
-each_flat P f (x ∷ xs) all = each_append P (f x) (flat_map f xs) (all x) (each_flat P f xs all)
+each_flat P f (x ∷ xs) all = Each-append P (f x) (flat_map f xs) (all x) (each_flat P f xs all)
 
 frames_slot : (a : EndName) (c : End) (bodies : List FrameText) → Each (λ f. f.slot ≡ a.slot) (frames a c bodies)
 frames_slot a c [] = tt
@@ -284,7 +281,7 @@ none_there p n slot (f ∷ fs) all apart = rw (off (f.peer == p) (f.slot == n) (
 other_takes : (w : Work) (peer : ℕ) (f : FrameView) (p n : ℕ) → takes_at (job_end w peer) f ≡ true → (w.slot == n) ≡ false → taken_at (client_end p n) (Some f) ≡ None
 other_takes w peer f p n e apart =
     let two : ((f.peer == peer) && (f.slot == w.slot)) ≡ true = and_left ((f.peer == peer) && (f.slot == w.slot)) (same_bool true (if f.up then false else true)) e in
-    let is : f.slot ≡ w.slot = eqb_true f.slot w.slot (and_right (f.peer == peer) (f.slot == w.slot) two) in
+    let is : f.slot ≡ w.slot = eqb-true f.slot w.slot (and_parts (f.peer == peer) (f.slot == w.slot) two).1 in
     let off : (f.slot == n) ≡ false = subst (λ (k : ℕ). (k == n) ≡ false) (sym is) apart in
     rw (both_off (f.peer == p) (f.slot == n) (same_bool true (if f.up then false else true)) off) refl
   where
@@ -310,7 +307,7 @@ slot_even : (s : SetUp) (st : State) (k : Look) → ((w : Work) → Member w st.
 slot_even s st k speaks slot m None is e = absurd (cc)
 slot_even s st k speaks slot m (Some w) is e =
     let x = partner_found (turn_of s st k w) m (partner w.what.peer w.phase) refl e in
-    let there = find_was (λ (y : Work). y.slot == slot) st.works w is in
+    let there = find_member (λ (y : Work). y.slot == slot) st.works w is in
     record { by = record { w = w; slot = slot; runs = is; frame = x.frame; found = x.found }; even = partner_even (turn_of s st k w) m (speaks w there.0) (partner w.what.peer w.phase) refl e }
 
 job_even : (s : SetUp) (st : State) (k : Look) → ((w : Work) → Member w st.works → Speaks (turn_of s st k w)) → (m : Made) → job_step s st k ≡ Some m → ByJobEven s st k m
@@ -394,7 +391,7 @@ module _ (s : SetUp) (past : List Entry) (e : Entry) (own : is_of s.number e ≡
 
     line_fault : (by : By) (w : Work) → e.kind ≡ Fault PutFile by → work_after (rows_at past r) r e w ≡ w
     line_fault by w h = subst (λ (kind : EntryKind). (if option_is (job_of kind) w.number then work_kind (rows_at past r) r w e kind else w) ≡ w) (sym h)
-        (if_found (λ (y : Work). y ≡ w) (option_is (job_by by) w.number) w w (λ q. refl) (λ q. refl))
+        (if_either (λ (y : Work). y ≡ w) (option_is (job_by by) w.number) w w (λ q. refl) (λ q. refl))
 
     owed_fits : ByOwed s (state_of s past) k m → (x : Work) → Member x (works_after (rows_at past r) r (works past r) e e.kind) → After x
     owed_fits o x mem = elim (o.writes) [ inl w ↦ log w | inr w ↦ fault w ]
@@ -435,7 +432,7 @@ module _ (s : SetUp) (past : List Entry) (e : Entry) (own : is_of s.number e ≡
         v = b.by.w
 
         v_runs : Member v (works past r)
-        v_runs = (find_was (λ (y : Work). y.slot == b.by.slot) (works past r) v b.by.runs).0
+        v_runs = (find_member (λ (y : Work). y.slot == b.by.slot) (works past r) v b.by.runs).0
 
         begins_not : (kind : EntryKind) → JobKind (turn_of s (state_of s past) k v) m kind → (job : ℕ) (what : Job) → kind ≢ Begin job what
         begins_not (Begin j w) found job what q = found
@@ -461,7 +458,7 @@ module _ (s : SetUp) (past : List Entry) (e : Entry) (own : is_of s.number e ≡
 
         go : (w : Work) → Member w (works past r) → ends_it e.kind w.number ≡ false → (c : Bool) → (w.number == v.number) ≡ c → After (work_after (rows_at past r) r e w)
         go w ran goes_on true same =
-            let one : v ≡ w = same_work (works past r) falls v w v_runs ran (sym (eqb_true w.number v.number same)) in
+            let one : v ≡ w = same_work (works past r) falls v w v_runs ran (sym (eqb-true w.number v.number same)) in
             subst (λ (y : Work). After (work_after (rows_at past r) r e y)) one
             (subst (λ (e' : Entry). FitsAt (e' ∷ past) r (running (work_after (rows_at past r) r e' v)) (work_after (rows_at past r) r e' v).phase) (sym is)
             (own_after (subst (λ (y : Work). ends_it e.kind y.number ≡ false) (sym one) goes_on)))
@@ -470,7 +467,7 @@ module _ (s : SetUp) (past : List Entry) (e : Entry) (own : is_of s.number e ≡
           where
             slots_apart : (c : Bool) → (v.slot == w.slot) ≡ c → (v.slot == w.slot) ≡ false
             slots_apart false h = h
-            slots_apart true h = absurd (true≢false (sym (eqb_refl w.number) ∙ subst (λ n. (w.number == n) ≡ false) (given.one v w v_runs ran (eqb_true v.slot w.slot h)) apart))
+            slots_apart true h = absurd (true≢false (sym (eqb_refl w.number) ∙ subst (λ n. (w.number == n) ≡ false) (given.one v w v_runs ran (eqb-true v.slot w.slot h)) apart))
 
     step_fits : ByOwed s (state_of s past) k m ⊎ (BySession s (state_of s past) k m ⊎ ByJobEven s (state_of s past) k m) → (x : Work) → Member x (works_after (rows_at past r) r (works past r) e e.kind) → After x
     step_fits (inl o) = owed_fits o

@@ -3,8 +3,11 @@ use Rattle.node_model.specs.Clocks.{hold_time}
 use Rattle.std.proofs.Common.{◌≡◌, ℕ, ◌+◌, ◌-◌, ◌/◌, ◌^◌, Bool, true, false, List, [], ◌∷◌, Option, Some, None, inl, inr, refl, sym, ap, ◌∙◌, subst}
 use Rattle.std.specs.Prelude.{if◌then◌else◌, ◌==◌, ◌&&◌, not, min, nat_lt, nat_le, bytes_eq, codes}
 use Rattle.std.specs.List.{list_all, list_any}
-use Rattle.std.proofs.lemmas.Bool.{true≢false}
+use Rattle.std.proofs.lemmas.Bool.{true≢false, and_parts, eqb-true}
+use Rattle.std.proofs.lemmas.Option.{same_Some}
 use Rattle.annex_base.specs.declared.kinds.Call.{Call}
+use Rattle.annex_base.proofs.Lists.{find_member}
+use Rattle.annex_base.proofs.Conditions.{if_either}
 use Rattle.annex_base.specs.declared.kinds.Call.TheVariants as calls
 use Rattle.drop_proof.specs.declared.rule.Side.{Side}
 use Rattle.drop_proof.specs.declared.rule.Side.TheVariants.{Local, Remote}
@@ -27,8 +30,9 @@ use Rattle.node_model.specs.Ends.{may_take, takes_at}
 use Rattle.node_model.specs.Sessions.{line_in, reaches}
 use Rattle.node_model.specs.Jobs
 use Rattle.node_model.specs.Jobs.{Part, Gets, Puts, Drops, Phase, Rows, Fresh, Next, Opens, Greets, GetsData, GetsBytes, GetsWord, PutsOffer, PutsBytes, PutsWord, PutsAnswer, AsksLock, AsksLook, AsksTime, Removed, Denied, Late, Ends, Work, fault_of, fault_phase, first_look, gets_more, puts_more, is_move, job_end, listens, partner, quiet, says, side_of, taken_message, took, transferred, unreleased}
-use Rattle.node_model.specs.Calls.{to_commit, to_hold, to_release}
-use Rattle.node_model.specs.Look.{Made, failing, same_call, unless, waiting}
+use Rattle.node_model.specs.Calls.{to_commit, to_hold, to_release, to_resume, to_read}
+use Rattle.node_model.specs.Look.{Made, failing, unless, waiting}
+use Rattle.annex_base.specs.Calls.{same_call}
 use Rattle.node_model.specs.SessionStep.{bytes_left}
 use Rattle.node_model.specs.Knows.{enough_by, next_by}
 use Rattle.node_model.specs.JobStep.{Turn, hears, attempts, bar_there, by_me, clock_of, end_with, ends, farewells, is_there, key_of, me, owns_share, quietly, says_to, sends_to, talk, wrong}
@@ -36,8 +40,6 @@ use Rattle.node_model.specs.DropStep.{takes_drop, takes_time, asks_copy, asks_lo
 use Rattle.node_model.specs.Requests.{asks, goes_to}
 use Rattle.node_model.specs.TransferStep.{takes_get, takes_put, content_of, first_get, first_put, gains, next_get, next_source, puts_from, puts_piece, takes_bytes}
 use Rattle.node_model.specs.Turns.{takes_answer, awaits, by_partner, goes_on, has_room, needs, with_partner, is_awaiting, first_step, goes, judges, next_step, outcome_of, takes, takes_frame, takes_text}
-use Rattle.race_core.proofs.Plain.{and_true, eqb_true}
-use Rattle.race_core.proofs.Cases.{find_was, if_found}
 use Rattle.race_core.proofs.ClientCounts.{Counts, last_away, none_is, IsLive, LastIs, AskedFrom, Request, Stays, answers_it, asks_for, awaits_of, counts_takes, is_answering, request}
 use Rattle.race_core.proofs.ClientTurns.{Even, EvenTo, made_entry, rows_of, talker, talker_phase}
 use Rattle.race_core.proofs.ClientLeaves.{Goes, Taking, asks_even, awaits_none, awaits_not, awaits_true, bytes_even, closes_even, first_even, hears_even, hears_to, keeps_even, lost_even, opens_even, over_even, sends_even, shut_even, still_even, tells_even, tells_to, took_other, wrong_even}
@@ -83,7 +85,7 @@ attempts_even P t cs taken m bad good = go t.look.fails
 
     go : (o : Option Call) → P (unless (failing o cs) fault m)
     go None = good
-    go (Some c) = if_found (λ (x : Option Call). P (unless x fault m)) (list_any (same_call c) cs) (Some c) None (λ e. bad c e) (λ e. good)
+    go (Some c) = if_either (λ (x : Option Call). P (unless x fault m)) (list_any (same_call c) cs) (Some c) None (λ e. bad c e) (λ e. good)
 
 -- neither the writing of a line, nor a release
 abbrev is_plain : Call → Bool
@@ -95,6 +97,11 @@ plain_in : (call : Call) (cs : List Call) → list_any (same_call calls.PutFile)
 plain_in calls.PutFile cs a b e = absurd (true≢false (sym e ∙ a))
 plain_in calls.Unhold cs a b e = absurd (true≢false (sym e ∙ b))
 plain_in call cs a b e = refl
+
+-- so is each of those that ask for a part
+resume_plain : (reads : Bool) (call : Call) → list_any (same_call call) (calls.PartSize ∷ to_read reads) ≡ true → is_plain call ≡ true
+resume_plain true call e = plain_in call (calls.PartSize ∷ to_read true) refl refl e
+resume_plain false call e = plain_in call (calls.PartSize ∷ to_read false) refl refl e
 
 fault_is : (r : ℕ) (w : Work) (time : ℕ) (call : Call) → is_plain call ≡ true → fault_of r w time call ≡ fault_phase r w w.part (side_of w) w.phase
 fault_is r w time calls.PutFile e = absurd (cc)
@@ -183,21 +190,21 @@ target_even : (t : Turn) (version : ℕ) (taken : Option FrameView) → Speaks t
     → (end : Option ℕ) → EvenMade t (asks_target t version taken end)
 target_even t version taken speaks to asker old None = order_even t taken None to speaks.remove asker
 target_even t version taken speaks to asker old (Some end) =
-    if_found (EvenMade t) (nat_lt version 3) (quietly (talk t) taken) (says_to t (talk t) taken (target t) GetTimestamp) (λ e. old)
+    if_either (EvenMade t) (nat_lt version 3) (quietly (talk t) taken) (says_to t (talk t) taken (target t) GetTimestamp) (λ e. old)
     (λ e. asker (talk t) GetTimestamp AsksTime time_reads refl refl (inr to) (awaits_true t.w.what.peer AsksTime (target t) refl to) (λ e. (t.look.time, refl)))
 
 copy_even : (t : Turn) (version : ℕ) (taken : Option FrameView) (peer : ℕ) → Speaks t → t.w.part ≡ Drops → Asks t taken peer → EvenMade t (quietly (talk t) taken)
     → (side : Side) → side_of t.w ≡ side → EvenMade t (asks_copy t version taken peer side)
 copy_even t version taken peer speaks part asker old Local is = lock_even t taken peer speaks asker
 copy_even t version taken peer speaks part asker old Remote is =
-    if_found (EvenMade t) (target t == peer) (asks_target t version taken (first_end t)) (asks_lock t taken peer)
-    (λ e. target_even t version taken speaks (speaks.to_target part is) (subst (Asks t taken) (sym (eqb_true (target t) peer e)) asker) old (first_end t))
+    if_either (EvenMade t) (target t == peer) (asks_target t version taken (first_end t)) (asks_lock t taken peer)
+    (λ e. target_even t version taken speaks (speaks.to_target part is) (subst (Asks t taken) (sym (eqb-true (target t) peer e)) asker) old (first_end t))
     (λ e. lock_even t taken peer speaks asker)
 
 first_asks : (t : Turn) (version : ℕ) (taken : Option FrameView) (peer : ℕ) → Speaks t → Asks t taken peer → EvenMade t (quietly (talk t) taken)
     → ((call : Call) → is_plain call ≡ true → EvenMade t (quietly (Fault call (by_me t)) taken)) → (part : Part) → t.w.part ≡ part → EvenMade t (asks t version taken peer part)
 first_asks t version taken peer speaks asker old faults Gets is =
-    attempts_even (EvenMade t) t (calls.PartSize ∷ []) taken (says_to t (talk t) taken peer (Get t.look.part [] (key_of t))) (λ call e. faults call (plain_in call (calls.PartSize ∷ []) refl refl e))
+    attempts_even (EvenMade t) t (to_resume t.look.part) taken (says_to t (talk t) taken peer (Get t.look.part [] (key_of t))) (λ call e. faults call (resume_plain (nat_lt 0 t.look.part) call e))
     (asker (talk t) (Get t.look.part [] (key_of t)) (GetsData peer t.look.part) speaks.get refl refl (inr refl) (awaits_true t.w.what.peer (GetsData peer t.look.part) peer refl refl) (λ e. (t.look.time, refl)))
 first_asks t version taken peer speaks asker old faults Puts is =
     asker (talk t) (Put [] (key_of t)) (PutsOffer peer) speaks.put refl refl (inr refl) (awaits_true t.w.what.peer (PutsOffer peer) peer refl refl) (λ e. (t.look.time, refl))
@@ -206,7 +213,7 @@ first_asks t version taken peer speaks asker old faults Drops is = copy_even t v
 -- ---- a job that stands on no connection
 
 look_alone : (target : Option ℕ) (r : ℕ) (x : Work) (part : Part) (here : Bool) (bar : Option ℕ) → partner target (first_look r x part here bar).phase ≡ None
-look_alone target r x Gets true bar = if_found (λ (y : Work). partner target y.phase ≡ None) (is_move x.what.kind) (record x { part = Drops; phase = Fresh; fills = false }) (record x { phase = Ends (Got None None); fills = false }) (λ e. refl) (λ e. refl)
+look_alone target r x Gets true bar = if_either (λ (y : Work). partner target y.phase ≡ None) (is_move x.what.kind) (record x { part = Drops; phase = Fresh; fills = false }) (record x { phase = Ends (Got None None); fills = false }) (λ e. refl) (λ e. refl)
 look_alone target r x Drops false bar = refl
 look_alone target r x Drops true (Some i) = refl
 look_alone target r x part here bar = refl
@@ -223,7 +230,7 @@ module _ (t : Turn) (alone : partner t.w.what.peer t.w.phase ≡ None) (live : I
       (quiet_alone t.w.what.peer (rows_of t) (me t) (talker t None) (talker t None).phase (ap (λ (p : Phase). partner t.w.what.peer p) (talker_phase t None) ∙ alone)))
 
   goes_to_even : (peer : ℕ) → EvenMade t (goes_to t peer)
-  goes_to_even peer = if_found (EvenMade t) (end_with t peer).opened (asks t t.w.version None peer t.w.part) (sends_to t (talk t) None peer (Opening ∷ []))
+  goes_to_even peer = if_either (EvenMade t) (end_with t peer).opened (asks t t.w.version None peer t.w.part) (sends_to t (talk t) None peer (Opening ∷ []))
       (λ e. first_asks t t.w.version None peer speaks (λ kind m next back asks goes stays now last. first_even t alone live kind peer m next e back asks goes stays now last) quiet_even
       (λ call plain. fault_even t alone live call plain) t.w.part refl)
       (λ e. opens_even t alone live (talk t) peer)
@@ -258,7 +265,7 @@ module _ (t : Turn) (alone : partner t.w.what.peer t.w.phase ≡ None) (live : I
   drop_first Remote = remote_even (required_there t)
 
   get_first : (here filled : Bool) (source : Option ℕ) → EvenMade t (first_get t here filled source)
-  get_first true filled source = if_found (EvenMade t) (is_move t.w.what.kind) (quietly (talk t) None) (ends t None (Got None None)) (λ e. quiet_even) (λ e. ends_even t alone live (Got None None))
+  get_first true filled source = if_either (EvenMade t) (is_move t.w.what.kind) (quietly (talk t) None) (ends t None (Got None None)) (λ e. quiet_even) (λ e. ends_even t alone live (Got None None))
   get_first false true source = ends_even t alone live (TransferRefused failures.Busy)
   get_first false false None = quiet_even
   get_first false false (Some peer) = goes_to_even peer
@@ -276,7 +283,7 @@ module _ (t : Turn) (alone : partner t.w.what.peer t.w.phase ≡ None) (live : I
   first_step_even Drops = drop_first (side_of t.w)
 
   removes_even : EvenMade t (removes t)
-  removes_even = if_found (EvenMade t) (in_time (clock_of t) (first_end t)) (attempts t (calls.Remove ∷ []) None (quietly (Gone (by_me t) (key_of t)) None)) (ends t None (expired (clock_of t) (first_end t)))
+  removes_even = if_either (EvenMade t) (in_time (clock_of t) (first_end t)) (attempts t (calls.Remove ∷ []) None (quietly (Gone (by_me t) (key_of t)) None)) (ends t None (expired (clock_of t) (first_end t)))
       (λ e. attempts_even (EvenMade t) t (calls.Remove ∷ []) None (quietly (Gone (by_me t) (key_of t)) None) (λ call h. fault_even t alone live call (plain_in call (calls.Remove ∷ []) refl refl h))
       (still_even t alone live (Gone (by_me t) (key_of t)) Removed refl))
       (λ e. ends_even t alone live (expired (clock_of t) (first_end t)))
@@ -312,16 +319,13 @@ rests t next peer none = record {
 
 transferred_alone : (target : Option ℕ) (x : Work) (outcome : Outcome) → partner target (transferred x outcome).phase ≡ None
 transferred_alone target x outcome =
-    if_found (λ (y : Work). partner target y.phase ≡ None) (is_move x.what.kind) (record x { part = Drops; phase = Fresh; fills = false }) (record x { phase = Ends outcome; fills = false }) (λ e. refl) (λ e. refl)
+    if_either (λ (y : Work). partner target y.phase ≡ None) (is_move x.what.kind) (record x { part = Drops; phase = Fresh; fills = false }) (record x { phase = Ends outcome; fills = false }) (λ e. refl) (λ e. refl)
 
 same_other : (q : Counts) (body : FrameText) (m : Message) → line_in body ≡ Some m → answers_it (Some m) ≡ false → counts_takes q body ≡ q
 same_other q (Line text) m told e = took_other q text m told e
 same_other q Opening m told e = absurd (cc)
 same_other q Closing m told e = absurd (cc)
 same_other q (Bytes n) m told e = refl
-
-some_peer : (p q : ℕ) → Some p ≡ Some q → p ≡ q
-some_peer p q e = cc
 
 -- a get that goes on
 record Goes_on (t : Turn) (start : ℕ) (next : Phase) (peer : ℕ) : Type 0 where
@@ -330,12 +334,12 @@ record Goes_on (t : Turn) (start : ℕ) (next : Phase) (peer : ℕ) : Type 0 whe
   any : (l : Option Request) → AskedFrom (key_of t) start l → LastIs (key_of t) t.w.what.peer next peer l
 
 more_gets : (t : Turn) (p peer start size left : ℕ) → Some p ≡ Some peer → Goes_on t start (gets_more p start size left) peer
-more_gets t p peer start size left same = if_found (λ (x : Phase). Goes_on t start x peer) (left == 0) (GetsWord p start size) (GetsBytes p start size left)
+more_gets t p peer start size left same = if_either (λ (x : Phase). Goes_on t start x peer) (left == 0) (GetsWord p start size) (GetsBytes p start size left)
     (λ e. record { stays = inr same; now = awaits_true t.w.what.peer (GetsWord p start size) peer refl same; any = λ l h e. h })
     (λ e. record { stays = inr same; now = awaits_true t.w.what.peer (GetsBytes p start size left) peer refl same; any = λ l h e. h })
 
 more_puts : (t : Turn) (p peer start at left : ℕ) → Some p ≡ Some peer → Rests t (puts_more p start at left) peer
-more_puts t p peer start at left same = if_found (λ (x : Phase). Rests t x peer) (left == 0) (PutsWord p start) (PutsBytes p start at left)
+more_puts t p peer start at left same = if_either (λ (x : Phase). Rests t x peer) (left == 0) (PutsWord p start) (PutsBytes p start at left)
     (λ e. record { stays = inr same; now = refl; any = λ l e. absurd (true≢false (sym e)) }) (λ e. record { stays = inr same; now = refl; any = λ l e. absurd (true≢false (sym e)) })
 
 module _ (t : Turn) (f : FrameView) (peer : ℕ) (x : Taking t f peer) (speaks : Speaks t) where
@@ -384,13 +388,13 @@ module _ (t : Turn) (f : FrameView) (peer : ℕ) (x : Taking t f peer) (speaks :
       go None first = order_even t (Some f) None to speaks.remove asks_it
       go (Some end) first =
           let deadline = n + (end - clock_of t) / 1000 in
-          if_found (EvenMade t) (nat_lt (clock_of t) end) (orders t (Some f) (Some deadline) (RemoveBefore deadline (key_of t))) (ends t (Some f) (Refused (refusals.Expired end (clock_of t))))
+          if_either (EvenMade t) (nat_lt (clock_of t) end) (orders t (Some f) (Some deadline) (RemoveBefore deadline (key_of t))) (ends t (Some f) (Refused (refusals.Expired end (clock_of t))))
           (λ e. order_even t (Some f) (Some deadline) to (speaks.before n end small first e) asks_it)
           (λ e. late_even n (Refused (refusals.Expired end (clock_of t))) is told)
 
   time_even : (n : ℕ) → t.w.part ≡ Drops → t.w.phase ≡ AsksTime → line_in f.body ≡ Some (Timestamp n) → (side : Side) → side_of t.w ≡ side → EvenMade t (takes_time t f peer n side)
   time_even n part is told Local side = bad
-  time_even n part is told Remote side = if_found (EvenMade t) (nat_lt n (2 ^ 61)) (times t f n (first_end t)) (wrong t f peer)
+  time_even n part is told Remote side = if_either (EvenMade t) (nat_lt n (2 ^ 61)) (times t f n (first_end t)) (wrong t f peer)
       (λ e. times_even n e part side is told (first_end t) refl) (λ e. bad)
 
   drop_even : t.w.part ≡ Drops → (phase : Phase) (m : Message) → t.w.phase ≡ phase → line_in f.body ≡ Some m → EvenMade t (takes_drop t f peer phase m)
@@ -425,7 +429,7 @@ module _ (t : Turn) (f : FrameView) (peer : ℕ) (x : Taking t f peer) (speaks :
       let r = more_gets t p peer start start n (same_peer (GetsData p start) is) in
       keeps_even t (talk t) f peer x (gets_more p start start n) (λ q. same_other q f.body (Data n) told refl)
       (took_listens (talker t (Some f)) f.body (Data n) (GetsData p start) told (talker_phase t (Some f) ∙ is)) r.stays r.now
-      (λ l h. r.any l (subst (λ (q : Phase). LastIs (key_of t) t.w.what.peer q peer l) is h (some_peer p peer (same_peer (GetsData p start) is))))
+      (λ l h. r.any l (subst (λ (q : Phase). LastIs (key_of t) t.w.what.peer q peer l) is h (same_Some p peer (same_peer (GetsData p start) is))))
   get_even (GetsWord p start size) Valid is told = attempts_even (EvenMade t) t (to_commit t.look.right) (Some f) (gains t f peer size t.look.right)
       (λ call e. fault_here call (commit_plain t.look.right call e)) (gains_even p start size is told t.look.right)
   get_even (GetsWord p start size) Invalid is told = refused_even p start size Invalid is told refl
@@ -437,14 +441,14 @@ module _ (t : Turn) (f : FrameView) (peer : ℕ) (x : Taking t f peer) (speaks :
       let r = more_puts t peer peer n n k refl in
       attempts_even (EvenMade t) t (calls.Size ∷ []) (Some f) (if reaches (content_of t) n then says_to t (talk t) (Some f) peer (Data k) else wrong t f peer)
       (λ call e. fault_here call (plain_in call (calls.Size ∷ []) refl refl e))
-      (if_found (EvenMade t) (reaches (content_of t) n) (says_to t (talk t) (Some f) peer (Data k)) (wrong t f peer)
+      (if_either (EvenMade t) (reaches (content_of t) n) (says_to t (talk t) (Some f) peer (Data k)) (wrong t f peer)
       (λ e. tells_even t (talk t) f peer x (Data k) (puts_more peer n n k) (answers_line f.body (PutFrom n) told refl) (speaks.data' n) refl
       (ap (λ (o : Option Message). Jobs.put_from peer k o) told) r.stays r.now r.any) (λ e. bad))
 
   put_even : (phase : Phase) (m : Message) → t.w.phase ≡ phase → line_in f.body ≡ Some m → EvenMade t (takes_put t f peer phase m)
   put_even (PutsOffer p) AlreadyHave is told = heard_even (PutsOffer p) AlreadyHave (transferred (talker t (Some f)) (Copied None)).phase is told refl refl (transferred_alone t.w.what.peer (talker t (Some f)) (Copied None))
   put_even (PutsOffer p) Failure is told = heard_even (PutsOffer p) Failure (Ends (TransferRefused failures.Rejected)) is told refl refl refl
-  put_even (PutsOffer p) (Error text) is told = if_found (EvenMade t) (bytes_eq text (codes "busy")) (hears t f) (wrong t f peer)
+  put_even (PutsOffer p) (Error text) is told = if_either (EvenMade t) (bytes_eq text (codes "busy")) (hears t f) (wrong t f peer)
       (λ e. heard_even (PutsOffer p) (Error text) (Ends (TransferRefused failures.Busy)) is told e refl refl) (λ e. bad)
   put_even (PutsOffer p) (PutFrom n) is told = from_even p n is told
   put_even (PutsAnswer p start) Success is told = heard_even (PutsAnswer p start) Success (transferred (talker t (Some f)) (Copied (Some start))).phase is told refl refl (transferred_alone t.w.what.peer (talker t (Some f)) (Copied (Some start)))
@@ -459,7 +463,7 @@ module _ (t : Turn) (f : FrameView) (peer : ℕ) (x : Taking t f peer) (speaks :
   takes_even : (phase : Phase) (m : Message) → t.w.phase ≡ phase → line_in f.body ≡ Some m → EvenMade t (takes t f peer phase m)
   takes_even (Opens p) (AuthSuccess id) is told =
       asker (AuthSuccess id) told refl (talk t) (Version 3) (Greets peer) speaks.version refl refl (inr refl) (awaits_true t.w.what.peer (Greets peer) peer refl refl) (λ e. refl)
-  takes_even (Greets p) (Version n) is told = if_found (EvenMade t) (nat_le n 3) (asks t n (Some f) peer t.w.part) (wrong t f peer)
+  takes_even (Greets p) (Version n) is told = if_either (EvenMade t) (nat_le n 3) (asks t n (Some f) peer t.w.part) (wrong t f peer)
       (λ e. first_asks t n (Some f) peer speaks (asker (Version n) told refl) (heard_even (Greets p) (Version n) (Ends (Refused (refusals.OldProtocol n))) is told refl refl refl) fault_here t.w.part refl)
       (λ e. bad)
   takes_even phase m is told = answer_even phase m is told t.w.part refl
@@ -471,11 +475,11 @@ module _ (t : Turn) (f : FrameView) (peer : ℕ) (x : Taking t f peer) (speaks :
   bytes_taken : (n : ℕ) → f.body ≡ Bytes n → (phase : Phase) → t.w.phase ≡ phase → EvenMade t (takes_bytes t f peer n phase)
   bytes_taken n body (GetsBytes p start size left) is =
       let r = more_gets t p peer start (size + n) (left - n) (same_peer (GetsBytes p start size left) is) in
-      if_found (EvenMade t) (nat_lt 0 n && nat_le n left) (attempts t (calls.Append ∷ []) (Some f) (quietly (talk t) (Some f))) (wrong t f peer)
+      if_either (EvenMade t) (nat_lt 0 n && nat_le n left) (attempts t (calls.Append ∷ []) (Some f) (quietly (talk t) (Some f))) (wrong t f peer)
       (λ e. attempts_even (EvenMade t) t (calls.Append ∷ []) (Some f) (quietly (talk t) (Some f)) (λ call h. fault_here call (plain_in call (calls.Append ∷ []) refl refl h))
       (keeps_even t (talk t) f peer x (gets_more p start (size + n) (left - n)) (λ q. ap (λ (b : FrameText). counts_takes q b) body)
       (ap (λ (b : FrameText). (took (talker t (Some f)) b).phase) body ∙ ap (λ (q : Phase). Jobs.gets_bytes n q) (talker_phase t (Some f) ∙ is)) r.stays r.now
-      (λ l h. r.any l (subst (λ (q : Phase). LastIs (key_of t) t.w.what.peer q peer l) is h (some_peer p peer (same_peer (GetsBytes p start size left) is))))))
+      (λ l h. r.any l (subst (λ (q : Phase). LastIs (key_of t) t.w.what.peer q peer l) is h (same_Some p peer (same_peer (GetsBytes p start size left) is))))))
       (λ e. bad)
   bytes_taken n body phase is = bad
 
@@ -544,8 +548,8 @@ wait_even t peer m speaks on awaiting opened (Some f) is e = go (has_room t peer
     go false g = absurd (cc)
     go true g =
         let same : takes_frame t peer f f.body ≡ m = cc in
-        let was = find_was (λ g. takes_at (job_end t.w peer) g && may_take (end_with t peer) g) t.look.at_hand f is in
-        let both = and_true (takes_at (job_end t.w peer) f) (may_take (end_with t peer) f) was.1 in
+        let was = find_member (λ g. takes_at (job_end t.w peer) g && may_take (end_with t peer) g) t.look.at_hand f is in
+        let both = and_parts (takes_at (job_end t.w peer) f) (may_take (end_with t peer) f) was.1 in
         subst (EvenMade t) same (frame_even t f peer (record { on = on; awaiting = awaiting; opened = opened; of_end = both.0 }) speaks f.body refl)
 
 with_even : (t : Turn) (peer : ℕ) (m : Made) → Speaks t → partner t.w.what.peer t.w.phase ≡ Some peer → (b : Bool) → (end_with t peer).opened ≡ b → with_partner t peer b ≡ Some m → EvenMade t m

@@ -1,7 +1,8 @@
 -- A step of a job keeps what its phase says of requests and answers.
 use Rattle.std.proofs.Common.{◌≡◌, ℕ, Bool, true, false, List, Option, Some, None, inl, inr, refl, sym, ap, ◌∙◌, subst}
 use Rattle.std.specs.Prelude.{◌==◌, fold}
-use Rattle.std.proofs.lemmas.Bool.{true≢false}
+use Rattle.std.proofs.lemmas.Bool.{true≢false, eqb-true}
+use Rattle.annex_base.proofs.Conditions.{if_either}
 use Rattle.run_data.specs.declared.entry.Entry.{Entry}
 use Rattle.run_data.specs.declared.entry.EntryKind.{EntryKind}
 use Rattle.run_data.specs.declared.entry.EntryKind.TheVariants.{End as ends_job}
@@ -16,9 +17,7 @@ use Rattle.node_model.specs.Jobs
 use Rattle.node_model.specs.Jobs.{Part, Gets, Puts, Drops, Phase, Rows, Work, claims, closed_part, job_end, learns, partner, talks, talks_on, work_kind}
 use Rattle.node_model.specs.Look.{Made, entry_of}
 use Rattle.node_model.specs.JobStep.{Turn, end_with, key_of, me}
-use Rattle.race_core.proofs.Cases.{if_found}
 use Rattle.race_core.proofs.JobKept.{claims_kept, learns_kept}
-use Rattle.race_core.proofs.Plain.{eqb_true}
 use Rattle.race_core.proofs.ClientCounts
 
 -- ---- what a step makes of its job
@@ -66,7 +65,7 @@ local_even t m next peer local live stays goes here = λ p q fits. go p q fits (
 
     go : (p : ℕ) (q : ClientCounts.Counts) → ClientCounts.Fits (key_of t) t.w.what.peer t.w.phase p (end_with t p) q → (b : Bool) → (peer == p) ≡ b
         → ClientCounts.Fits (key_of t) t.w.what.peer next p (end_after (job_end t.w p) (end_with t p) (made_entry t m)) (ClientCounts.counts_after (job_end t.w p) q (made_entry t m))
-    go p q fits true is = subst FitsAt (eqb_true peer p is) at_peer q fits
+    go p q fits true is = subst FitsAt (eqb-true peer p is) at_peer q fits
     go p q fits false apart = rw (local.sends_else p apart, local.takes_else p apart)
         (λ l o. ClientCounts.counted_away (key_of t) t.w.what.peer t.w.phase next peer p q stays goes apart (fits live o))
 
@@ -78,7 +77,7 @@ pub talker_slot : (t : Turn) (taken : Option FrameView) → (talker t taken).slo
 talker_slot t taken = ap (λ r. r.slot) (learns_kept (claims t.w t.w.part t.w.phase) t.w.phase taken ∙ claims_kept t.w t.w.part t.w.phase)
 
 learns_phase : (x : Work) (phase : Phase) (taken : Option FrameView) → (learns x phase taken).phase ≡ x.phase
-learns_phase x (Jobs.Greets peer) (Some f) = if_found (λ (y : Work). y.phase ≡ x.phase) (option_is x.what.peer peer) (record x { version = Jobs.version_said x.version (line_in f.body) }) x (λ e. refl) (λ e. refl)
+learns_phase x (Jobs.Greets peer) (Some f) = if_either (λ (y : Work). y.phase ≡ x.phase) (option_is x.what.peer peer) (record x { version = Jobs.version_said x.version (line_in f.body) }) x (λ e. refl) (λ e. refl)
 learns_phase x phase taken = refl
 
 claims_phase : (w : Work) (part : Part) (phase : Phase) → (claims w part phase).phase ≡ w.phase
@@ -92,7 +91,7 @@ pub closed_alone : (target : Option ℕ) (r : ℕ) (x : Work) (peer : ℕ) (part
 closed_alone target r x peer Gets = refl
 closed_alone target r x peer Puts = refl
 closed_alone target r x peer Drops =
-    if_found (λ (y : Work). partner target y.phase ≡ None) (Jobs.target_of r x == peer) (Jobs.to_phase x (Jobs.Ends (outcomes.Refused (refusals.Lost (Jobs.is_ordered x.phase))))) (Jobs.hears x peer (Jobs.Lacks causes.Closed)) (λ e. refl) (λ e. refl)
+    if_either (λ (y : Work). partner target y.phase ≡ None) (Jobs.target_of r x == peer) (Jobs.to_phase x (Jobs.Ends (outcomes.Refused (refusals.Lost (Jobs.is_ordered x.phase))))) (Jobs.hears x peer (Jobs.Lacks causes.Closed)) (λ e. refl) (λ e. refl)
 
 pub live_on : (target : Option ℕ) (phase : Phase) (peer : ℕ) → partner target phase ≡ Some peer → ClientCounts.IsLive phase
 live_on target (Jobs.Ends o) peer on = let e : None ≡ Some peer = on in absurd (cc)
@@ -107,7 +106,7 @@ pub talk_even : (t : Turn) (m : Made) (peer : ℕ) (next : Phase) → partner t.
     → (end_then (end_with t peer) m).opened ≡ true → ClientCounts.Counted (key_of t) t.w.what.peer next peer (counts_then t.look.time q m))
     → EvenTo t m (talks_on (rows_of t) (me t) (talker t m.taken) (made_entry t m) (partner t.w.what.peer t.w.phase)).phase
 talk_even t m peer next on local goes stays here = subst (λ (p : Option ℕ). EvenTo t m (talks_on (rows_of t) (me t) x e p).phase) (sym on)
-    (if_found (λ (y : Work). EvenTo t m y.phase) (end_after (job_end x peer) (t.ends (job_end x peer)) e).opened (talks (rows_of t) (me t) x e m.sent) (closed_part (me t) x peer x.part) opened closed)
+    (if_either (λ (y : Work). EvenTo t m y.phase) (end_after (job_end x peer) (t.ends (job_end x peer)) e).opened (talks (rows_of t) (me t) x e m.sent) (closed_part (me t) x peer x.part) opened closed)
   where
     x : Work
     x = talker t m.taken

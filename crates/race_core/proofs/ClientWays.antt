@@ -2,7 +2,10 @@
 use Rattle.std.proofs.Common.{◌≡◌, ℕ, ◌+◌, ◌<◌, Bool, true, false, List, [], ◌∷◌, ◌++◌, length, Option, Some, None, ◌⊎◌, inl, inr, refl, sym, ap, ◌∙◌, subst, arith, append-nil, length-append, add-zero, not}
 use Rattle.std.specs.Prelude.{if◌then◌else◌, ◌==◌, ◌&&◌, filter, fold, map, nat_lt, option_map}
 use Rattle.std.proofs.lemmas.Bool.Decides.{nat_tests}
+use Rattle.std.proofs.lemmas.Bool.{eqb-true}
+use Rattle.std.proofs.lemmas.List.Elements.{filter-append}
 use Rattle.annex_base.specs.Lists.{Each}
+use Rattle.annex_base.proofs.Conditions.{eqb_refl}
 use Rattle.run_data.specs.declared.entry.Entry.{Entry}
 use Rattle.run_data.specs.declared.entry.FrameView.{FrameView}
 use Rattle.run_data.specs.declared.entry.FrameText.{FrameText}
@@ -17,7 +20,6 @@ use Rattle.run_model.specs.Frames.{Way, Flying, flying, is_on, last_of, on_way, 
 use Rattle.node_model.specs.Ends.{same_bool, is_opening, end_takes, EndName, End, end_after, end_sends, end_took, may_take, sends_at, sent_at, taken_at, takes_at}
 use Rattle.run_model.specs.States.{end_at}
 use Rattle.node_model.specs.Sessions.{line_in}
-use Rattle.race_core.proofs.Plain.{eqb_refl, eqb_true, filter_append}
 use Rattle.race_core.proofs.ClientCounts.{counts_takes, counts_answer, counts_line, Counts, Request, answers_it, asks_for, counts_after, counts_at, counts_sends, counts_took, is_answering, is_asking, request}
 use Rattle.race_core.proofs.ClientRuns.{client_end}
 
@@ -126,7 +128,7 @@ took_agree R T T' c q f may more x = go f.body refl
         }
           where
             apart : (n : ℕ) → c.epoch < n → (f.epoch == n) ≡ false
-            apart n m = let at : f.epoch ≡ c.epoch = eqb_true f.epoch c.epoch same in grind (arith, nat_tests)
+            apart n m = let at : f.epoch ≡ c.epoch = eqb-true f.epoch c.epoch same in grind (arith, nat_tests)
 
 -- ---- frames that are sent
 
@@ -230,7 +232,7 @@ got_on r peer slot past n = taken_if is_answer past (down_way r (client_end peer
 
 asked_more : (r peer slot : ℕ) (e : Entry) (past : List Entry) (n : ℕ) → is_of r e ≡ true
     → asked_on r peer slot (e ∷ past) n ≡ asked_on r peer slot past n ++ map (flying e past) (filter (says is_request) (filter (λ g. g.epoch == n) (sent_at (client_end peer slot) e.sent)))
-asked_more r peer slot e past n own = rw own (filter_append (λ x. says is_request x.frame) (Frames.sent past (up_way r (client_end peer slot) n)) (map (flying e past) (on_way (up_way r (client_end peer slot) n) e))
+asked_more r peer slot e past n own = rw own (filter-append (λ x. says is_request x.frame) (Frames.sent past (up_way r (client_end peer slot) n)) (map (flying e past) (on_way (up_way r (client_end peer slot) n) e))
     ∙ ap (λ ys. asked_on r peer slot past n ++ ys) (filter_flying e past (on_way (up_way r (client_end peer slot) n) e)
     ∙ ap (λ fs. map (flying e past) (filter (says is_request) fs)) (on_way_end r peer slot n e)))
 

@@ -23,7 +23,7 @@ use Rattle.run_model.specs.Causes.{Answers, FoundNoSource, SourceCauseOf, TookGe
 use Rattle.node_model.specs.SetUp.{SetUp}
 use Rattle.node_model.specs.Jobs
 use Rattle.node_model.specs.Jobs.{AsksTime, Denied, Drops, Ends, Fresh, Late, Next, Orders, Phase, Removed, Work, partner, running, side_of}
-use Rattle.run_model.specs.States.{content, works}
+use Rattle.run_model.specs.States.{works}
 use Rattle.node_model.specs.Knows.{obeyed, proof_by}
 use Rattle.node_model.specs.JobStep.{Turn}
 use Rattle.node_model.specs.DropStep

@@ -2,8 +2,9 @@
 -- connection; and what the job takes suits where it stands.
 use Rattle.std.proofs.Common.{◌≡◌, ◌≢◌, ℕ, ◌+◌, ◌<◌, ◌≤◌, Bool, true, false, List, [], ◌∷◌, ◌++◌, Option, Some, None, ◌⊎◌, inl, inr, refl, sym, ap, ◌∙◌, subst, arith}
 use Rattle.std.specs.Prelude.{◌==◌, ◌&&◌, find, option_map}
-use Rattle.std.proofs.lemmas.Bool.{true≢false}
+use Rattle.std.proofs.lemmas.Bool.{true≢false, and_parts, eqb-true}
 use Rattle.annex_base.specs.Lists.{Each, Member}
+use Rattle.annex_base.proofs.Lists.{Member-filter_parts, find_member}
 use Rattle.run_data.specs.declared.entry.Entry.{Entry}
 use Rattle.run_data.specs.declared.entry.EntryKind.{EntryKind}
 use Rattle.run_data.specs.declared.entry.EntryKind.TheVariants.{End as ends_job}
@@ -28,8 +29,6 @@ use Rattle.node_model.specs.Look.{Made}
 use Rattle.node_model.specs.JobStep.{Turn, is_held}
 use Rattle.run_model.specs.Run.{OwnPast, OwnRun, RunPast, RunStep, set_up}
 use Rattle.node_model.specs.Turns.{is_awaiting}
-use Rattle.race_core.proofs.Plain.{and_true, eqb_true, member_filter}
-use Rattle.race_core.proofs.Cases.{find_was}
 use Rattle.race_core.proofs.JobKept.{kind_kept}
 use Rattle.race_core.proofs.JobSteps.{Stepped, stepped_found, stepped_runs, turn_at}
 use Rattle.race_core.proofs.WorkFits.{works_fit}
@@ -87,7 +86,7 @@ at_open w p e = go (partner w.what.peer w.phase) refl
 
     on : (q : ℕ) → partner w.what.peer w.phase ≡ Some q → (c : Bool) → (q == p) ≡ c → w.phase ≡ Opens p
     on q is true same =
-        let at : partner w.what.peer w.phase ≡ Some p = is ∙ ap (λ n. Some n) (eqb_true q p same) in
+        let at : partner w.what.peer w.phase ≡ Some p = is ∙ ap (λ n. Some n) (eqb-true q p same) in
         let x = phase_is w.phase (sym (stands_on w.what.peer w.phase (kept w p) p at) ∙ e) in
         let both : Some x.0 ≡ Some p = sym (ap (partner w.what.peer) x.1) ∙ at in
         let peer : x.0 ≡ p = cc in
@@ -113,7 +112,7 @@ known_or w p = go (partner w.what.peer w.phase) refl
 
     on : (q : ℕ) → partner w.what.peer w.phase ≡ Some q → (c : Bool) → (q == p) ≡ c → (is_greeted (stands_at w p) ≡ true) ⊎ ((w.phase ≡ Opens p) ⊎ (w.phase ≡ Greets p))
     on q is true same =
-        let at : partner w.what.peer w.phase ≡ Some p = is ∙ ap (λ n. Some n) (eqb_true q p same) in
+        let at : partner w.what.peer w.phase ≡ Some p = is ∙ ap (λ n. Some n) (eqb-true q p same) in
         subst (λ (s : Stance). (is_greeted s ≡ true) ⊎ ((w.phase ≡ Opens p) ⊎ (w.phase ≡ Greets p))) (sym (stands_on w.what.peer w.phase (kept w p) p at)) (phase_is w.phase refl at)
     on q is false apart = inl (ap is_greeted (rw (is, apart) refl) ∙ greeted (kept w p))
 
@@ -231,8 +230,8 @@ module _ (run : Run) (repos : Each IsSetUp run.repos) (past : List Entry) (e : E
 
     waits_suit : WaitsSuit t m
     waits_suit p on opened awaiting f waits took =
-        let found = find_was (λ g. takes_at (job_end w p) g && may_take (end_at past r (job_end w p)) g) y.look.at_hand f waits in
-        let both = and_true (takes_at (job_end w p) f) (may_take (end_at past r (job_end w p)) f) found.1 in
+        let found = find_member (λ g. takes_at (job_end w p) g && may_take (end_at past r (job_end w p)) g) y.look.at_hand f waits in
+        let both = and_parts (takes_at (job_end w p) f) (may_take (end_at past r (job_end w p)) f) found.1 in
         suits p f both.0 both.1 opened took on (was w runs p (live_on w.what.peer w.phase p on) opened)
 
     module _ (goes_on : (j : ℕ) (outcome : Outcome) → m.kind ≢ ends_job j outcome) where
@@ -287,7 +286,7 @@ module _ (run : Run) (repos : Each IsSetUp run.repos) (past : List Entry) (e : E
                 subst (λ (z : EndName). SentWell (end_at past r z) g) at (client_sends s past part.words e part.own g k.0 (ap (λ (z : EndName). z.client) at))
 
         sent_there : Each (SentWell c) (sent_at a e.sent)
-        sent_there = sent_wells (sent_at a e.sent) (λ g k. member_filter (sends_at a) e.sent g k)
+        sent_there = sent_wells (sent_at a e.sent) (λ g k. Member-filter_parts (sends_at a) e.sent g k)
 
         sent_made : sent_at a e.sent ≡ sent_at a m.sent
         sent_made = ap (sent_at a) sent_is
@@ -388,7 +387,7 @@ module _ (run : Run) (repos : Each IsSetUp run.repos) (past : List Entry) (e : E
 
             learnt : (Learns w (made_entry t m) x.version) → is_greeted (stands_at w p) ≡ true → x.version ≡ z.version
             learnt l g =
-                let same : l.peer ≡ p = sym (eqb_true p l.peer (subst (λ (o : Option ℕ). option_is o l.peer ≡ true) to_w l.is_peer)) in
+                let same : l.peer ≡ p = sym (eqb-true p l.peer (subst (λ (o : Option ℕ). option_is o l.peer ≡ true) to_w l.is_peer)) in
                 absurd (true≢false (sym g ∙ at_greets (l.phase_is ∙ ap Greets same)))
 
             takes_of : (phase : Phase) → w.phase ≡ phase → partner w.what.peer phase ≡ Some p → is_awaiting phase ≡ true → Took t m p

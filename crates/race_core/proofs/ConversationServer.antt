@@ -2,9 +2,10 @@
 -- suit where the job stands; or it is to take the Opening; or a Close is on the way.
 use Rattle.std.proofs.Common.{◌≡◌, ℕ, ◌<◌, ◌≤◌, Bool, true, false, List, [], ◌∷◌, ◌++◌, Option, Some, None, ◌⊎◌, inl, inr, refl, sym, ap, ◌∙◌, subst, arith, append_assoc}
 use Rattle.std.specs.Prelude.{◌==◌, filter, slice_get, suc, zero, ◌^◌}
-use Rattle.std.proofs.lemmas.Bool.{true≢false}
+use Rattle.std.proofs.lemmas.Bool.{true≢false, eqb-true}
 use Rattle.std.proofs.lemmas.Bool.Decides.{nat_tests}
 use Rattle.annex_base.specs.Lists.{Each, Member}
+use Rattle.annex_base.proofs.Lists.{Member-filter_parts}
 use Rattle.run_data.specs.declared.entry.Entry.{Entry}
 use Rattle.run_data.specs.declared.entry.FrameView.{FrameView}
 use Rattle.run_data.specs.declared.entry.FrameText.{FrameText}
@@ -23,7 +24,6 @@ use Rattle.node_model.specs.Sessions.{Session, new_session, session_after}
 use Rattle.node_model.specs.SessionStep.{here, on_frame}
 use Rattle.node_model.specs.Look.{Look}
 use Rattle.run_model.specs.Run.{OwnPast, RunPast, RunStep, set_up}
-use Rattle.race_core.proofs.Plain.{member_filter}
 use Rattle.race_core.proofs.WayCounts.{way_in, way_out}
 use Rattle.race_core.proofs.ServerEnds.{GivesHere, Shuts, TakesHere, at_server, same_end-is, takes_end}
 use Rattle.race_core.proofs.EndMoves.{OpensNone, all_epoch, end_own, end_shuts, may_epoch, opening_closed, sends_all, session_own, taken_none, takes_epoch, took_at}
@@ -37,7 +37,6 @@ use Rattle.race_core.proofs.DialogueServes.{frame_serves}
 use Rattle.race_core.proofs.DialogueGives.{gave_first, gives_serves}
 use Rattle.race_core.proofs.DialogueCloses.{closes_no}
 use Rattle.race_core.proofs.DialogueServer.{Stands, answer, gave_bodies, gave_stands, spot_of, taken_end, took_bodies, took_stands}
-use Rattle.race_core.proofs.Lists.{eqb_true}
 use Rattle.race_core.proofs.SessionOwn.{way_at}
 use Rattle.race_core.proofs.FromStep.{Part, own_past, part_of}
 use Rattle.race_core.proofs.Queues.{First, Queue, first_of, in_none_taken, in_still, in_takes, out_all, out_none, out_sends, hits}
@@ -135,7 +134,7 @@ module _ (run : Run) (repos : Each IsSetUp run.repos) (past : List Entry) (e : E
           (x.0 ∙ ap (λ (a : EndName). (between s past part.words e part.own a).epoch) at, x.1)
 
   sent_there : Each (λ g. (g.epoch ≡ mid.epoch) × (is_opening g.body ≡ false)) (sent_at b e.sent)
-  sent_there = sent_each (sent_at b e.sent) (λ g m. member_filter (sends_at b) e.sent g m)
+  sent_there = sent_each (sent_at b e.sent) (λ g m. Member-filter_parts (sends_at b) e.sent g m)
 
   each_first : (fs : List FrameView) → Each (λ g. (g.epoch ≡ mid.epoch) × (is_opening g.body ≡ false)) fs → mid.epoch ≡ n → Each (λ g. g.epoch ≡ n) fs
   each_first [] all e = tt
@@ -386,7 +385,7 @@ module _ (run : Run) (repos : Each IsSetUp run.repos) (past : List Entry) (e : E
         by Opening is true same = elim (at_server s past part.words e r q part.own) [
           | inl y ↦ absurd (let no' : None ≡ Some f = sym y.takes_none ∙ at_b in cc)
           | inr y ↦ elim y [
-            | inl y ↦ (let one : Some y.f ≡ Some f = sym y.taken_is ∙ took in let f_is : y.f ≡ f = cc in opens_it y (ap (λ (g : FrameView). g.body) f_is ∙ is) (ap (λ (g : FrameView). g.epoch) f_is ∙ eqb_true f.epoch n same))
+            | inl y ↦ (let one : Some y.f ≡ Some f = sym y.taken_is ∙ took in let f_is : y.f ≡ f = cc in opens_it y (ap (λ (g : FrameView). g.body) f_is ∙ is) (ap (λ (g : FrameView). g.epoch) f_is ∙ eqb-true f.epoch n same))
             | inr y ↦ absurd (let no' : None ≡ Some f = sym (taken_none s past b e y) ∙ at_b in cc)
           ]
         ]

@@ -4,6 +4,7 @@ use Rattle.node_model.specs.Clocks.{hold_time}
 use Rattle.std.proofs.Common.{◌≡◌, ℕ, ◌+◌, ◌*◌, ◌/◌, Bool, true, false, List, [], ◌∷◌, Option, Some, None, ◌⊎◌, inl, inr, refl, subst}
 use Rattle.std.specs.Prelude.{if◌then◌else◌, ◌==◌, ◌&&◌, min, nat_lt, nat_le, bytes_eq, codes}
 use Rattle.annex_base.specs.declared.kinds.Call.{Call}
+use Rattle.annex_base.proofs.Conditions.{if_either}
 use Rattle.annex_base.specs.declared.kinds.Call.TheVariants as calls
 use Rattle.run_data.specs.declared.entry.By.{By}
 use Rattle.run_data.specs.declared.entry.EntryKind.TheVariants.{Fault, Release, Talk}
@@ -18,7 +19,7 @@ use Rattle.node_model.specs.Sessions.{Doing, Waits, Guards, Gives, Gave, Wants, 
 use Rattle.node_model.specs.Calls.{to_commit, to_lock, to_offer, to_remove}
 use Rattle.node_model.specs.Look.{failing}
 use Rattle.node_model.specs.SessionStep.{Here, Reply, bar_on, by_of, bytes_left, check_answer, close_kind, content_of, gives_next, is_held, is_here, lock_answer, now_of, on_bytes, on_message, on_piece, on_put, on_remove, on_remove_before, on_request, on_unlock, put_answer, refuses, remove_answer, reply, shuts, silent, tries, unexpected, valid_answer}
-use Rattle.race_core.proofs.Cases.{if_found, unless_found}
+use Rattle.race_core.proofs.Cases.{unless_found}
 
 -- it isn't giving
 abbrev pub calm : Doing → Bool
@@ -91,10 +92,10 @@ on_remove-counts h key = tries_counts h true Waits (to_remove (is_here h key) (b
     (remove_answer (by_of h) key (is_here h key) (bar_on h key) (is_held h key)) (refused Waits refl) (remove_counts (by_of h) key (is_here h key) (bar_on h key) (is_held h key))
 
 before_counts : (h : Here) (n : ℕ) (key : List ℕ) → Counts true Waits (on_remove_before h n key).says
-before_counts h n key = if_found (λ (x : Reply). Counts true Waits x.says) (nat_lt (now_of h) (1000 * n)) (on_remove h key) (_) (λ e. on_remove-counts h key) (λ e. refused Waits refl)
+before_counts h n key = if_either (λ (x : Reply). Counts true Waits x.says) (nat_lt (now_of h) (1000 * n)) (on_remove h key) (_) (λ e. on_remove-counts h key) (λ e. refused Waits refl)
 
 with_version : (h : Here) (b : Bool) (x : Reply) → Counts true Waits x.says → Counts true Waits (if b then x else unexpected h).says
-with_version h b x f = if_found (λ (y : Reply). Counts true Waits y.says) b x (unexpected h) (λ e. f) (λ e. odd h true Waits)
+with_version h b x f = if_either (λ (y : Reply). Counts true Waits y.says) b x (unexpected h) (λ e. f) (λ e. odd h true Waits)
 
 request_counts : (h : Here) (v : ℕ) (m : Message) → is_get m ≡ false → Counts (wants_answer m) Waits (on_request h v m).says
 request_counts h v (Version n) g = answer Waits (Version (min n h.version)) refl refl
@@ -107,7 +108,7 @@ request_counts h v (RemoveBefore n key) g = with_version h (nat_le 3 v) (on_remo
 request_counts h v GetTimestamp g = with_version h (nat_le 3 v) (reply (Talk None) (Timestamp (now_of h / 1000))) (answer Waits (Timestamp (now_of h / 1000)) refl refl)
 request_counts h v (Get n file key) g = absurd (cc)
 request_counts h v (Put file key) g = with_version h (nat_le 1 v) (on_put h key)
-    (tries_counts h true Waits (to_offer (is_here h key) (h.filled key)) refuses (reply (Talk None) (put_answer h.part (is_here h key) (h.filled key))) (refused Waits refl)
+    (tries_counts h true Waits (to_offer h.part (is_here h key) (h.filled key)) refuses (reply (Talk None) (put_answer h.part (is_here h key) (h.filled key))) (refused Waits refl)
     (put_counts h.part (is_here h key) (h.filled key)))
 request_counts h v m g = odd h (wants_answer m) Waits
 
@@ -118,7 +119,7 @@ valid_counts by size key true = answer (Took key size) Success refl refl
 valid_counts by size key false = answer (Took key size) Failure refl refl
 
 unlock_counts : (h : Here) (hold : ℕ) (key k : List ℕ) → Counts false (Guards hold key) (on_unlock h hold key k).says
-unlock_counts h hold key k = if_found (λ (x : Reply). Counts false (Guards hold key) x.says) (bytes_eq k key) (tries h (calls.Unhold ∷ []) [] (silent (Release hold key))) (unexpected h)
+unlock_counts h hold key k = if_either (λ (x : Reply). Counts false (Guards hold key) x.says) (bytes_eq k key) (tries h (calls.Unhold ∷ []) [] (silent (Release hold key))) (unexpected h)
     (λ e. tries_counts h false (Guards hold key) (calls.Unhold ∷ []) [] (silent (Release hold key)) (quiet (Guards hold key) refl) (quiet (Guards hold key) refl))
     (λ e. odd h false (Guards hold key))
 
@@ -140,7 +141,7 @@ GetCounts was says = Closes says ⊎ ((left : ℕ) × (says ≡ Line (text_of (D
 get_waits : (h : Here) (v n : ℕ) (file key : List ℕ) → GetCounts Waits (on_request h v (Get n file key)).says
 get_waits h v n file key =
     let good : Reply = reply (Talk None) (Data (bytes_left (content_of h key) n)) in
-    if_found (λ (x : Reply). GetCounts Waits x.says) (nat_le 1 v) (tries h (calls.Size ∷ []) (Closing ∷ []) good) (unexpected h)
+    if_either (λ (x : Reply). GetCounts Waits x.says) (nat_le 1 v) (tries h (calls.Size ∷ []) (Closing ∷ []) good) (unexpected h)
     (λ e. unless_found (λ (x : Reply). GetCounts Waits x.says) (failing h.fails (calls.Size ∷ [])) (λ call. record { kind = Fault call (by_of h); says = Closing ∷ [] }) good
     (λ call. inl (inl refl)) (inr (bytes_left (content_of h key) n, refl, refl)))
     (λ e. inl (inr refl))
@@ -155,7 +156,7 @@ get_counts h v (Takes k size left) n file key = inl (inr refl)
 get_counts h v (Took k size) n file key = inl (inr refl)
 
 pub bytes_counts : (h : Here) (n : ℕ) (doing : Doing) → Counts false doing (on_bytes h n doing).says
-bytes_counts h n (Takes key size left) = if_found (λ (x : Reply). Counts false (Takes key size left) x.says) (nat_lt 0 n && nat_le n left) (tries h (calls.Append ∷ []) (Closing ∷ []) (silent (Talk None))) (unexpected h)
+bytes_counts h n (Takes key size left) = if_either (λ (x : Reply). Counts false (Takes key size left) x.says) (nat_lt 0 n && nat_le n left) (tries h (calls.Append ∷ []) (Closing ∷ []) (silent (Talk None))) (unexpected h)
     (λ e. tries_counts h false (Takes key size left) (calls.Append ∷ []) (Closing ∷ []) (silent (Talk None)) (shut false (Takes key size left)) (quiet (Takes key size left) refl))
     (λ e. odd h false (Takes key size left))
 bytes_counts h n doing = odd h false doing
@@ -169,13 +170,13 @@ piece_counts : (h : Here) (was : Doing) (key : List ℕ) (at n : ℕ) → Pieces
 piece_counts h was key at n =
     let good : Reply = if reaches (content_of h key) (at + n) then record { kind = Talk None; says = Bytes n ∷ [] } else shuts (close_kind h) in
     unless_found (λ (x : Reply). Pieces was x.says) (failing h.fails (calls.Read ∷ [])) (λ call. record { kind = Fault call (by_of h); says = Closing ∷ [] }) good (λ call. inl refl)
-    (if_found (λ (x : Reply). Pieces was x.says) (reaches (content_of h key) (at + n)) (record { kind = Talk None; says = Bytes n ∷ [] }) (shuts (close_kind h)) (λ e. inr (inl (n, refl))) (λ e. inl refl))
+    (if_either (λ (x : Reply). Pieces was x.says) (reaches (content_of h key) (at + n)) (record { kind = Talk None; says = Bytes n ∷ [] }) (shuts (close_kind h)) (λ e. inr (inl (n, refl))) (λ e. inl refl))
 
 abbrev pub GivesOne : Doing → List FrameText → Type 0
 GivesOne was says = (calm was ≡ false) × Pieces was says
 
 gives_one : (h : Here) (was : Doing) (key : List ℕ) (at left : ℕ) (good : Bool) → Pieces was (if left == 0 then reply (Talk None) (if good then Valid else Invalid) else on_piece h key at (min 32768 left)).says
-gives_one h was key at left good = if_found (λ (x : Reply). Pieces was x.says) (left == 0) (reply (Talk None) (if good then Valid else Invalid)) (on_piece h key at (min 32768 left)) (λ e. word good) (λ e. piece_counts h was key at (min 32768 left))
+gives_one h was key at left good = if_either (λ (x : Reply). Pieces was x.says) (left == 0) (reply (Talk None) (if good then Valid else Invalid)) (on_piece h key at (min 32768 left)) (λ e. word good) (λ e. piece_counts h was key at (min 32768 left))
   where
     word : (b : Bool) → Pieces was (reply (Talk None) (if b then Valid else Invalid)).says
     word true = inr (inr (Valid, refl, inl refl))

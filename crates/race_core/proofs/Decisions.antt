@@ -4,6 +4,7 @@ use Rattle.std.specs.Prelude.{◌==◌}
 use Rattle.std.proofs.lemmas.Bool.Decides.{nat_tests}
 use Rattle.annex_base.specs.Lists.{Member}
 use Rattle.annex_base.specs.declared.kinds.Word.{Word}
+use Rattle.annex_base.proofs.Conditions.{eqb_refl}
 use Rattle.drop_proof.specs.declared.rule.Need.{Need}
 use Rattle.drop_proof.specs.declared.rule.Side.TheVariants.{Remote}
 use Rattle.run_data.specs.declared.entry.Entry.{Entry}
@@ -23,7 +24,6 @@ use Rattle.race_core.proofs.Knowing.{knows_enough}
 use Rattle.run_model.specs.Run.{OwnPart, OwnPast, OwnRun}
 use Rattle.node_model.specs.Found.{HasDeadline, JobKind}
 use Rattle.node_model.specs.Slots.{Running}
-use Rattle.race_core.proofs.Plain.{eqb_refl}
 use Rattle.race_core.proofs.JobKept.{kind_kept}
 use Rattle.race_core.proofs.JobNumbers.{begins_next}
 use Rattle.race_core.proofs.WorkNumbers.{number_begun}

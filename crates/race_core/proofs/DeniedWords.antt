@@ -2,6 +2,7 @@
 use Rattle.std.proofs.Common.{◌≡◌, ℕ, true, false, List, ◌∷◌, Option, Some, inl, inr, refl, sym, ap, ◌∙◌, subst}
 use Rattle.std.specs.Prelude.{slice_get}
 use Rattle.annex_base.specs.Lists.{Member}
+use Rattle.annex_base.proofs.Conditions.{eqb_refl}
 use Rattle.drop_proof.specs.declared.rule.Side.TheVariants.{Remote}
 use Rattle.run_data.specs.declared.entry.Entry.{Entry}
 use Rattle.node_model.specs.Slots.{Running}
@@ -28,7 +29,6 @@ use Rattle.race_core.proofs.Refusals.{Stands, side_is, target_in, target_is, too
 use Rattle.race_core.proofs.Standing.{orders_remote, refused_order, stands}
 use Rattle.race_core.proofs.BySteps.{earlier}
 use Rattle.race_core.proofs.WordsTold.{word_now, word_still}
-use Rattle.race_core.proofs.Plain.{eqb_refl}
 use Rattle.race_core.proofs.PhaseFacts.{only_orders}
 
 -- the order was refused, and its word is the sender's

@@ -2,6 +2,7 @@
 use Rattle.std.proofs.Common.{◌≡◌, ℕ, Bool, true, false, List, [], ◌∷◌, ◌++◌, Option, Some, None, inl, inr, refl, sym, ap, ◌∙◌, subst, append-nil}
 use Rattle.std.specs.Prelude.{fold, if◌then◌else◌}
 use Rattle.std.proofs.lemmas.Bool.{true≢false}
+use Rattle.annex_base.proofs.Conditions.{if_either}
 use Rattle.run_data.specs.declared.entry.Entry.{Entry}
 use Rattle.run_data.specs.declared.entry.EntryKind.{EntryKind}
 use Rattle.run_data.specs.declared.entry.FrameView.{FrameView}
@@ -16,7 +17,6 @@ use Rattle.node_model.specs.Jobs
 use Rattle.node_model.specs.Jobs.{Phase, Work, closed_part, job_end, partner, says, taken_message, talks, talks_on, took}
 use Rattle.node_model.specs.Look.{Made}
 use Rattle.node_model.specs.JobStep.{Turn, end_with, me, quietly, says_to, sends_to}
-use Rattle.race_core.proofs.Cases.{if_found}
 use Rattle.race_core.proofs.ClientCounts.{IsLive, Local, Stays, answers_here, none_is, quiet_here, sends_here, takes_here}
 use Rattle.race_core.proofs.ClientTurns.{closed_alone, end_then, live_on, made_entry, rows_of, talker, talker_phase, talker_slot}
 use Rattle.race_core.proofs.ClientLeaves.{Taking}
@@ -44,7 +44,7 @@ pub talk_keeps : (t : Turn) (m : Made) (peer : ℕ) (next : Phase) → partner t
     → (IsLive next → (end_then (end_with t peer) m).opened ≡ true → Keeps t peer m.taken m.sent (stance t.w.what.peer next (kept (talked_here t m) peer) peer))
     → KeepsTo t m (talked t m)
 talk_keeps t m peer to on local goes stays here = subst (λ (p : Option ℕ). KeepsTo t m (talks_on (rows_of t) (me t) x e p)) (sym on)
-    (if_found (λ (y : Work). KeepsTo t m y) (end_after (job_end x peer) (t.ends (job_end x peer)) e).opened (talks (rows_of t) (me t) x e m.sent) (closed_part (me t) x peer x.part) opened closed)
+    (if_either (λ (y : Work). KeepsTo t m y) (end_after (job_end x peer) (t.ends (job_end x peer)) e).opened (talks (rows_of t) (me t) x e m.sent) (closed_part (me t) x peer x.part) opened closed)
   where
     x : Work
     x = talker t m.taken

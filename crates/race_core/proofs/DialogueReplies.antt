@@ -4,6 +4,7 @@ use Rattle.std.proofs.Common.{◌≡◌, ℕ, ◌+◌, ◌*◌, ◌/◌, ◌^◌
 use Rattle.std.specs.Prelude.{codes, min, nat_le, nat_lt}
 use Rattle.std.proofs.lemmas.Bool.Decides.{nat_tests}
 use Rattle.annex_base.specs.declared.kinds.Call.{Call}
+use Rattle.annex_base.proofs.Conditions.{if_either}
 use Rattle.annex_base.specs.declared.kinds.Call.TheVariants as calls
 use Rattle.annex_base.specs.declared.kinds.Found.TheVariants as found
 use Rattle.run_data.specs.declared.entry.EntryKind.{EntryKind}
@@ -17,7 +18,7 @@ use Rattle.node_model.specs.Sessions.{Waits, Session, doing_after, is_closing, l
 use Rattle.node_model.specs.SessionStep.{Here, Reply, bar_on, by_of, bytes_left, check_answer, content_of, is_here, is_held, lock_answer, now_of, on_put, on_remove, on_remove_before, on_request, put_answer, refuses, remove_answer, reply, tries, unexpected}
 use Rattle.node_model.specs.Look.{failing}
 use Rattle.node_model.specs.Calls.{to_lock, to_offer, to_remove}
-use Rattle.race_core.proofs.Cases.{if_found, unless_found}
+use Rattle.race_core.proofs.Cases.{unless_found}
 use Rattle.race_core.proofs.SessionReads.{busy_read}
 use Rattle.race_core.proofs.Dialogue
 use Rattle.race_core.proofs.Dialogue.{Stance, is_greeted}
@@ -140,8 +141,8 @@ module _ (size : List ℕ → Option ℕ) (h : Here) (spot : Spot h) (z : Sessio
         go true None false = order_says m order speaks (Gone (by_of h) key) Success (inl refl)
 
     pub before_served : (n : ℕ) (key : List ℕ) → 3 ≤ z.version → Served Dialogue.AtOrder (RemoveBefore n key) (on_request h z.version (RemoveBefore n key))
-    before_served n key new = if_found (Served Dialogue.AtOrder (RemoveBefore n key)) (nat_le 3 z.version) (on_remove_before h n key) (unexpected h)
-        (λ e. if_found (Served Dialogue.AtOrder (RemoveBefore n key)) (nat_lt (now_of h) (1000 * n)) (on_remove h key) (reply (Check found.Late key) Failure)
+    before_served n key new = if_either (Served Dialogue.AtOrder (RemoveBefore n key)) (nat_le 3 z.version) (on_remove_before h n key) (unexpected h)
+        (λ e. if_either (Served Dialogue.AtOrder (RemoveBefore n key)) (nat_lt (now_of h) (1000 * n)) (on_remove h key) (reply (Check found.Late key) Failure)
         (λ e. remove_served (RemoveBefore n key) (λ kind told. refl) speaks key) (λ e. order_says (RemoveBefore n key) (λ kind told. refl) speaks (Check found.Late key) Failure (inr refl)))
         (λ e. absurd (old e new))
       where
@@ -153,7 +154,7 @@ module _ (size : List ℕ → Option ℕ) (h : Here) (spot : Spot h) (z : Sessio
 
     -- GETTIMESTAMP
     pub time_served : 3 ≤ z.version → Served Dialogue.AtTime GetTimestamp (on_request h z.version GetTimestamp)
-    time_served new = if_found (Served Dialogue.AtTime GetTimestamp) (nat_le 3 z.version) (reply (Talk None) (Timestamp (now_of h / 1000))) (unexpected h)
+    time_served new = if_either (Served Dialogue.AtTime GetTimestamp) (nat_le 3 z.version) (reply (Talk None) (Timestamp (now_of h / 1000))) (unexpected h)
         (λ e. answers Dialogue.AtTime (λ z up down x. x) GetTimestamp (Talk None) (Timestamp (now_of h / 1000)) spot.time
         (record { waits = waits; speaks = omega (arith, new) }, new, spot.soon) (λ g. refl))
         (λ e. absurd (old e new))
@@ -177,8 +178,8 @@ module _ (size : List ℕ → Option ℕ) (h : Here) (spot : Spot h) (z : Sessio
 
     -- PUT
     pub put_served : (file key : List ℕ) → 1 ≤ z.version → Served Dialogue.AtPut (Put file key) (on_request h z.version (Put file key))
-    put_served file key speaks = if_found (Served Dialogue.AtPut (Put file key)) (nat_le 1 z.version) (on_put h key) (unexpected h)
-        (λ e. try Dialogue.AtPut (Put file key) (to_offer (is_here h key) (h.filled key)) refuses (reply (Talk None) (put_answer h.part (is_here h key) (h.filled key)))
+    put_served file key speaks = if_either (Served Dialogue.AtPut (Put file key)) (nat_le 1 z.version) (on_put h key) (unexpected h)
+        (λ e. try Dialogue.AtPut (Put file key) (to_offer h.part (is_here h key) (h.filled key)) refuses (reply (Talk None) (put_answer h.part (is_here h key) (h.filled key)))
         (λ call. answers Dialogue.AtPut (λ z up down x. x) (Put file key) (Fault call (by_of h)) Failure refl (idle (Put file key) (Fault call (by_of h)) Failure refl speaks) (λ g. refl))
         (go (is_here h key) (h.filled key)))
         (λ e. absurd (too_old speaks e))
@@ -190,7 +191,7 @@ module _ (size : List ℕ → Option ℕ) (h : Here) (spot : Spot h) (z : Sessio
 
     -- GET
     pub get_served : (n : ℕ) (file key : List ℕ) → 1 ≤ z.version → Served Dialogue.AtGet (Get n file key) (on_request h z.version (Get n file key))
-    get_served n file key speaks = if_found (Served Dialogue.AtGet (Get n file key)) (nat_le 1 z.version) (tries h (calls.Size ∷ []) (Closing ∷ []) good) (unexpected h)
+    get_served n file key speaks = if_either (Served Dialogue.AtGet (Get n file key)) (nat_le 1 z.version) (tries h (calls.Size ∷ []) (Closing ∷ []) good) (unexpected h)
         (λ e. try Dialogue.AtGet (Get n file key) (calls.Size ∷ []) (Closing ∷ []) good (λ call. inl refl) (inr (
           (refl, tt),
           (λ g. subst (λ (o : Option Message). version_told z.version o ≡ z.version) (sym (spot.data' key n)) refl),

@@ -2,6 +2,7 @@
 use Rattle.std.proofs.Common.{◌≡◌, ℕ, ◌+◌, ◌-◌, ◌≤◌, Bool, true, false, List, [], ◌∷◌, ◌++◌, Option, Some, None, ◌⊎◌, inl, inr, refl, sym, ap, ◌∙◌, subst, arith}
 use Rattle.std.specs.Prelude.{◌==◌, ◌&&◌, nat_le, nat_lt}
 use Rattle.std.proofs.lemmas.Bool.Decides.{nat_tests}
+use Rattle.annex_base.proofs.Conditions.{if_either}
 use Rattle.run_data.specs.declared.entry.FrameText.{FrameText}
 use Rattle.run_data.specs.declared.entry.FrameText.TheVariants.{Opening, Closing, Bytes, Line}
 use Rattle.p2p_wire.specs.declared.message.Message.{Message}
@@ -10,7 +11,6 @@ use Rattle.p2p_wire.specs.Messages.{message_of, text_of}
 use Rattle.node_model.specs.Sessions.{Doing, Waits, Takes, Took, Session, line_in, takes_more}
 use Rattle.node_model.specs.Jobs
 use Rattle.node_model.specs.Jobs.{Phase, Opens, Greets, GetsData, GetsBytes, GetsWord, PutsOffer, PutsBytes, PutsWord, PutsAnswer, AsksLock, AsksLook, AsksTime, gets_more, puts_more}
-use Rattle.race_core.proofs.Cases.{if_found}
 use Rattle.race_core.proofs.Dialogue
 
 abbrev Talk : Dialogue.Stance → Session → List FrameText → List FrameText → Type 0
@@ -179,7 +179,7 @@ opened_greets z up down b back x = elim (x.1) [
 -- ---- bytes that come
 
 pub more_gives : (p start size left : ℕ) (z : Session) (up down : List FrameText) → up ≡ [] → Dialogue.Giving left z down → Talk (Dialogue.phase_stance (gets_more p start size left)) z up down
-more_gives p start size left z up down none x = if_found (λ (q : Phase). Talk (Dialogue.phase_stance q) z up down) (left == 0) (GetsWord p start size) (GetsBytes p start size left)
+more_gives p start size left z up down none x = if_either (λ (q : Phase). Talk (Dialogue.phase_stance q) z up down) (left == 0) (GetsWord p start size) (GetsBytes p start size left)
     (λ e. let zero' : left ≡ 0 = grind (arith, nat_tests) in (none, subst (λ n. Dialogue.Giving n z down) zero' x))
     (λ e. let more : nat_lt 0 left ≡ true = grind (arith, nat_tests) in (none, more, x))
 
@@ -213,13 +213,13 @@ word_acks z up down b m told ack x = go b told x.1
 -- ---- bytes that go
 
 taken_more : (key : List ℕ) (size left : ℕ) (P : Doing → Type 0) → (left ≡ 0 → P (Took key size)) → (nat_lt 0 left ≡ true → P (Takes key size left)) → P (takes_more key size left)
-taken_more key size left P f g = if_found P (left == 0) (Took key size) (Takes key size left) (λ e. f (grind (arith, nat_tests))) (λ e. g (grind (arith, nat_tests)))
+taken_more key size left P f g = if_either P (left == 0) (Took key size) (Takes key size left) (λ e. f (grind (arith, nat_tests))) (λ e. g (grind (arith, nat_tests)))
 
 abbrev Filling : ℕ → Doing → Type 0
 Filling left d = (key : List ℕ) × (size : ℕ) × (d ≡ takes_more key size left)
 
 more_takes : (p start at left : ℕ) (z : Session) (up down : List FrameText) → down ≡ [] → 1 ≤ z.version → Dialogue.Settled (Filling left) z.doing up → Talk (Dialogue.phase_stance (puts_more p start at left)) z up down
-more_takes p start at left z up down none speaks x = if_found (λ (q : Phase). Talk (Dialogue.phase_stance q) z up down) (left == 0) (PutsWord p start) (PutsBytes p start at left)
+more_takes p start at left z up down none speaks x = if_either (λ (q : Phase). Talk (Dialogue.phase_stance q) z up down) (left == 0) (PutsWord p start) (PutsBytes p start at left)
     (λ e. (none, speaks, each_settled (λ d y. (y.0, y.1, y.2 ∙ done y.0 y.1 e)) up z.doing x))
     (λ e. let more : nat_lt 0 left ≡ true = grind (arith, nat_tests) in (none, speaks, more, each_settled (λ d y. (y.0, y.1, y.2 ∙ rest y.0 y.1 e)) up z.doing x))
   where

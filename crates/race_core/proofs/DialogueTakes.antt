@@ -2,9 +2,12 @@
 use Rattle.std.proofs.Common.{◌≡◌, ℕ, ◌+◌, ◌-◌, ◌/◌, ◌^◌, ◌≤◌, Bool, true, false, List, [], ◌∷◌, ◌++◌, Option, Some, None, inl, inr, ◌⊎◌, refl, sym, ap, ◌∙◌, subst, arith}
 use Rattle.std.specs.Prelude.{if◌then◌else◌, ◌==◌, ◌&&◌, not, min, nat_lt, nat_le, bytes_eq, codes}
 use Rattle.std.specs.List.{list_all, list_any}
-use Rattle.std.proofs.lemmas.Bool.{true≢false}
+use Rattle.std.proofs.lemmas.Bool.{true≢false, and_parts}
 use Rattle.std.proofs.lemmas.Bool.Decides.{nat_tests}
+use Rattle.std.proofs.lemmas.Option.{same_Some}
 use Rattle.annex_base.specs.declared.kinds.Call.{Call}
+use Rattle.annex_base.proofs.Conditions.{eqb_refl, if_either}
+use Rattle.annex_base.proofs.Lists.{find_member}
 use Rattle.annex_base.specs.declared.kinds.Call.TheVariants as calls
 use Rattle.drop_proof.specs.declared.rule.Side.{Side}
 use Rattle.drop_proof.specs.declared.rule.Side.TheVariants.{Local, Remote}
@@ -25,15 +28,14 @@ use Rattle.node_model.specs.Sessions.{Session, line_in, reaches}
 use Rattle.node_model.specs.Jobs
 use Rattle.node_model.specs.Jobs.{Part, Gets, Puts, Drops, Phase, Fresh, Next, Opens, Greets, GetsData, GetsBytes, GetsWord, PutsOffer, PutsBytes, PutsWord, PutsAnswer, AsksLock, AsksLook, AsksTime, Removed, Denied, Late, Ends, Heard, Held, Work, gets_more, puts_more, is_move, job_end, listens, partner, side_of, took, transferred, unreleased}
 use Rattle.node_model.specs.Calls.{to_commit, to_release}
-use Rattle.node_model.specs.Look.{Made, same_call, waiting}
+use Rattle.node_model.specs.Look.{Made, waiting}
+use Rattle.annex_base.specs.Calls.{same_call}
 use Rattle.node_model.specs.SessionStep.{bytes_left}
 use Rattle.node_model.specs.JobStep.{Turn, hears, attempts, by_me, clock_of, end_with, ends, farewells, key_of, owns_share, quietly, says_to, sends_to, talk, wrong, is_held}
 use Rattle.node_model.specs.DropStep.{takes_drop, takes_time, first_end, orders, target, times}
 use Rattle.node_model.specs.Requests.{asks}
 use Rattle.node_model.specs.TransferStep.{takes_get, takes_put, content_of, gains, puts_from, puts_piece, takes_bytes}
 use Rattle.node_model.specs.Turns.{takes_answer, awaits, by_partner, goes_on, has_room, needs, with_partner, is_awaiting, goes, outcome_of, takes, takes_frame, takes_text}
-use Rattle.race_core.proofs.Plain.{and_true, eqb_refl}
-use Rattle.race_core.proofs.Cases.{find_was, if_found}
 use Rattle.race_core.proofs.JobFacts.{frame_found}
 use Rattle.race_core.proofs.PhaseFacts.{only_puts}
 use Rattle.race_core.proofs.TalkFacts.{Fits}
@@ -53,21 +55,18 @@ Converses at z up down = Dialogue.Dialogue at z up down
 
 transferred_alone : (target : Option ℕ) (x : Work) (outcome : Outcome) → partner target (transferred x outcome).phase ≡ None
 transferred_alone target x outcome =
-    if_found (λ (y : Work). partner target y.phase ≡ None) (is_move x.what.kind) (record x { part = Drops; phase = Fresh; fills = false }) (record x { phase = Ends outcome; fills = false }) (λ e. refl) (λ e. refl)
+    if_either (λ (y : Work). partner target y.phase ≡ None) (is_move x.what.kind) (record x { part = Drops; phase = Fresh; fills = false }) (record x { phase = Ends outcome; fills = false }) (λ e. refl) (λ e. refl)
 
 only_offer : (part : Part) (peer : ℕ) → Fits part (PutsOffer peer) → part ≡ Puts
 only_offer Puts peer f = refl
 only_offer Gets peer f = absurd f
 only_offer Drops peer f = absurd f
 
-some_peer : (p q : ℕ) → Some p ≡ Some q → p ≡ q
-some_peer p q e = cc
-
 gets_on : (target : Option ℕ) (p start size left : ℕ) → partner target (gets_more p start size left) ≡ Some p
-gets_on target p start size left = if_found (λ (x : Phase). partner target x ≡ Some p) (left == 0) (GetsWord p start size) (GetsBytes p start size left) (λ e. refl) (λ e. refl)
+gets_on target p start size left = if_either (λ (x : Phase). partner target x ≡ Some p) (left == 0) (GetsWord p start size) (GetsBytes p start size left) (λ e. refl) (λ e. refl)
 
 puts_on : (target : Option ℕ) (p start at left : ℕ) → partner target (puts_more p start at left) ≡ Some p
-puts_on target p start at left = if_found (λ (x : Phase). partner target x ≡ Some p) (left == 0) (PutsWord p start) (PutsBytes p start at left) (λ e. refl) (λ e. refl)
+puts_on target p start at left = if_either (λ (x : Phase). partner target x ≡ Some p) (left == 0) (PutsWord p start) (PutsBytes p start at left) (λ e. refl) (λ e. refl)
 
 -- the stance on the partner's connection
 to_on : (target : Option ℕ) (next : Phase) (k : Bool) (peer : ℕ) (z : Session) (up down : List FrameText) → partner target next ≡ Some peer → Converses (phase_stance next) z up down → Converses (stance target next k peer) z up down
@@ -238,13 +237,13 @@ module _ (t : Turn) (f : FrameView) (peer : ℕ) (x : Taking t f peer) (walks : 
       go None first = order_good t IsNew (Some f) None to walks.speaks.remove (λ n e z v. v) asks_it
       go (Some end) first =
           let deadline = n + (end - clock_of t) / 1000 in
-          if_found (GoodMade t) (nat_lt (clock_of t) end) (orders t (Some f) (Some deadline) (RemoveBefore deadline (key_of t))) (ends t (Some f) (Refused (refusals.Expired end (clock_of t))))
+          if_either (GoodMade t) (nat_lt (clock_of t) end) (orders t (Some f) (Some deadline) (RemoveBefore deadline (key_of t))) (ends t (Some f) (Refused (refusals.Expired end (clock_of t))))
           (λ e. order_good t IsNew (Some f) (Some deadline) to (walks.speaks.before n end small first e) (λ n e z v. v) asks_it)
           (λ e. late_good n (Refused (refusals.Expired end (clock_of t))) is told)
 
   time_good : (n : ℕ) → nat_lt n (2 ^ 61) ≡ true → t.w.part ≡ Drops → t.w.phase ≡ AsksTime → line_in f.body ≡ Some (Timestamp n) → (side : Side) → side_of t.w ≡ side → GoodMade t (takes_time t f peer n side)
   time_good n small part is told Local side = absurd (let no' : Local ≡ Remote = sym side ∙ walks.times_remote is in cc)
-  time_good n small part is told Remote side = if_found (GoodMade t) (nat_lt n (2 ^ 61)) (times t f n (first_end t)) (wrong t f peer)
+  time_good n small part is told Remote side = if_either (GoodMade t) (nat_lt n (2 ^ 61)) (times t f n (first_end t)) (wrong t f peer)
       (λ e. times_good n e part side is told (first_end t) refl) (λ e. absurd (true≢false (sym small ∙ e)))
 
   -- a lock is given
@@ -254,7 +253,7 @@ module _ (t : Turn) (f : FrameView) (peer : ℕ) (x : Taking t f peer) (walks : 
       hears_keeps t (talk t) f peer x (AsksLock p since) is Next (ap (λ (y : Work). y.phase) took_is) (inl refl)
       (λ z up down y. subst (λ (at : Stance). Converses at z up down) (sym (rests_at t.w.what.peer Next (kept (took (talker t (Some f)) f.body) peer) peer refl))
       (subst (λ (k : Bool). Converses (rests k) z up down) (sym (subst (λ (v : Work). kept v peer ≡ true) (sym took_is)
-      (subst (λ q. kept (listens (talker t (Some f)) (AsksLock q since) Success) peer ≡ true) (sym (some_peer p peer (same_peer (AsksLock p since) is))) (kept_now (talker t (Some f)) peer (Jobs.Held since) refl))))
+      (subst (λ q. kept (listens (talker t (Some f)) (AsksLock q since) Success) peer ≡ true) (sym (same_Some p peer (same_peer (AsksLock p since) is))) (kept_now (talker t (Some f)) peer (Jobs.Held since) refl))))
       (lock_locked z up down f.body told y)))
 
   drop_good : t.w.part ≡ Drops → (phase : Phase) (m : Message) → t.w.phase ≡ phase → line_in f.body ≡ Some m → DropSuits phase m → GoodMade t (takes_drop t f peer phase m)
@@ -311,7 +310,7 @@ module _ (t : Turn) (f : FrameView) (peer : ℕ) (x : Taking t f peer) (walks : 
       let k = bytes_left (content_of t) n in
       attempts_even (GoodMade t) t (calls.Size ∷ []) (Some f) (if reaches (content_of t) n then says_to t (talk t) (Some f) peer (Data k) else wrong t f peer)
       (λ call e. fault_here call (plain_in call (calls.Size ∷ []) refl refl e))
-      (if_found (GoodMade t) (reaches (content_of t) n) (says_to t (talk t) (Some f) peer (Data k)) (wrong t f peer)
+      (if_either (GoodMade t) (reaches (content_of t) n) (says_to t (talk t) (Some f) peer (Data k)) (wrong t f peer)
       (λ e. says_keeps t (talk t) f peer x (PutsOffer p) is (Data k) (puts_more peer n n k) (walks.speaks.data' n)
       (ap (λ (o : Option Message). Jobs.put_from peer k o) told) (inr (puts_on t.w.what.peer peer n n k))
       (λ q z up down v y. to_on t.w.what.peer (puts_more peer n n k) q peer z (up ++ Line (text_of (Data k)) ∷ []) down (puts_on t.w.what.peer peer n n k)
@@ -321,7 +320,7 @@ module _ (t : Turn) (f : FrameView) (peer : ℕ) (x : Taking t f peer) (walks : 
   put_good : (phase : Phase) (m : Message) → t.w.phase ≡ phase → line_in f.body ≡ Some m → PutSuits phase m → GoodMade t (takes_put t f peer phase m)
   put_good (PutsOffer p) AlreadyHave is told suits = heard_good (PutsOffer p) AlreadyHave (transferred (talker t (Some f)) (Copied None)).phase is told refl (transferred_alone t.w.what.peer (talker t (Some f)) (Copied None)) (asked_away Dialogue.AtPut AlreadyHave told (λ z a. a))
   put_good (PutsOffer p) Failure is told suits = heard_good (PutsOffer p) Failure (Ends (TransferRefused failures.Rejected)) is told refl refl (asked_away Dialogue.AtPut Failure told (λ z a. a))
-  put_good (PutsOffer p) (Error text) is told suits = if_found (GoodMade t) (bytes_eq text (codes "busy")) (hears t f) (wrong t f peer)
+  put_good (PutsOffer p) (Error text) is told suits = if_either (GoodMade t) (bytes_eq text (codes "busy")) (hears t f) (wrong t f peer)
       (λ e. heard_good (PutsOffer p) (Error text) (Ends (TransferRefused failures.Busy)) is told refl refl (asked_away Dialogue.AtPut (Error text) told (λ z a. a.0))) (λ e. absurd (true≢false (sym suits ∙ e)))
   put_good (PutsOffer p) (PutFrom n) is told suits = from_good p n is told
   put_good (PutsAnswer p start) Success is told suits = heard_good (PutsAnswer p start) Success (transferred (talker t (Some f)) (Copied (Some start))).phase is told refl (transferred_alone t.w.what.peer (talker t (Some f)) (Copied (Some start))) (answer_away Success told (λ z a. a))
@@ -336,7 +335,7 @@ module _ (t : Turn) (f : FrameView) (peer : ℕ) (x : Taking t f peer) (walks : 
   takes_good : (phase : Phase) (m : Message) → t.w.phase ≡ phase → line_in f.body ≡ Some m → SuitsMessage phase m → GoodMade t (takes t f peer phase m)
   takes_good (Opens p) (AuthSuccess id) is told suits = says_keeps t (talk t) f peer x (Opens p) is (Version 3) (Greets peer) walks.speaks.version refl (inr refl)
       (λ k z up down v y. to_on t.w.what.peer (Greets peer) k peer z (up ++ Line (text_of (Version 3)) ∷ []) down refl (opened_greets z up down f.body walks.speaks.version y))
-  takes_good (Greets p) (Version n) is told suits = if_found (GoodMade t) (nat_le n 3) (asks t n (Some f) peer t.w.part) (wrong t f peer)
+  takes_good (Greets p) (Version n) is told suits = if_either (GoodMade t) (nat_le n 3) (asks t n (Some f) peer t.w.part) (wrong t f peer)
       (λ e. first_asks t n (Some f) peer walks.speaks
       (asker (IsVersion t n peer) (Greets p) is (λ z up down y. (asked_away Dialogue.AtGreet (Version n) told (λ z a. a.0) z up down y, λ to. sym (asked_answer Dialogue.AtGreet (Version n) told z up down y).1)))
       (heard_good (Greets p) (Version n) (Ends (Refused (refusals.OldProtocol n))) is told refl refl (asked_away Dialogue.AtGreet (Version n) told (λ z a. a.0))) fault_here t.w.part refl)
@@ -350,7 +349,7 @@ module _ (t : Turn) (f : FrameView) (peer : ℕ) (x : Taking t f peer) (walks : 
   bytes_taken : (n : ℕ) → f.body ≡ Bytes n → (phase : Phase) → t.w.phase ≡ phase → SuitsBytes phase n → GoodMade t (takes_bytes t f peer n phase)
   bytes_taken n body (GetsBytes p start size left) is suits =
       let same = same_peer (GetsBytes p start size left) is in
-      if_found (GoodMade t) (nat_lt 0 n && nat_le n left) (attempts t (calls.Append ∷ []) (Some f) (quietly (talk t) (Some f))) (wrong t f peer)
+      if_either (GoodMade t) (nat_lt 0 n && nat_le n left) (attempts t (calls.Append ∷ []) (Some f) (quietly (talk t) (Some f))) (wrong t f peer)
       (λ e. attempts_even (GoodMade t) t (calls.Append ∷ []) (Some f) (quietly (talk t) (Some f)) (λ call h. fault_here call (plain_in call (calls.Append ∷ []) refl refl h))
       (hears_keeps t (talk t) f peer x (GetsBytes p start size left) is (gets_more p start (size + n) (left - n))
       (ap (λ (b : FrameText). (took (talker t (Some f)) b).phase) body ∙ ap (λ (q : Phase). Jobs.gets_bytes n q) (talker_phase t (Some f) ∙ is)) (inr (gets_on t.w.what.peer p start (size + n) (left - n) ∙ same))
@@ -443,8 +442,8 @@ wait_good t peer m walks suit on awaiting opened (Some f) is e = go (has_room t 
     go false g = absurd (cc)
     go true g =
         let same : takes_frame t peer f f.body ≡ m = cc in
-        let was = find_was (λ g. takes_at (job_end t.w peer) g && may_take (end_with t peer) g) t.look.at_hand f is in
-        let both = and_true (takes_at (job_end t.w peer) f) (may_take (end_with t peer) f) was.1 in
+        let was = find_member (λ g. takes_at (job_end t.w peer) g && may_take (end_with t peer) g) t.look.at_hand f is in
+        let both = and_parts (takes_at (job_end t.w peer) f) (may_take (end_with t peer) f) was.1 in
         subst (GoodMade t) same (frame_good t f peer (record { on = on; awaiting = awaiting; opened = opened; of_end = both.0 }) walks f.body refl (suit peer on opened awaiting f is (subst (λ (x : Made). x.taken ≡ Some f) same (frame_found t peer f on f.body refl).0)))
 
 with_good : (t : Turn) (peer : ℕ) (m : Made) → Walks t → WaitsSuit t m → partner t.w.what.peer t.w.phase ≡ Some peer → (b : Bool) → (end_with t peer).opened ≡ b → with_partner t peer b ≡ Some m → GoodMade t m

@@ -1,6 +1,7 @@
 -- The steps of a job by what they take and send: each keeps the dialogue on each of its connections, or opens it.
 use Rattle.std.proofs.Common.{◌≡◌, ℕ, ◌+◌, Bool, true, false, List, [], ◌∷◌, ◌++◌, Option, Some, None, ◌⊎◌, inl, inr, refl, sym, ◌∙◌, subst, append-nil}
 use Rattle.std.specs.Prelude.{◌==◌, nat_le}
+use Rattle.std.proofs.lemmas.Bool.{eqb-true}
 use Rattle.annex_base.specs.Lists.{Each}
 use Rattle.run_data.specs.declared.entry.EntryKind.{EntryKind}
 use Rattle.run_data.specs.declared.entry.EntryKind.TheVariants.{End as ends_job}
@@ -15,7 +16,6 @@ use Rattle.node_model.specs.Jobs.{Phase, Puts, PutsBytes, Work, job_end, partner
 use Rattle.node_model.specs.Look.{Made}
 use Rattle.node_model.specs.JobStep.{Turn, end_with}
 use Rattle.node_model.specs.TransferStep.{content_of}
-use Rattle.race_core.proofs.Plain.{eqb_true}
 use Rattle.race_core.proofs.ClientCounts.{IsLive, Local, Stays, is_of_some, none_is}
 use Rattle.race_core.proofs.ClientTurns.{end_then, made_entry, moved}
 use Rattle.race_core.proofs.Dialogue
@@ -141,7 +141,7 @@ local_keeps t m next peer local live stays goes here came = (λ p locks l o. go 
 
     go : (p : ℕ) → LocksStay t next p → IsLive next.phase → (end_after (job_end t.w p) (end_with t p) (made_entry t m)).opened ≡ true → (b : Bool) → (peer == p) ≡ b
         → Keeps t p (taken_at (job_end t.w p) m.taken) (sent_at (job_end t.w p) m.sent) (stance t.w.what.peer next.phase (kept next p) p)
-    go p locks l o true is = subst KeepsAt (eqb_true peer p is) at_peer locks l o
+    go p locks l o true is = subst KeepsAt (eqb-true peer p is) at_peer locks l o
     go p locks l o false apart =
         let opened : (end_with t p).opened ≡ true = rw (local.sends_else p apart, local.takes_else p apart) at o in
         rw (local.sends_else p apart, local.takes_else p apart)

@@ -3,9 +3,11 @@ use Rattle.node_model.specs.Clocks.{hold_time}
 use Rattle.std.proofs.Common.{◌≡◌, ◌≢◌, ℕ, ◌+◌, ◌≤◌, Bool, true, false, List, [], ◌∷◌, ◌++◌, Option, Some, None, inl, inr, refl, sym, ap, ◌∙◌, subst, arith}
 use Rattle.std.specs.Prelude.{◌==◌, ◌&&◌, not, nat_lt}
 use Rattle.std.specs.List.{list_any}
-use Rattle.std.proofs.lemmas.Bool.{true≢false}
+use Rattle.std.proofs.lemmas.Bool.{true≢false, eqb-true}
 use Rattle.std.proofs.lemmas.Bool.Decides.{nat_tests}
 use Rattle.annex_base.specs.declared.kinds.Call.{Call}
+use Rattle.annex_base.proofs.Lists.{find_member}
+use Rattle.annex_base.proofs.Conditions.{if_either}
 use Rattle.annex_base.specs.declared.kinds.Call.TheVariants as calls
 use Rattle.drop_proof.specs.declared.rule.Side.{Side}
 use Rattle.drop_proof.specs.declared.rule.Side.TheVariants.{Local, Remote}
@@ -27,16 +29,15 @@ use Rattle.p2p_wire.specs.Messages.{order_of, message_of, text_of}
 use Rattle.node_model.specs.Sessions.{Session, line_in}
 use Rattle.node_model.specs.Jobs
 use Rattle.node_model.specs.Jobs.{Part, Gets, Puts, Drops, Phase, Rows, Fresh, Next, GetsData, PutsOffer, AsksLock, AsksTime, Removed, Ends, Heard, Held, Work, heard_of, fault_of, fault_phase, first_look, is_move, listens, partner, quiet, says, side_of, taken_message, took, unreleased}
-use Rattle.node_model.specs.Calls.{to_hold, to_release}
-use Rattle.node_model.specs.Look.{Made, same_call}
+use Rattle.node_model.specs.Calls.{to_hold, to_release, to_resume, to_read}
+use Rattle.node_model.specs.Look.{Made}
+use Rattle.annex_base.specs.Calls.{same_call}
 use Rattle.node_model.specs.Knows.{enough_by, is_unasked, next_by, asks_by, candidates_by}
-use Rattle.node_model.specs.JobStep.{Turn, hears, attempts, bar_there, by_me, clock_of, end_with, ends, farewells, is_there, key_of, me, owns_share, quietly, says_to, sends_to, talk, is_held}
+use Rattle.node_model.specs.JobStep.{Turn, attempts, bar_there, by_me, clock_of, end_with, ends, farewells, is_there, key_of, me, owns_share, quietly, says_to, sends_to, talk, is_held}
 use Rattle.node_model.specs.DropStep.{asks_copy, asks_lock, asks_target, bars, expired, first_drop, first_end, first_remote, held_until, in_time, lacking, need_now, orders, own_share, removes, required_there, row_refusal, target, tries_own}
 use Rattle.node_model.specs.Requests.{asks, goes_to}
 use Rattle.node_model.specs.TransferStep.{first_get, first_put, next_get, next_source}
 use Rattle.node_model.specs.Turns.{first_step, goes, judges, next_step}
-use Rattle.race_core.proofs.Plain.{eqb_true}
-use Rattle.race_core.proofs.Cases.{find_was, if_found}
 use Rattle.race_core.proofs.TalkFacts.{Fits}
 use Rattle.race_core.proofs.ClientCounts.{IsLive, none_is}
 use Rattle.race_core.proofs.ClientTurns.{made_entry, rows_of, talker, talker_phase}
@@ -87,6 +88,11 @@ pub plain_in : (call : Call) (cs : List Call) → list_any (same_call calls.PutF
 plain_in calls.PutFile cs a b e = absurd (true≢false (sym e ∙ a))
 plain_in calls.Unhold cs a b e = absurd (true≢false (sym e ∙ b))
 plain_in call cs a b e = refl
+
+-- so is each of those that ask for a part
+pub resume_plain : (reads : Bool) (call : Call) → list_any (same_call call) (calls.PartSize ∷ to_read reads) ≡ true → is_plain call ≡ true
+resume_plain true call e = plain_in call (calls.PartSize ∷ to_read true) refl refl e
+resume_plain false call e = plain_in call (calls.PartSize ∷ to_read false) refl refl e
 
 fault_is : (r : ℕ) (w : Work) (time : ℕ) (call : Call) → is_plain call ≡ true → fault_of r w time call ≡ fault_phase r w w.part (side_of w) w.phase
 fault_is r w time calls.PutFile e = absurd (cc)
@@ -179,7 +185,7 @@ target_good : (t : Turn) (version : ℕ) (taken : Option FrameView) → Speaks t
     → (end : Option ℕ) → GoodMade t (asks_target t version taken end)
 target_good t version taken speaks to asker old None = order_good t (IsVersion t version (target t)) taken None to speaks.remove (λ n e. absurd (cc)) asker
 target_good t version taken speaks to asker old (Some end) =
-    if_found (GoodMade t) (nat_lt version 3) (quietly (talk t) taken) (says_to t (talk t) taken (target t) GetTimestamp) (λ e. old)
+    if_either (GoodMade t) (nat_lt version 3) (quietly (talk t) taken) (says_to t (talk t) taken (target t) GetTimestamp) (λ e. old)
     (λ e. asker (talk t) GetTimestamp AsksTime time_reads refl to
     (λ z up down v x. inl (away_asks Dialogue.AtTime z up down GetTimestamp x (not_old version z.version e (v to)) time_reads)))
 
@@ -187,14 +193,14 @@ copy_good : (t : Turn) (version : ℕ) (taken : Option FrameView) (peer : ℕ) �
     → (side : Side) → side_of t.w ≡ side → GoodMade t (asks_copy t version taken peer side)
 copy_good t version taken peer speaks part asker old Local is = lock_good t (IsVersion t version peer) taken peer speaks asker
 copy_good t version taken peer speaks part asker old Remote is =
-    if_found (GoodMade t) (target t == peer) (asks_target t version taken (first_end t)) (asks_lock t taken peer)
-    (λ e. target_good t version taken speaks (speaks.to_target part is) (subst (λ p. Asks t (IsVersion t version p) taken p) (sym (eqb_true (target t) peer e)) asker) old (first_end t))
+    if_either (GoodMade t) (target t == peer) (asks_target t version taken (first_end t)) (asks_lock t taken peer)
+    (λ e. target_good t version taken speaks (speaks.to_target part is) (subst (λ p. Asks t (IsVersion t version p) taken p) (sym (eqb-true (target t) peer e)) asker) old (first_end t))
     (λ e. lock_good t (IsVersion t version peer) taken peer speaks asker)
 
 pub first_asks : (t : Turn) (version : ℕ) (taken : Option FrameView) (peer : ℕ) → Speaks t → Asks t (IsVersion t version peer) taken peer → GoodMade t (quietly (talk t) taken)
     → ((call : Call) → is_plain call ≡ true → GoodMade t (quietly (Fault call (by_me t)) taken)) → (part : Part) → t.w.part ≡ part → GoodMade t (asks t version taken peer part)
 first_asks t version taken peer speaks asker old faults Gets is =
-    attempts_even (GoodMade t) t (calls.PartSize ∷ []) taken (says_to t (talk t) taken peer (Get t.look.part [] (key_of t))) (λ call e. faults call (plain_in call (calls.PartSize ∷ []) refl refl e))
+    attempts_even (GoodMade t) t (to_resume t.look.part) taken (says_to t (talk t) taken peer (Get t.look.part [] (key_of t))) (λ call e. faults call (resume_plain (nat_lt 0 t.look.part) call e))
     (asker (talk t) (Get t.look.part [] (key_of t)) (GetsData peer t.look.part) speaks.get refl refl
     (λ z up down v x. inl (away_asks Dialogue.AtGet z up down (Get t.look.part [] (key_of t)) x x.1 speaks.get)))
 first_asks t version taken peer speaks asker old faults Puts is =
@@ -205,7 +211,7 @@ first_asks t version taken peer speaks asker old faults Drops is = copy_good t v
 -- ---- a job that stands on no connection
 
 look_alone : (target : Option ℕ) (r : ℕ) (x : Work) (part : Part) (here : Bool) (bar : Option ℕ) → partner target (first_look r x part here bar).phase ≡ None
-look_alone target r x Gets true bar = if_found (λ (y : Work). partner target y.phase ≡ None) (is_move x.what.kind) (record x { part = Drops; phase = Fresh; fills = false }) (record x { phase = Ends (Got None None); fills = false }) (λ e. refl) (λ e. refl)
+look_alone target r x Gets true bar = if_either (λ (y : Work). partner target y.phase ≡ None) (is_move x.what.kind) (record x { part = Drops; phase = Fresh; fills = false }) (record x { phase = Ends (Got None None); fills = false }) (λ e. refl) (λ e. refl)
 look_alone target r x Drops false bar = refl
 look_alone target r x Drops true (Some i) = refl
 look_alone target r x part here bar = refl
@@ -216,7 +222,7 @@ quiet_alone target rows r x Next alone = refl
 quiet_alone target rows r x phase alone = alone
 
 find_unasked : (t : Turn) (peer : ℕ) → next_by t.read t.w ≡ Some peer → kept t.w peer ≡ false
-find_unasked t peer e = go (t.read.standing peer) (heard_of t.w peer) (find_was (λ c. asks_by t.read t.w c) (candidates_by t.read t.w) peer e).1
+find_unasked t peer e = go (t.read.standing peer) (heard_of t.w peer) (find_member (λ c. asks_by t.read t.w c) (candidates_by t.read t.w) peer e).1
   where
     go : (s : Standing) (o : Option Heard) → is_unasked s o ≡ true → is_held o ≡ false
     go s None e = refl
@@ -251,7 +257,7 @@ module _ (t : Turn) (alone : partner t.w.what.peer t.w.phase ≡ None) (live : I
       known z v to = v to (ap is_greeted at_rest ∙ greeted (kept t.w peer))
 
   goes_to_good : (peer : ℕ) → kept t.w peer ≡ false → GoodMade t (goes_to t peer)
-  goes_to_good peer free = if_found (GoodMade t) (end_with t peer).opened (asks t t.w.version None peer t.w.part) (sends_to t (talk t) None peer (Opening ∷ []))
+  goes_to_good peer free = if_either (GoodMade t) (end_with t peer).opened (asks t t.w.version None peer t.w.part) (sends_to t (talk t) None peer (Opening ∷ []))
       (λ e. first_asks t t.w.version None peer walks.speaks (asks_first peer free e) quiet_good (λ call plain. fault_good t alone live call plain) t.w.part refl)
       (λ e. opens_keeps t alone live (talk t) peer)
 
@@ -285,7 +291,7 @@ module _ (t : Turn) (alone : partner t.w.what.peer t.w.phase ≡ None) (live : I
   drop_first Remote = remote_good (required_there t)
 
   get_first : ((peer : ℕ) → kept t.w peer ≡ false) → (here filled : Bool) (source : Option ℕ) → GoodMade t (first_get t here filled source)
-  get_first free true filled source = if_found (GoodMade t) (is_move t.w.what.kind) (quietly (talk t) None) (ends t None (Got None None)) (λ e. quiet_good) (λ e. ends_good t alone live (Got None None))
+  get_first free true filled source = if_either (GoodMade t) (is_move t.w.what.kind) (quietly (talk t) None) (ends t None (Got None None)) (λ e. quiet_good) (λ e. ends_good t alone live (Got None None))
   get_first free false true source = ends_good t alone live (TransferRefused failures.Busy)
   get_first free false false None = quiet_good
   get_first free false false (Some peer) = goes_to_good peer (free peer)
@@ -306,7 +312,7 @@ module _ (t : Turn) (alone : partner t.w.what.peer t.w.phase ≡ None) (live : I
   first_step_good Drops is = drop_first (side_of t.w)
 
   removes_good : GoodMade t (removes t)
-  removes_good = if_found (GoodMade t) (in_time (clock_of t) (first_end t)) (attempts t (calls.Remove ∷ []) None (quietly (Gone (by_me t) (key_of t)) None)) (ends t None (expired (clock_of t) (first_end t)))
+  removes_good = if_either (GoodMade t) (in_time (clock_of t) (first_end t)) (attempts t (calls.Remove ∷ []) None (quietly (Gone (by_me t) (key_of t)) None)) (ends t None (expired (clock_of t) (first_end t)))
       (λ e. attempts_even (GoodMade t) t (calls.Remove ∷ []) None (quietly (Gone (by_me t) (key_of t)) None) (λ call h. fault_good t alone live call (plain_in call (calls.Remove ∷ []) refl refl h))
       (still_keeps t alone live (Gone (by_me t) (key_of t)) (Jobs.to_phase t.w Removed) refl, inl tt))
       (λ e. ends_good t alone live (expired (clock_of t) (first_end t)))

@@ -2,11 +2,13 @@
 use Rattle.std.proofs.Common.{◌≡◌, ℕ, zero, suc, ◌+◌, ◌<◌, ◌≤◌, Bool, true, false, not, cond, List, [], ◌∷◌, ◌++◌, length, ◌⊎◌, inl, inr, refl, sym, ap, ◌∙◌, subst, arith, append_assoc}
 use Rattle.std.specs.Prelude.{◌≢◌, AllPairs, if◌then◌else◌, ◌==◌, count_by, filter, map, max, nat_le}
 use Rattle.std.specs.List.{AllByRecursion, range_with_len}
-use Rattle.std.proofs.lemmas.Bool.{true≢false}
+use Rattle.std.proofs.lemmas.Bool.{true≢false, and_parts, eqb-true}
 use Rattle.std.proofs.lemmas.Bool.Decides.{nat_tests}
 use Rattle.std.proofs.lemmas.List.Elements.{All-from_recursion}
 use Rattle.std.proofs.lemmas.List.Kept.{AllPairs-cons}
 use Rattle.annex_base.specs.Lists.{Each, Member}
+use Rattle.annex_base.proofs.Lists.{Each-filter, Each-append, Each-left, Each-right, Each-weaker, Each-passes}
+use Rattle.annex_base.proofs.Conditions.{eqb_refl}
 use Rattle.drop_proof.specs.declared.evidence.Evidence.{Evidence}
 use Rattle.drop_proof.specs.declared.rule.Need.{Need}
 use Rattle.drop_proof.specs.declared.rule.Side.{Side}
@@ -17,8 +19,7 @@ use Rattle.run_data.specs.declared.run.RepoView.{RepoView}
 use Rattle.node_model.specs.Evidence.{Fails, Gives, Offer, but, candidates, gather, pick, reached}
 use Rattle.run_model.specs.Drops.{asked, evidence, waits}
 use Rattle.race_core.proofs.OwnPasts.{map_append}
-use Rattle.race_core.proofs.Plain.{each_filter}
-use Rattle.race_core.proofs.Lists.{Each-append, Each-left, Each-right, Each-weaker, and_true, count_by-cons, count_by-yes, eqb_refl, eqb_true, filter-Each}
+use Rattle.race_core.proofs.Lists.{count_by-cons, count_by-yes}
 use Rattle.race_core.proofs.Gather.{MatchSide, count_by-but, reached_each}
 
 -- ---- lists of distinct numbers
@@ -44,7 +45,7 @@ apart_filter p [] h = tt
 apart_filter p (x ∷ xs) h = go (apart_filter p xs h.1) (p x)
   where
     go : Apart (filter p xs) → (b : Bool) → Apart (cond b (x ∷ filter p xs) (filter p xs))
-    go ih true = (each_filter (λ y. y ≢ x) p xs h.0, ih)
+    go ih true = (Each-filter (λ y. y ≢ x) p xs h.0, ih)
     go ih false = ih
 
 range_over : (a b n : ℕ) → a < b → Each (λ y. y ≢ a) (range_with_len b n)
@@ -63,8 +64,8 @@ not_same x r h e = true≢false (sym (subst (λ y. not (y == r) ≡ true) e h) �
 candidates_apart : (side : Side) (n a target : ℕ) → Apart (candidates side n a target)
 candidates_apart Local n a target = apart_filter (λ x. not (x == a)) (range_with_len 0 n) (apart_range 0 n)
 candidates_apart Remote n a target = (
-  each_filter (λ y. y ≢ a) (λ x. not (x == target)) (but a (range_with_len 0 n))
-      (Each-weaker (λ y. not (y == a) ≡ true) (λ y. y ≢ a) (λ y h. not_same y a h) (but a (range_with_len 0 n)) (filter-Each (λ x. not (x == a)) (range_with_len 0 n))),
+  Each-filter (λ y. y ≢ a) (λ x. not (x == target)) (but a (range_with_len 0 n))
+      (Each-weaker (λ y. not (y == a) ≡ true) (λ y. y ≢ a) (λ y h. not_same y a h) (but a (range_with_len 0 n)) (Each-passes (λ x. not (x == a)) (range_with_len 0 n))),
   apart_filter (λ x. not (x == target)) (but a (range_with_len 0 n)) (apart_filter (λ x. not (x == a)) (range_with_len 0 n) (apart_range 0 n)),
 )
 
@@ -82,9 +83,9 @@ range_below a zero m l = tt
 range_below a (suc n) m l = (omega (arith, l), range_below (a + 1) n m (omega (arith, l)))
 
 pub candidates_below : (side : Side) (n a target : ℕ) → MatchSide side (Unit {0}) (a < n) → Each (λ c. c < n) (candidates side n a target)
-candidates_below Local n a target lt = each_filter (λ c. c < n) (λ x. not (x == a)) (range_with_len 0 n) (range_below 0 n n (omega arith))
+candidates_below Local n a target lt = Each-filter (λ c. c < n) (λ x. not (x == a)) (range_with_len 0 n) (range_below 0 n n (omega arith))
 candidates_below Remote n a target lt =
-    (lt, each_filter (λ c. c < n) (λ x. not (x == target)) (but a (range_with_len 0 n)) (each_filter (λ c. c < n) (λ x. not (x == a)) (range_with_len 0 n) (range_below 0 n n (omega arith))))
+    (lt, Each-filter (λ c. c < n) (λ x. not (x == target)) (but a (range_with_len 0 n)) (Each-filter (λ c. c < n) (λ x. not (x == a)) (range_with_len 0 n) (range_below 0 n n (omega arith))))
 
 -- ---- evidence
 
@@ -129,7 +130,7 @@ member_but y r [] n m = m
 member_but y r (x ∷ xs) n m = go (λ k. member_but y r xs n k) m (x == r) refl
   where
     go : (Member y xs → Member y (but r xs)) → (y ≡ x) ⊎ Member y xs → (b : Bool) → (x == r) ≡ b → Member y (cond (not b) (x ∷ but r xs) (but r xs))
-    go ih (inl e) true h = absurd (n (e ∙ eqb_true x r h))
+    go ih (inl e) true h = absurd (n (e ∙ eqb-true x r h))
     go ih (inr k) true h = ih k
     go ih (inl e) false h = inl e
     go ih (inr k) false h = inr (ih k)
@@ -154,7 +155,7 @@ all_full [] h = refl
 all_full (i ∷ items) h = omega (arith, count_by-yes is_full i items h.0, all_full items h.1)
 
 pub enough_items : (side : Side) (need : Need) (items : List Evidence) → is_enough side need items ≡ true → max need.n need.m ≤ length items
-enough_items side need items h = le (max need.n need.m) (and_true (nat_le (max need.n need.m) (length items)) (nat_le need.m (count_by (counts side) items)) h).0
+enough_items side need items h = le (max need.n need.m) (and_parts (nat_le (max need.n need.m) (length items)) (nat_le need.m (count_by (counts side) items)) h).0
   where
     le : (c : ℕ) → nat_le c (length items) ≡ true → c ≤ length items
     le c k = grind (arith, nat_tests)

@@ -23,7 +23,8 @@ use Rattle.node_model.specs.SetUp.{SetUp}
 use Rattle.node_model.specs.Jobs.{Drops, Fresh, Gets, Part, Puts, Work, fault_phase, first_look, partner, side_of}
 use Rattle.run_model.specs.States.{works}
 use Rattle.node_model.specs.Calls.{to_hold, to_release}
-use Rattle.node_model.specs.Look.{Made, same_call}
+use Rattle.node_model.specs.Look.{Made}
+use Rattle.annex_base.specs.Calls.{same_call}
 use Rattle.node_model.specs.JobStep.{Turn, bar_there, by_me, clock_of, ends, farewells, is_there, key_of, me, owns_share, quietly, talk}
 use Rattle.node_model.specs.DropStep.{bars, first_drop, first_remote, held_until, own_share, required_there, row_refusal, tries_own}
 use Rattle.node_model.specs.Turns.{by_partner, goes, goes_on, has_room, needs}

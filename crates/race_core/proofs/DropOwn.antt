@@ -1,7 +1,7 @@
 -- The fields `removes` and `orders` of `Own`: a drop that knows enough by its list knows the same evidence by its entries.
 use Rattle.std.proofs.Common.{◌≡◌, ℕ, ◌+◌, ◌-◌, ◌/◌, ◌<◌, Bool, true, false, List, [], ◌∷◌, Option, Some, None, inl, inr, refl, sym, ap, ◌∙◌, subst, arith}
 use Rattle.std.specs.Prelude.{if◌then◌else◌, ◌==◌, nat_lt, not}
-use Rattle.std.proofs.lemmas.Bool.{true≢false}
+use Rattle.std.proofs.lemmas.Bool.{true≢false, and_parts, not-true}
 use Rattle.std.proofs.lemmas.Bool.Decides.{nat_tests}
 use Rattle.annex_base.specs.Lists.{Member}
 use Rattle.annex_base.specs.declared.kinds.Word.{Word}
@@ -24,7 +24,6 @@ use Rattle.node_model.specs.Evidence.{Standing, Claimed, Ignored, Asked}
 use Rattle.run_model.specs.Drops.{is_waiting, option_is_none, standing}
 use Rattle.race_core.proofs.Heard.{Heard, Locked_at, Seen_there, heard, heard_cause, heard_key, known_evidence, still_waits}
 use Rattle.race_core.proofs.Own.{HasDeadline, HeardOf, MayOrder, MayRemove, OneClock}
-use Rattle.race_core.proofs.Plain.{and_true, not_true}
 use Rattle.race_core.proofs.SaidDown.{said_is}
 use Rattle.race_core.proofs.HeardTells.{taken_peer}
 use Rattle.race_core.proofs.KnownAgrees.{Agrees, heard_as, known_agrees, standing_same}
@@ -89,9 +88,9 @@ list_agrees s past h w m = record { standing_is = standing; heard_is = lists.hea
 
     waits : (c : ℕ) → still_waits s.repos past s.number w.number c ≡ true → is_unasked (standing_of s (state_of s past) w c) (heard_of w c) ≡ true
     waits c waiting =
-        let both = and_true (not (c == s.number)) (is_waiting (Rattle.run_model.specs.Drops.standing s.repos past s.number w.number c) (heard past s.number w.number c) (heard_cause past s.number w.number c)) waiting in
+        let both = and_parts (not (c == s.number)) (is_waiting (Rattle.run_model.specs.Drops.standing s.repos past s.number w.number c) (heard past s.number w.number c) (heard_cause past s.number w.number c)) waiting in
         let x = waiting_is (Rattle.run_model.specs.Drops.standing s.repos past s.number w.number c) (heard past s.number w.number c) (heard_cause past s.number w.number c) both.1 in
-        let none : heard_of w c ≡ None = unheard_by w.what.key (heard_of w c) (sym (lists.heard_is c) ∙ x.unheard) (untold (gave_none (heard_of w c)) refl (not_true (c == s.number) both.0) x.untold) in
+        let none : heard_of w c ≡ None = unheard_by w.what.key (heard_of w c) (sym (lists.heard_is c) ∙ x.unheard) (untold (gave_none (heard_of w c)) refl (not-true (c == s.number) both.0) x.untold) in
         ap (λ st. is_unasked st (heard_of w c)) (standing c ∙ x.asked) ∙ ap (is_unasked Asked) none
       where
         untold : (b : Bool) → gave_none (heard_of w c) ≡ b → (c == s.number) ≡ false → option_is_none (heard_cause past s.number w.number c) ≡ true → b ≡ false

@@ -1,5 +1,6 @@
 -- A drop stands on connections with other repositories alone.
 use Rattle.std.proofs.Common.{◌≡◌, ℕ, Bool, true, false, List, [], ◌∷◌, Option, Some, None, ◌⊎◌, inl, inr, refl, sym, ap, ◌∙◌, subst}
+use Rattle.std.proofs.lemmas.Option.{same_Some}
 use Rattle.annex_base.specs.Lists.{Member}
 use Rattle.annex_base.specs.declared.kinds.Word.{Word}
 use Rattle.run_data.specs.declared.entry.Entry.{Entry}
@@ -29,11 +30,8 @@ use Rattle.race_core.proofs.OpenEnds.{job_sends_to, open_runs}
 abbrev Stood : SetUp → Part → Option ℕ → Phase → Type 0
 Stood s part target phase = part ≡ Drops → (p : ℕ) → partner target phase ≡ Some p → Member p (others s)
 
-some_inj : (a b : ℕ) → Some a ≡ Some b → a ≡ b
-some_inj a b e = cc
-
 peer_is : (s : SetUp) (kind : JobKind) (o : Option ℕ) (p : ℕ) → IsPeer s kind o → o ≡ Some p → Member p (others s)
-peer_is s kind (Some q) p is same = subst (λ n. Member n (others s)) (some_inj q p same) (peer_other s q is.0 is.1)
+peer_is s kind (Some q) p is same = subst (λ n. Member n (others s)) (same_Some q p same) (peer_other s q is.0 is.1)
 peer_is s kind None p is same = absurd (cc)
 
 was_drop : (part : Part) (old : Phase) (phase : Phase) → GoodTo part old Drops phase → (part ≡ Drops) ⊎ (phase ≡ Fresh)
@@ -65,13 +63,13 @@ module _ (s : SetUp) (past : List Entry) (e : Entry) (run : OwnRun s past) (word
 
   came : v.part ≡ Drops → (phase : Phase) (p : ℕ) → is_on_one phase ≡ true → Came t e phase → partner v.what.peer phase ≡ Some p → Member p (others s)
   came part (Opens q) p one (inl at) on = of_old part (Opens q) p at on
-  came part (Opens q) p one (inr y) on = subst (λ n. Member n (others s)) (some_inj q p on) (called q y.2)
+  came part (Opens q) p one (inr y) on = subst (λ n. Member n (others s)) (same_Some q p on) (called q y.2)
   came part (Greets q) p one (inl at) on = of_old part (Greets q) p at on
   came part (Greets q) p one (inr at) on = of_old part (Opens q) p at on
   came part (AsksLock q since) p one (inl at) on = of_old part (AsksLock q since) p at on
   came part (AsksLock q since) p one (inr y) on = elim (y.0) [
     | inl at ↦ of_old part (Greets q) p at on
-    | inr z ↦ subst (λ n. Member n (others s)) (some_inj q p on) (opened q z.2)
+    | inr z ↦ subst (λ n. Member n (others s)) (same_Some q p on) (opened q z.2)
   ]
   came part (AsksLook q) p one (inl at) on = of_old part (AsksLook q) p at on
   came part (AsksLook q) p one (inr y) on = of_old part (AsksLock q y.0) p y.1 on

@@ -2,6 +2,8 @@
 use Rattle.std.proofs.Common.{◌≡◌, ℕ, Bool, true, false, List, ◌∷◌, Option, Some, None, refl, sym, ap, ◌∙◌, subst}
 use Rattle.std.specs.Prelude.{if◌then◌else◌, ◌==◌, ◌&&◌, find, option_map}
 use Rattle.std.specs.Option.{unwrap_or}
+use Rattle.std.proofs.lemmas.Bool.{and_from, or_right}
+use Rattle.annex_base.proofs.Conditions.{eqb_refl}
 use Rattle.run_data.specs.declared.entry.Entry.{Entry}
 use Rattle.run_data.specs.declared.entry.EntryKind.TheVariants.{Begin}
 use Rattle.run_data.specs.declared.job.JobKind.{JobKind}
@@ -11,7 +13,6 @@ use Rattle.run_model.specs.Logs.{before_step, in_drop, is_drop, is_step, read_at
 use Rattle.node_model.specs.Look.{first_of}
 use Rattle.node_model.specs.SetUp.{SetUp}
 use Rattle.node_model.specs.Jobs.{Drops, Heard, Work, first_part}
-use Rattle.race_core.proofs.Plain.{both_true, eqb_refl, or_right}
 use Rattle.race_core.proofs.JobSteps.{Begins}
 
 -- the first thing that a list has of a repository
@@ -55,6 +56,6 @@ begun_drop s past e w is b part =
     let first : first_part b.what.kind ≡ Drops = sym (ap (λ (y : Work). y.part) b.work_is) ∙ part in
     let number : w.number ≡ b.job = ap (λ (y : Work). y.number) b.work_is in
     let starts : starts_drop past s.number w.number e (Begin b.job b.what) ≡ true =
-    subst (λ n. ((b.job == n) && is_drop b.what.kind) ≡ true) (sym number) (both_true (b.job == b.job) (is_drop b.what.kind) (eqb_refl b.job) (first_drop b.what.kind first)) in
+    subst (λ n. ((b.job == n) && is_drop b.what.kind) ≡ true) (sym number) (and_from (b.job == b.job) (is_drop b.what.kind) (eqb_refl b.job) (first_drop b.what.kind first)) in
     or_right (in_drop past s.number w.number) (is_of s.number e && starts_drop past s.number w.number e e.kind)
-    (both_true (is_of s.number e) (starts_drop past s.number w.number e e.kind) is (subst (λ k. starts_drop past s.number w.number e k ≡ true) (sym b.kind_is) starts))
+    (and_from (is_of s.number e) (starts_drop past s.number w.number e e.kind) is (subst (λ k. starts_drop past s.number w.number e k ≡ true) (sym b.kind_is) starts))

@@ -1,6 +1,7 @@
 -- What the drop of each removal of a run found as it judged its evidence: who judged, what was read and told, and that it hasn't ended.
 use Rattle.std.proofs.Common.{◌≡◌, ℕ, ◌+◌, ◌<◌, true, false, List, length, Option, Some, inl, inr, refl, sym, ap, ◌∙◌, subst}
 use Rattle.std.specs.Prelude.{◌≢◌, slice_get}
+use Rattle.std.proofs.lemmas.Option.{same_Some}
 use Rattle.annex_base.specs.Lists.{Member}
 use Rattle.drop_proof.specs.declared.rule.Need.{Need}
 use Rattle.drop_proof.specs.declared.rule.Side.TheVariants.{Remote}
@@ -22,7 +23,7 @@ use Rattle.race_core.specs.Places.{removal_at}
 use Rattle.race_core.specs.Readings.{Judge, judge_at, judge_by}
 use Rattle.race_core.proofs.Changes.{Obeys, Removes, order_is, removal_was, repo_of}
 use Rattle.race_core.proofs.Gather.{MatchSide}
-use Rattle.race_core.proofs.Flights.{always_before, occurs_vouches, some_inj}
+use Rattle.race_core.proofs.Flights.{always_before, occurs_vouches}
 use Rattle.race_core.proofs.Facts.{Facts, local_drop}
 use Rattle.race_core.proofs.Pasts.{past_before}
 use Rattle.race_core.proofs.Latest
@@ -132,7 +133,7 @@ module _ (run : Run) (place : ℕ) (e : Entry) (h : IsRun run) (at : slice_get r
         one_clock = o.found.one_clock;
         open' = ordered_open run.repos (past_at run place) e t.r t.a key k mt o;
       } in
-      (judge, order_judge (past_at run place) e t.r t.a t.slot o.j t.r ob.deadline o.need key key (sent_of it) t.repo_is t.kind_is from o.kind_is, subst (λ (z : Removal). Dropped run.repos (past_at run place) key e z judge) (some_inj y x (sym y_is ∙ is)) there)
+      (judge, order_judge (past_at run place) e t.r t.a t.slot o.j t.r ob.deadline o.need key key (sent_of it) t.repo_is t.kind_is from o.kind_is, subst (λ (z : Removal). Dropped run.repos (past_at run place) key e z judge) (same_Some y x (sym y_is ∙ is)) there)
 
   found : (x : Removal) → removal_at run key place e ≡ Some x → (judge : Judge) × (judge_at run place e ≡ Some judge) × Dropped run.repos (past_at run place) key e x judge
   found x is = elim (removal_was run.repos e (past_at run place) key x is) [ inl t ↦ by_own x t | inr t ↦ by_order x is t ]
@@ -142,7 +143,7 @@ pub dropped : (run : Run) (key : List ℕ) (place : ℕ) (e : Entry) (x : Remova
     → Dropped run.repos (past_at run place) key e x judge
 dropped run key place e x judge h at is judge_is =
     let f = found run place e h at key x is in
-    subst (λ (y : Judge). Dropped run.repos (past_at run place) key e x y) (some_inj f.0 judge (sym f.1 ∙ judge_is)) f.2
+    subst (λ (y : Judge). Dropped run.repos (past_at run place) key e x y) (same_Some f.0 judge (sym f.1 ∙ judge_is)) f.2
 
 -- and it has a judge
 pub judged_by : (run : Run) (key : List ℕ) (place : ℕ) (e : Entry) (x : Removal) → IsRun run → slice_get run.entries place ≡ Some e → removal_at run key place e ≡ Some x

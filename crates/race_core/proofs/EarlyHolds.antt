@@ -6,6 +6,8 @@ use Rattle.std.specs.List.{reduce}
 use Rattle.annex_base.specs.Lists.{Each, Member}
 use Rattle.annex_base.specs.declared.kinds.Call.{Call}
 use Rattle.annex_base.specs.declared.kinds.Call.TheVariants.{Unhold, PutFile}
+use Rattle.annex_base.proofs.Lists.{Each-member, Each-push}
+use Rattle.annex_base.proofs.Conditions.{if_either}
 use Rattle.drop_proof.specs.declared.evidence.Evidence.{Evidence}
 use Rattle.drop_proof.specs.declared.evidence.Kind.{Kind}
 use Rattle.drop_proof.specs.declared.evidence.Kind.TheVariants.{Locked, Trusted, Recent}
@@ -39,8 +41,6 @@ use Rattle.run_model.specs.States.{rows_at, works, state_of}
 use Rattle.race_core.proofs.Knowing.{candidates_of, is_to_ask, known, knows}
 use Rattle.node_model.specs.Knows.{heard_offer, need_of, offer_by, standing_of}
 use Rattle.run_model.specs.Run.{IsBounded, OwnPast}
-use Rattle.race_core.proofs.Plain.{each_member}
-use Rattle.race_core.proofs.Cases.{if_found}
 use Rattle.race_core.proofs.Spoken.{before_read, clock_small}
 
 -- ---- a job, with a bound of time
@@ -65,21 +65,21 @@ module _ (b : ℕ) where
   heard_early w peer x a h = record { phase = tt; heard = (h, a.heard) }
 
   transferred_early : (w : Work) (o : Outcome) → Early b w → Early b (transferred w o)
-  transferred_early w o a = if_found (Early b) (Jobs.is_move w.what.kind) (record w { part = Drops; phase = Fresh; fills = false }) (record w { phase = Jobs.Ends o; fills = false })
+  transferred_early w o a = if_either (Early b) (Jobs.is_move w.what.kind) (record w { part = Drops; phase = Fresh; fills = false }) (record w { phase = Jobs.Ends o; fills = false })
       (λ e. record { phase = tt; heard = a.heard }) (λ e. record { phase = tt; heard = a.heard })
 
   closed_early : (r : ℕ) (w : Work) (peer : ℕ) (part : Part) → Early b w → Early b (closed_part r w peer part)
   closed_early r w peer Gets a = record { phase = tt; heard = a.heard }
   closed_early r w peer Puts a = record { phase = tt; heard = a.heard }
   closed_early r w peer Drops a =
-      if_found (Early b) (target_of r w == peer) (to_phase w (Jobs.Ends (outcomes.Refused (refusals.Lost (Jobs.is_ordered w.phase))))) (hears w peer (Jobs.Lacks causes.Closed))
+      if_either (Early b) (target_of r w == peer) (to_phase w (Jobs.Ends (outcomes.Refused (refusals.Lost (Jobs.is_ordered w.phase))))) (hears w peer (Jobs.Lacks causes.Closed))
       (λ e. record { phase = tt; heard = a.heard }) (λ e. heard_early w peer (Jobs.Lacks causes.Closed) a tt)
 
   gets_early : (peer start size left : ℕ) → PhaseEarly b (gets_more peer start size left)
-  gets_early peer start size left = if_found (PhaseEarly b) (left == 0) (GetsWord peer start size) (GetsBytes peer start size left) (λ e. tt) (λ e. tt)
+  gets_early peer start size left = if_either (PhaseEarly b) (left == 0) (GetsWord peer start size) (GetsBytes peer start size left) (λ e. tt) (λ e. tt)
 
   puts_early : (peer start at left : ℕ) → PhaseEarly b (puts_more peer start at left)
-  puts_early peer start at left = if_found (PhaseEarly b) (left == 0) (PutsWord peer start) (PutsBytes peer start at left) (λ e. tt) (λ e. tt)
+  puts_early peer start at left = if_either (PhaseEarly b) (left == 0) (PutsWord peer start) (PutsBytes peer start at left) (λ e. tt) (λ e. tt)
 
   word_early : (w : Work) (word : Option Message) (phase : Phase) → Early b w → Early b (word_taken w word phase)
   word_early w word (GetsWord peer start size) a = record { phase = tt; heard = a.heard }
@@ -171,7 +171,7 @@ module _ (b : ℕ) where
   on_early : (rows : Rows) (r : ℕ) (w : Work) (e : Entry) (p : Option ℕ) → e.time ≤ b → Early b w → Early b (talks_on rows r w e p)
   on_early rows r w e None t a = talks_early rows r w e e.sent t a
   on_early rows r w e (Some peer) t a =
-      if_found (Early b) (end_after (job_end w peer) (rows.ends (job_end w peer)) e).opened (talks rows r w e e.sent) (closed_part r w peer w.part)
+      if_either (Early b) (end_after (job_end w peer) (rows.ends (job_end w peer)) e).opened (talks rows r w e e.sent) (closed_part r w peer w.part)
       (λ h. talks_early rows r w e e.sent t a) (λ h. closed_early r w peer w.part a)
 
   claims_early : (w : Work) (part : Part) (phase : Phase) → Early b w → Early b (claims w part phase)
@@ -179,7 +179,7 @@ module _ (b : ℕ) where
   claims_early w part phase a = a
 
   learns_early : (w : Work) (phase : Phase) (taken : Option FrameView) → Early b w → Early b (learns w phase taken)
-  learns_early w (Greets peer) (Some f) a = if_found (Early b) (option_is w.what.peer peer) (record w { version = Jobs.version_said w.version (line_in f.body) }) w
+  learns_early w (Greets peer) (Some f) a = if_either (Early b) (option_is w.what.peer peer) (record w { version = Jobs.version_said w.version (line_in f.body) }) w
       (λ e. record { phase = a.phase; heard = a.heard }) (λ e. a)
   learns_early w phase taken a = a
 
@@ -211,7 +211,7 @@ module _ (b : ℕ) where
       on_early rows r (learns x w.phase e.taken) e (Jobs.partner w.what.peer w.phase) t (learns_early x w.phase e.taken (claims_early w w.part w.phase a))
 
   after_early : (rows : Rows) (r : ℕ) (e : Entry) (w : Work) → e.time ≤ b → Early b w → Early b (work_after rows r e w)
-  after_early rows r e w t a = if_found (Early b) (option_is (job_of e.kind) w.number) (work_kind rows r w e e.kind) w (λ h. kind_early rows r w e e.kind t a) (λ h. a)
+  after_early rows r e w t a = if_either (Early b) (option_is (job_of e.kind) w.number) (work_kind rows r w e e.kind) w (λ h. kind_early rows r w e e.kind t a) (λ h. a)
 
   all_early : (rows : Rows) (r : ℕ) (e : Entry) (ws : List Work) → e.time ≤ b → Each (Early b) ws → Each (Early b) (map (work_after rows r e) ws)
   all_early rows r e [] t a = tt
@@ -253,10 +253,6 @@ abbrev OfferBelow : ℕ → Offer → Type 0
 OfferBelow n (Gives kind) = KindBelow n kind
 OfferBelow n Fails = Unit {0}
 
-each_push : {X : Type 0} (P : X → Type 0) (xs : List X) (x : X) → Each P xs → P x → Each P (xs ++ x ∷ [])
-each_push P [] x a h = (h, tt)
-each_push P (y ∷ ys) x a h = (a.0, each_push P ys x a.1 h)
-
 gathered : (n : ℕ) (side : Side) (need : Need) (ask : ℕ → Offer) → ((c : ℕ) → OfferBelow n (ask c)) → (cs : List ℕ) (items : List Evidence) → Each (ItemBelow n) items → Each (ItemBelow n) (gather side need ask cs items)
 gathered n side need ask f [] items a = a
 gathered n side need ask f (c ∷ cs) items a = go (λ more h. gathered n side need ask f cs more h) (is_enough side need items) (ask c) (f c)
@@ -264,7 +260,7 @@ gathered n side need ask f (c ∷ cs) items a = go (λ more h. gathered n side n
     go : ((more : List Evidence) → Each (ItemBelow n) more → Each (ItemBelow n) (gather side need ask cs more)) → (b : Bool) (o : Offer) → OfferBelow n o
         → Each (ItemBelow n) (if b then items else pick o (λ kind. gather side need ask cs (items ++ record { repo = c; kind = kind } ∷ [])) (gather side need ask cs items))
     go more true o h = a
-    go more false (Gives kind) h = more (items ++ record { repo = c; kind = kind } ∷ []) (each_push (ItemBelow n) items (record { repo = c; kind = kind }) a h)
+    go more false (Gives kind) h = more (items ++ record { repo = c; kind = kind } ∷ []) (Each-push (ItemBelow n) items (record { repo = c; kind = kind }) a h)
     go more false Fails h = more items a
 
 ends_below : (n : ℕ) (items : List Evidence) → Each (ItemBelow n) items → Each (λ end. end ≤ n) (ends items)
@@ -307,7 +303,7 @@ offered b n clock small Asked (Some x) f = other x f
 -- the first end of what a running job knows
 pub first_end_below : (s : SetUp) (past : List Entry) (w : Work) (end : ℕ) → OwnPast s past → Member w (works past s.number) → least_end (known s (state_of s past) w) ≡ Some end → end ≤ 1100000600000
 first_end_below s past w end h runs is =
-    let early : Early 1000000000000 w = each_member (Early 1000000000000) (works past s.number) w (works_early past s.number h.bounds) runs in
+    let early : Early 1000000000000 w = Each-member (Early 1000000000000) (works past s.number) w (works_early past s.number h.bounds) runs in
     first_below 1100000600000 (ends (known s (state_of s past) w)) end
     (ends_below 1100000600000 (known s (state_of s past) w)
     (gathered 1100000600000 (Jobs.side_of w) (need_of (state_of s past) w) (knows s (state_of s past) w)

@@ -3,10 +3,12 @@
 use Rattle.std.proofs.Common.{◌≡◌, ℕ, ◌+◌, ◌^◌, ◌<◌, ◌≤◌, Bool, true, false, List, [], ◌∷◌, Option, Some, None, ◌⊎◌, inl, inr, refl, sym, ap, ◌∙◌, subst, arith, not}
 use Rattle.std.specs.Prelude.{if◌then◌else◌, ◌==◌, ◌&&◌, nat_lt}
 use Rattle.std.proofs.lemmas.Bool.Decides.{nat_tests}
+use Rattle.std.proofs.lemmas.Bool.{and_parts}
 use Rattle.annex_base.specs.Lists.{Each, Member}
 use Rattle.annex_base.specs.declared.kinds.Call.{Call}
 use Rattle.annex_base.specs.declared.kinds.Call.TheVariants.{PutFile}
 use Rattle.annex_base.specs.declared.kinds.Word.{Word}
+use Rattle.annex_base.proofs.Lists.{Each-member, Each-weaker, Member-filter_from}
 use Rattle.run_data.specs.declared.entry.By.TheVariants.{Script}
 use Rattle.run_data.specs.declared.entry.Entry.{Entry}
 use Rattle.run_data.specs.declared.entry.EntryKind.{EntryKind}
@@ -30,7 +32,6 @@ use Rattle.node_model.specs.Step.{step}
 use Rattle.node_model.specs.Found.{ByJob, JobTakes}
 use Rattle.node_model.specs.AnyTime.{MayCome, all_ends, close_at}
 use Rattle.run_model.specs.Run.{OwnPart, OwnRun}
-use Rattle.race_core.proofs.Plain.{and_true, each_member, each_weaker, filter_member}
 use Rattle.race_core.proofs.Cases.{first_was, some_was, unless_found}
 use Rattle.race_core.proofs.JobFacts.{job_found}
 use Rattle.race_core.proofs.ServerEnds.{BySessionAt, GivesHere, TakesHere, each_flat, end_of, same_end-refl, session_here, takes_end}
@@ -92,7 +93,7 @@ job_speaks_at : (s : SetUp) (past : List Entry) (k : Look) (m : Made) → job_st
 job_speaks_at s past k m e =
     let x = job_speaks s (state_of s past) k m e in
     let y = job_found s (state_of s past) k m e in
-    record { takes = takes y; well = each_weaker (JobSays (turn_of s (state_of s past) k x.w)) (λ g. (g.up ≡ true) × Says' s past g) (at_job s past k x.w) m.sent x.says }
+    record { takes = takes y; well = Each-weaker (JobSays (turn_of s (state_of s past) k x.w)) (λ g. (g.up ≡ true) × Says' s past g) (at_job s past k x.w) m.sent x.says }
   where
     takes : (y : ByJob s (state_of s past) k m) (f : FrameView) → m.taken ≡ Some f → (f.up ≡ false) × ((end_at past s.number (end_of f)).opened ≡ true) × (may_take (end_at past s.number (end_of f)) f ≡ true)
     takes y f i = go y.frame
@@ -193,7 +194,7 @@ pub opening_later : (c : End) (f : FrameView) → is_opening f.body ≡ true →
 opening_later c f i may = go f.body i may
   where
     go : (body : FrameText) → is_opening body ≡ true → (if is_opening body then not c.opened && nat_lt c.epoch f.epoch else c.opened && (f.epoch == c.epoch)) ≡ true → c.epoch < f.epoch
-    go body j h = let t = and_true (not c.opened) (nat_lt c.epoch f.epoch) (rw j at h) in let l : nat_lt c.epoch f.epoch ≡ true = t.1 in grind (arith, nat_tests)
+    go body j h = let t = and_parts (not c.opened) (nat_lt c.epoch f.epoch) (rw j at h) in let l : nat_lt c.epoch f.epoch ≡ true = t.1 in grind (arith, nat_tests)
 
 pub opening_takes : (c : End) (epoch : ℕ) (body : FrameText) → is_opening body ≡ true → end_takes c epoch body ≡ record { epoch = epoch; opened = true; sent = 0 }
 opening_takes c epoch Opening i = refl
@@ -256,9 +257,9 @@ module _ (s : SetUp) (past : List Entry) (words : ℕ → Option Word) (e : Entr
       session' p q (inr x) = up p q (end_at past s.number (server_end p q)) x.x.says (pieces_none (session past s.number (server_end p q)).doing x.x.says (gave_one s past (server_end p q) e x).1) x.sent_is
 
       go : Speaks s past e → SentWell (end_at past s.number (from_end g)) g
-      go (inl x) = inl (each_member (IsClose s past) e.sent g x.well m)
+      go (inl x) = inl (Each-member (IsClose s past) e.sent g x.well m)
       go (inr (inl x)) = absurd (session' x.0 x.1 x.3)
-      go (inr (inr x)) = (each_member (λ h. (h.up ≡ true) × Says' s past h) e.sent g x.well m).1
+      go (inr (inr x)) = (Each-member (λ h. (h.up ≡ true) × Says' s past h) e.sent g x.well m).1
 
   -- E: at a server's end a frame of the epoch that it is at, and no Opening
   pub server_sends : (g : FrameView) → Member g e.sent → g.up ≡ false → (g.epoch ≡ (between (from_end g)).epoch) × (is_opening g.body ≡ false)
@@ -279,9 +280,9 @@ module _ (s : SetUp) (past : List Entry) (words : ℕ → Option Word) (e : Entr
       come n y = (y.1 ∙ ap (λ o. (end_took (end_at past s.number (from_end g)) (taken_at (from_end g) o)).epoch) (sym n), y.2)
 
       go : Speaks s past e → (g.epoch ≡ (between (from_end g)).epoch) × (is_opening g.body ≡ false)
-      go (inl x) = come x.takes_none (each_member (IsClose s past) e.sent g x.well m)
+      go (inl x) = come x.takes_none (Each-member (IsClose s past) e.sent g x.well m)
       go (inr (inl x)) = session' x.0 x.1 x.3
-      go (inr (inr x)) = absurd (let no' : true ≡ false = sym (each_member (λ h. (h.up ≡ true) × Says' s past h) e.sent g x.well m).0 ∙ u in cc)
+      go (inr (inr x)) = absurd (let no' : true ≡ false = sym (Each-member (λ h. (h.up ≡ true) × Says' s past h) e.sent g x.well m).0 ∙ u in cc)
 
   module _ (is : is_of s.number e ≡ true) (a : EndName) where
     abbrev c : End
@@ -337,7 +338,7 @@ module _ (s : SetUp) (past : List Entry) (words : ℕ → Option Word) (e : Entr
 
         client : SentWell c g → g.epoch ≤ last
         client (inl x) = no_less g.epoch c.epoch (between a).epoch x.1 between_grows (all_grow (between a) (sent_at a e.sent))
-        client (inr x) = next g.epoch c.epoch (between a).epoch x.1 between_grows (opening_grows (between a) (sent_at a e.sent) g (filter_member (sends_at a) e.sent g m (sends_is a g at)) x.2)
+        client (inr x) = next g.epoch c.epoch (between a).epoch x.1 between_grows (opening_grows (between a) (sent_at a e.sent) g (Member-filter_from (sends_at a) e.sent g m (sends_is a g at)) x.2)
           where
             next : (n x y : ℕ) → n ≡ x + 1 → x ≤ y → y + 1 ≤ last → n ≤ last
             next n x y i j k = omega (arith, i, j, k)

@@ -2,6 +2,7 @@
 use Rattle.std.proofs.Common.{◌≡◌, ℕ, Bool, true, false, List, [], ◌∷◌, Option, Some, None, inl, inr, refl, ap, ◌∙◌, arith}
 use Rattle.std.specs.Prelude.{if◌then◌else◌, ◌==◌, ◌&&◌, fold, nat_lt, not}
 use Rattle.std.proofs.lemmas.Bool.Decides.{nat_tests}
+use Rattle.std.proofs.lemmas.Bool.{and_parts, not-true}
 use Rattle.annex_base.specs.Lists.{Each}
 use Rattle.annex_base.specs.declared.kinds.Word.{Word}
 use Rattle.run_data.specs.declared.entry.Entry.{Entry}
@@ -19,7 +20,6 @@ use Rattle.run_model.specs.States.{end_at, content, session, state_of}
 use Rattle.node_model.specs.Sessions.{Doing, Session, session_after}
 use Rattle.node_model.specs.SessionStep.{Here, here, on_frame, on_message, on_text}
 use Rattle.run_model.specs.Run.{OwnPart, OwnRun}
-use Rattle.race_core.proofs.Plain.{and_true, not_true}
 use Rattle.race_core.proofs.Counting.{Closes, Counts, GetCounts, GivesOne, Pieces, bytes_counts, get_counts, gives_counts, message_counts}
 use Rattle.race_core.proofs.ServerEnds.{GivesHere, Shuts, TakesHere, sent_same}
 
@@ -151,11 +151,11 @@ may_epoch c f n may = go f.body n may
     same_number x y e = grind (arith, nat_tests)
 
     go : (body : FrameText) → is_opening body ≡ false → (if is_opening body then not c.opened && nat_lt c.epoch f.epoch else c.opened && (f.epoch == c.epoch)) ≡ true → (c.opened ≡ true) × (f.epoch ≡ c.epoch)
-    go body n may = let two = and_true c.opened (f.epoch == c.epoch) (rw n at may) in (two.0, same_number f.epoch c.epoch two.1)
+    go body n may = let two = and_parts c.opened (f.epoch == c.epoch) (rw n at may) in (two.0, same_number f.epoch c.epoch two.1)
 
 -- an Opening that may be taken comes to an end that isn't open
 pub opening_closed : (c : End) (f : FrameView) → is_opening f.body ≡ true → may_take c f ≡ true → c.opened ≡ false
-opening_closed c f i may = not_true c.opened (and_true (not c.opened) (nat_lt c.epoch f.epoch) (rw i at may)).0
+opening_closed c f i may = not-true c.opened (and_parts (not c.opened) (nat_lt c.epoch f.epoch) (rw i at may)).0
 
 pub takes_epoch : (c : End) (epoch : ℕ) (body : FrameText) → is_opening body ≡ false → (end_takes c epoch body).epoch ≡ c.epoch
 takes_epoch c epoch Opening n = absurd (cc)

@@ -1,8 +1,10 @@
 -- How a job comes to a phase in which a refusal stands: by what its entry takes, sends and is.
 use Rattle.std.proofs.Common.{◌≡◌, ◌≢◌, ℕ, ◌+◌, ◌-◌, Bool, true, false, List, [], ◌∷◌, Option, Some, None, ◌⊎◌, inl, inr, refl, sym, ap, ◌∙◌, subst}
 use Rattle.std.specs.Prelude.{if◌then◌else◌, ◌==◌}
+use Rattle.std.proofs.lemmas.Bool.{eqb-true}
 use Rattle.annex_base.specs.declared.kinds.Call.{Call}
 use Rattle.annex_base.specs.declared.kinds.Call.TheVariants.{Unhold, PutFile}
+use Rattle.annex_base.proofs.Conditions.{if_either}
 use Rattle.drop_proof.specs.declared.rule.Side.{Side}
 use Rattle.drop_proof.specs.declared.rule.Side.TheVariants.{Local, Remote}
 use Rattle.run_data.specs.declared.entry.By.{By}
@@ -27,11 +29,9 @@ use Rattle.node_model.specs.Sessions.{line_in}
 use Rattle.node_model.specs.Ends.{end_after}
 use Rattle.node_model.specs.Jobs
 use Rattle.node_model.specs.Jobs.{AsksLock, AsksLook, AsksTime, Denied, Drops, Ends, Fresh, GetsBytes, GetsData, GetsWord, Gets, Greets, Late, Next, Orders, Part, Phase, Puts, PutsAnswer, PutsBytes, PutsOffer, PutsWord, Rows, Work, claims, closed_part, fault_of, fault_phase, first_look, gained, hears_frame, is_move, is_ordered, job_end, learns, listens, partner, quiet, running, says, says_some, sends, side_of, stores_fault, talks, talks_on, target_of, to_phase, took, took_line, transferred, unreleased, word_taken, work_kind}
-use Rattle.race_core.proofs.Cases.{if_found}
 use Rattle.race_core.proofs.TalkFacts.{Fits}
 use Rattle.race_core.proofs.PhaseFacts.{is_fresh, readies_place}
 use Rattle.race_core.proofs.JobKept.{claims_kept, learns_kept}
-use Rattle.race_core.proofs.Plain.{eqb_true}
 
 -- the entry takes this message, and sends nothing
 pub record HearsOnly (e : Entry) (m : Message) : Type 0 where
@@ -129,7 +129,7 @@ module _ (rows : Rows) (r : ℕ) (e : Entry) (kind : EntryKind) where
   Stood w x = Reasoned rows r w e kind x
 
   transferred_stood : (w : Work) (o : Outcome) → OutcomeReason rows r w e kind o → Stood w (transferred w o)
-  transferred_stood w o reason = if_found (Stood w) (is_move w.what.kind) (record w { part = Drops; phase = Fresh; fills = false }) (record w { phase = Ends o; fills = false }) (λ h. inr tt) (λ h. inr reason)
+  transferred_stood w o reason = if_either (Stood w) (is_move w.what.kind) (record w { part = Drops; phase = Fresh; fills = false }) (record w { phase = Ends o; fills = false }) (λ h. inr tt) (λ h. inr reason)
 
   closed_stood : (w : Work) (x : ShutOn rows w e) (part : Part) → w.part ≡ part → Stood w (closed_part r w x.peer part)
   closed_stood w x Gets is = inr (inl (λ d. let both : Gets ≡ Puts = sym is ∙ d in cc))
@@ -137,7 +137,7 @@ module _ (rows : Rows) (r : ℕ) (e : Entry) (kind : EntryKind) where
   closed_stood w x Drops is = go (target_of r w == x.peer) refl
     where
       go : (b : Bool) → (target_of r w == x.peer) ≡ b → Stood w (if b then to_phase w (Ends (Refused (refusals.Lost (is_ordered w.phase)))) else Jobs.hears w x.peer (Jobs.Lacks causes.Closed))
-      go true h = inr (x, is, eqb_true (target_of r w) x.peer h, refl)
+      go true h = inr (x, is, eqb-true (target_of r w) x.peer h, refl)
       go false h = inr (inl (λ d. let both : Drops ≡ Puts = sym is ∙ d in cc))
 
   word_stood : (w : Work) (word : Option Message) (phase : Phase) → w.phase ≡ phase → Stood w (word_taken w word phase)
@@ -145,10 +145,10 @@ module _ (rows : Rows) (r : ℕ) (e : Entry) (kind : EntryKind) where
   word_stood w word phase is = inl refl
 
   gets_more_stood : (w : Work) (peer start size left : ℕ) → Stood w (to_phase w (Jobs.gets_more peer start size left))
-  gets_more_stood w peer start size left = if_found (λ p. Stood w (to_phase w p)) (left == 0) (GetsWord peer start size) (GetsBytes peer start size left) (λ h. inr tt) (λ h. inr tt)
+  gets_more_stood w peer start size left = if_either (λ p. Stood w (to_phase w p)) (left == 0) (GetsWord peer start size) (GetsBytes peer start size left) (λ h. inr tt) (λ h. inr tt)
 
   puts_more_stood : (w : Work) (peer start at left : ℕ) → SendsMore w e peer start at left → Stood w (to_phase w (Jobs.puts_more peer start at left))
-  puts_more_stood w peer start at left more = if_found (λ p. Stood w (to_phase w p)) (left == 0) (PutsWord peer start) (PutsBytes peer start at left) (λ h. inr tt) (λ h. inr more)
+  puts_more_stood w peer start at left more = if_either (λ p. Stood w (to_phase w p)) (left == 0) (PutsWord peer start) (PutsBytes peer start at left) (λ h. inr tt) (λ h. inr more)
 
   put_from_stood : (w : Work) (peer n : ℕ) (taken : Option Message) → Jobs.taken_message e.taken ≡ taken → SaysFirst e (Data n) → Stood w (to_phase w (Jobs.put_from peer n taken))
   put_from_stood w peer n (Some (PutFrom start)) is h = puts_more_stood w peer start start n (inr (h, is))
@@ -234,7 +234,7 @@ module _ (rows : Rows) (r : ℕ) (e : Entry) (kind : EntryKind) where
 
   on_stood : IsTalking kind → (w : Work) (p : Option ℕ) → partner w.what.peer w.phase ≡ p → Stood w (talks_on rows r w e p)
   on_stood k w None on = talks_stood k w e.sent refl
-  on_stood k w (Some peer) on = if_found (Stood w) (end_after (job_end w peer) (rows.ends (job_end w peer)) e).opened (talks rows r w e e.sent) (closed_part r w peer w.part)
+  on_stood k w (Some peer) on = if_either (Stood w) (end_after (job_end w peer) (rows.ends (job_end w peer)) e).opened (talks rows r w e e.sent) (closed_part r w peer w.part)
       (λ h. talks_stood k w e.sent refl) (λ h. closed_stood w (record { peer = peer; on = on; closed = h }) w.part refl)
 
   unreleased_stood : (w : Work) (owner : By) (phase : Phase) → w.phase ≡ phase → kind ≡ Fault Unhold owner → Stood w (unreleased w e.time phase)

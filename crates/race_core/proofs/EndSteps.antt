@@ -2,7 +2,9 @@
 use Rattle.std.proofs.Common.{◌≡◌, ◌≢◌, ℕ, ◌/◌, ◌-◌, ◌+◌, ◌^◌, Bool, true, false, List, [], ◌∷◌, Option, Some, None, ◌⊎◌, inl, inr, refl, sym, ap, ◌∙◌, subst}
 use Rattle.std.specs.Prelude.{if◌then◌else◌, ◌==◌, nat_le, nat_lt, bytes_eq, codes}
 use Rattle.std.specs.List.{list_all}
+use Rattle.std.proofs.lemmas.Bool.{eqb-true}
 use Rattle.annex_base.specs.declared.kinds.Call.{Call}
+use Rattle.annex_base.proofs.Conditions.{if_either}
 use Rattle.annex_base.specs.declared.kinds.Call.TheVariants as calls
 use Rattle.drop_proof.specs.declared.rule.Side.{Side}
 use Rattle.drop_proof.specs.declared.rule.Side.TheVariants.{Local, Remote}
@@ -15,9 +17,10 @@ use Rattle.run_data.specs.declared.job.Outcome.{Outcome}
 use Rattle.run_data.specs.declared.job.Outcome.TheVariants.{Refused, TransferRefused}
 use Rattle.run_data.specs.declared.job.TransferRefusal.TheVariants as failures
 use Rattle.run_data.specs.declared.job.DropRefusal.TheVariants as refusals
+use Rattle.node_model.specs.Calls.{to_resume}
 use Rattle.node_model.specs.Rows.{is_lost_ordered}
 use Rattle.p2p_wire.specs.declared.message.Message.{Message}
-use Rattle.p2p_wire.specs.declared.message.Message.TheVariants.{Error, Get, GetTimestamp, Remove, RemoveBefore, Timestamp, Version}
+use Rattle.p2p_wire.specs.declared.message.Message.TheVariants.{Error, Get, GetTimestamp, RemoveBefore, Timestamp, Version}
 use Rattle.p2p_wire.specs.Messages.{message_of}
 use Rattle.node_model.specs.Sessions.{line_in}
 use Rattle.node_model.specs.Jobs.{AsksTime, Drops, Gets, Greets, Next, Part, Phase, Puts, PutsOffer, job_end, partner, side_of}
@@ -28,10 +31,8 @@ use Rattle.node_model.specs.DropStep.{asks_copy, asks_lock, asks_target, first_e
 use Rattle.node_model.specs.Requests.{asks, goes_to}
 use Rattle.node_model.specs.TransferStep.{next_get, next_source}
 use Rattle.node_model.specs.Turns.{awaits, by_partner, goes, goes_on, has_room, judges, needs, next_step, takes, takes_answer, takes_frame, takes_text, with_partner}
-use Rattle.race_core.proofs.Cases.{if_found}
 use Rattle.race_core.proofs.ClientSteps.{attempts_even}
 use Rattle.race_core.proofs.HeardSteps.{takes_line}
-use Rattle.race_core.proofs.Plain.{eqb_true}
 
 -- ---- the target's version is too old
 
@@ -60,7 +61,7 @@ copy_old t version peer taken part Local side silent = absurd (cc)
 copy_old t version peer taken part Remote side silent = go (target t == peer) refl silent
   where
     go : (b : Bool) → (target t == peer) ≡ b → Silent (if b then asks_target t version taken (first_end t) else asks_lock t taken peer) → Old t version peer
-    go true is silent = target_old t version peer taken part side (eqb_true (target t) peer is) (first_end t) refl silent
+    go true is silent = target_old t version peer taken part side (eqb-true (target t) peer is) (first_end t) refl silent
     go false is silent = absurd (cc)
 
 -- a talk
@@ -75,7 +76,7 @@ attempts_old : (t : Turn) (version : ℕ) (cs : List Call) (taken : Option Frame
 attempts_old t version cs taken m good = attempts_even (QuietOld t version) t cs taken m (λ call e k silent. absurd k) good
 
 asks_old : (t : Turn) (version peer : ℕ) (taken : Option FrameView) (part : Part) → t.w.part ≡ part → IsTalkBy (asks t version taken peer part).kind → Silent (asks t version taken peer part) → Old t version peer
-asks_old t version peer taken Gets is = attempts_even (λ (m : Made). IsTalkBy m.kind → Silent m → Old t version peer) t (calls.PartSize ∷ []) taken (says_to t (talk t) taken peer (Get t.look.part [] (key_of t))) (λ call e k silent. absurd k) (λ k silent. absurd (cc))
+asks_old t version peer taken Gets is = attempts_even (λ (m : Made). IsTalkBy m.kind → Silent m → Old t version peer) t (to_resume t.look.part) taken (says_to t (talk t) taken peer (Get t.look.part [] (key_of t))) (λ call e k silent. absurd k) (λ k silent. absurd (cc))
 asks_old t version peer taken Puts is = λ k silent. absurd (cc)
 asks_old t version peer taken Drops is = λ k silent. copy_old t version peer taken is (side_of t.w) refl silent
 
@@ -84,10 +85,10 @@ pub greets_old : (t : Turn) (f : FrameView) (peer p n : ℕ) → t.w.phase ≡ G
 greets_old t f peer p n is told =
     let same = takes_line t peer f (Version n) (Greets p) is told in
     subst (λ (m : Made). IsTalkBy m.kind → Silent m → Old t n peer) (sym same)
-    (if_found (λ (m : Made). IsTalkBy m.kind → Silent m → Old t n peer) (nat_le n 3) (asks t n (Some f) peer t.w.part) (wrong t f peer) (λ e. asks_old t n peer (Some f) t.w.part refl) (λ e k silent. absurd (cc)))
+    (if_either (λ (m : Made). IsTalkBy m.kind → Silent m → Old t n peer) (nat_le n 3) (asks t n (Some f) peer t.w.part) (wrong t f peer) (λ e. asks_old t n peer (Some f) t.w.part refl) (λ e k silent. absurd (cc)))
 
 goes_old : (t : Turn) (peer : ℕ) → (t.w.part ≡ Drops → (enough_by t.read t.w ≡ true) ⊎ (next_by t.read t.w ≡ Some peer)) → QuietOld t t.w.version (goes_to t peer)
-goes_old t peer chosen = if_found (QuietOld t t.w.version) (end_with t peer).opened (asks t t.w.version None peer t.w.part) (sends_to t (talk t) None peer (Opening ∷ []))
+goes_old t peer chosen = if_either (QuietOld t t.w.version) (end_with t peer).opened (asks t t.w.version None peer t.w.part) (sends_to t (talk t) None peer (Opening ∷ []))
     (λ e k silent. let old = asks_old t t.w.version peer None t.w.part refl k silent in (peer, old, chosen old.part_is)) (λ e k silent. absurd (cc))
 
 ends_old : (t : Turn) (taken : Option FrameView) (outcome : Outcome) → QuietOld t t.w.version (ends t taken outcome)
@@ -96,7 +97,7 @@ ends_old t taken outcome = attempts_old t t.w.version _ taken (record { kind = e
 judges_old : (t : Turn) (enough : Bool) (next : Option ℕ) (side : Side) → enough_by t.read t.w ≡ enough → next_by t.read t.w ≡ next → QuietOld t t.w.version (judges t enough next side)
 judges_old t false (Some peer) side a b = goes_old t peer (λ part. inr b)
 judges_old t false None side a b = ends_old t None (lacking t)
-judges_old t true next Local a b = if_found (QuietOld t t.w.version) (in_time (clock_of t) (first_end t)) (attempts t (calls.Remove ∷ []) None (quietly _ None)) (ends t None (expired (clock_of t) (first_end t)))
+judges_old t true next Local a b = if_either (QuietOld t t.w.version) (in_time (clock_of t) (first_end t)) (attempts t (calls.Remove ∷ []) None (quietly _ None)) (ends t None (expired (clock_of t) (first_end t)))
     (λ e. attempts_old t t.w.version (calls.Remove ∷ []) None (quietly _ None) (λ k silent. absurd k)) (λ e. ends_old t None (expired (clock_of t) (first_end t)))
 judges_old t true next Remote a b = goes_old t (target t) (λ part. inl a)
 
@@ -159,7 +160,7 @@ times_late t f n (Some end) first = go (nat_lt (clock_of t) end) refl
 
 time_late : (t : Turn) (f : FrameView) (peer n : ℕ) (side : Side) → LateBy t (takes_time t f peer n side).kind
 time_late t f peer n Local = tt
-time_late t f peer n Remote = if_found (λ (m : Made). LateBy t m.kind) (nat_lt n (2 ^ 61)) (times t f n (first_end t)) (wrong t f peer) (λ e. times_late t f n (first_end t) refl) (λ e. tt)
+time_late t f peer n Remote = if_either (λ (m : Made). LateBy t m.kind) (nat_lt n (2 ^ 61)) (times t f n (first_end t)) (wrong t f peer) (λ e. times_late t f n (first_end t) refl) (λ e. tt)
 
 message_late : (t : Turn) (f : FrameView) (peer : ℕ) (m : Message) → LateBy t (takes_drop t f peer AsksTime m).kind
 message_late t f peer (Timestamp n) = time_late t f peer n (side_of t.w)
@@ -209,19 +210,19 @@ attempts_enough t cs taken m good = attempts_even (EnoughMade t) t cs taken m (�
 
 target_enough : (t : Turn) (version : ℕ) (taken : Option FrameView) (end : Option ℕ) → EnoughMade t (asks_target t version taken end)
 target_enough t version taken None = tt
-target_enough t version taken (Some end) = if_found (EnoughMade t) (nat_lt version 3) (quietly (talk t) taken) (says_to t (talk t) taken (target t) GetTimestamp) (λ e. tt) (λ e. tt)
+target_enough t version taken (Some end) = if_either (EnoughMade t) (nat_lt version 3) (quietly (talk t) taken) (says_to t (talk t) taken (target t) GetTimestamp) (λ e. tt) (λ e. tt)
 
 copy_enough : (t : Turn) (version : ℕ) (taken : Option FrameView) (peer : ℕ) (side : Side) → EnoughMade t (asks_copy t version taken peer side)
 copy_enough t version taken peer Local = tt
-copy_enough t version taken peer Remote = if_found (EnoughMade t) (target t == peer) (asks_target t version taken (first_end t)) (asks_lock t taken peer) (λ e. target_enough t version taken (first_end t)) (λ e. tt)
+copy_enough t version taken peer Remote = if_either (EnoughMade t) (target t == peer) (asks_target t version taken (first_end t)) (asks_lock t taken peer) (λ e. target_enough t version taken (first_end t)) (λ e. tt)
 
 asks_enough : (t : Turn) (version : ℕ) (taken : Option FrameView) (peer : ℕ) (part : Part) → EnoughMade t (asks t version taken peer part)
-asks_enough t version taken peer Gets = attempts_enough t (calls.PartSize ∷ []) taken (says_to t (talk t) taken peer (Get t.look.part [] (key_of t))) tt
+asks_enough t version taken peer Gets = attempts_enough t (to_resume t.look.part) taken (says_to t (talk t) taken peer (Get t.look.part [] (key_of t))) tt
 asks_enough t version taken peer Puts = tt
 asks_enough t version taken peer Drops = copy_enough t version taken peer (side_of t.w)
 
 goes_enough : (t : Turn) (peer : ℕ) → EnoughMade t (goes_to t peer)
-goes_enough t peer = if_found (EnoughMade t) (end_with t peer).opened (asks t t.w.version None peer t.w.part) (sends_to t (talk t) None peer (Opening ∷ [])) (λ e. asks_enough t t.w.version None peer t.w.part) (λ e. tt)
+goes_enough t peer = if_either (EnoughMade t) (end_with t peer).opened (asks t t.w.version None peer t.w.part) (sends_to t (talk t) None peer (Opening ∷ [])) (λ e. asks_enough t t.w.version None peer t.w.part) (λ e. tt)
 
 expired_enough : (t : Turn) (clk : ℕ) (end : Option ℕ) → enough_by t.read t.w ≡ true → EnoughMade t (ends t None (expired clk end))
 expired_enough t clk None enough = attempts_enough t _ None (record { kind = ends_job t.w.number (expired clk None); taken = None; sent = farewells t false; lines = [] }) enough
@@ -230,7 +231,7 @@ expired_enough t clk (Some end) enough = attempts_enough t _ None (record { kind
 judges_enough : (t : Turn) (enough : Bool) (next : Option ℕ) (side : Side) → enough_by t.read t.w ≡ enough → EnoughMade t (judges t enough next side)
 judges_enough t false (Some peer) side e = goes_enough t peer
 judges_enough t false None side e = attempts_enough t _ None (record { kind = ends_job t.w.number (lacking t); taken = None; sent = farewells t false; lines = [] }) tt
-judges_enough t true next Local e = if_found (EnoughMade t) (in_time (clock_of t) (first_end t)) (attempts t (calls.Remove ∷ []) None (quietly _ None)) (ends t None (expired (clock_of t) (first_end t)))
+judges_enough t true next Local e = if_either (EnoughMade t) (in_time (clock_of t) (first_end t)) (attempts t (calls.Remove ∷ []) None (quietly _ None)) (ends t None (expired (clock_of t) (first_end t)))
     (λ h. attempts_enough t (calls.Remove ∷ []) None (quietly _ None) tt) (λ h. expired_enough t (clock_of t) (first_end t) e)
 judges_enough t true next Remote e = goes_enough t (target t)
 

@@ -3,11 +3,11 @@ use Rattle.std.proofs.Common.{◌≡◌, ℕ, zero, suc, ◌+◌, ◌<◌, ◌�
 use Rattle.std.specs.Prelude.{◌==◌, slice_get}
 use Rattle.std.proofs.lemmas.Bool.Decides.{nat_tests}
 use Rattle.std.proofs.lemmas.Option.{slice_get_cases}
+use Rattle.std.proofs.lemmas.Bool.{eqb-true}
 use Rattle.run_data.specs.declared.entry.Entry.{Entry}
 use Rattle.run_data.specs.declared.run.Run.{Run}
 use Rattle.run_model.specs.Past.{Occurs}
 use Rattle.run_model.specs.Safety.{past_at}
-use Rattle.race_core.proofs.Lists.{eqb_true}
 use Rattle.race_core.proofs.Pasts.{past_end}
 use Rattle.race_core.proofs.AtPlaces.{past_next}
 
@@ -55,7 +55,7 @@ at_occurs run (suc p) at x lt is =
     ]
 
     go : (at < p → Occurs (past_at run p) x (past_at run at)) → (b : Bool) → (at == p) ≡ b → Occurs (past_at run (p + 1)) x (past_at run at)
-    go ih true e = same (eqb_true at p e)
+    go ih true e = same (eqb-true at p e)
     go ih false e = let below : at < p = grind (arith, nat_tests) in later (ih below)
 
 -- two places of which neither is earlier are the same
@@ -63,7 +63,7 @@ pub same_place : (a b : ℕ) → (a < b → ⊥) → (b < a → ⊥) → a ≡ b
 same_place a b f g = go (a == b) refl
   where
     go : (c : Bool) → (a == b) ≡ c → a ≡ b
-    go true e = eqb_true a b e
+    go true e = eqb-true a b e
     go false e = let ways : (a < b) ⊎ (b < a) = grind (arith, nat_tests) in elim ways [ inl l ↦ absurd (f l) | inr l ↦ absurd (g l) ]
 
 pub below_or_last : (m n : ℕ) → m ≤ suc n → (m ≤ n) ⊎ (m ≡ suc n)

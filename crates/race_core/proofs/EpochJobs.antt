@@ -2,9 +2,12 @@
 use Rattle.std.proofs.Common.{◌≡◌, ℕ, ◌+◌, ◌<◌, ◌≤◌, Bool, true, false, List, [], ◌∷◌, length, Option, Some, None, ◌⊎◌, inl, inr, refl, sym, ap, ◌∙◌, subst, arith}
 use Rattle.std.specs.Prelude.{if◌then◌else◌, ◌==◌, ◌&&◌, ◌||◌, not}
 use Rattle.std.specs.List.{list_any}
-use Rattle.std.proofs.lemmas.Bool.{true≢false}
+use Rattle.std.proofs.lemmas.Bool.{true≢false, and_parts, eqb-true}
+use Rattle.std.proofs.lemmas.List.{length-map}
 use Rattle.annex_base.specs.Lists.{Member}
 use Rattle.annex_base.specs.declared.kinds.Word.{Word}
+use Rattle.annex_base.proofs.Conditions.{eqb_refl}
+use Rattle.annex_base.proofs.Lists.{Member-filter_parts}
 use Rattle.run_data.specs.declared.entry.Entry.{Entry}
 use Rattle.run_data.specs.declared.entry.EntryKind.{EntryKind}
 use Rattle.run_data.specs.declared.entry.EntryKind.TheVariants.{Begin, Crash, End as ends_job}
@@ -23,7 +26,6 @@ use Rattle.run_model.specs.States.{end_at, works}
 use Rattle.node_model.specs.Jobs.{running}
 use Rattle.node_model.specs.Found.{JobKind}
 use Rattle.run_model.specs.Run.{OwnPart, OwnRun}
-use Rattle.race_core.proofs.Plain.{and_true, eqb_refl, eqb_true, length_map, member_filter}
 use Rattle.race_core.proofs.ServerEnds.{GivesHere, TakesHere, end_of, takes_end}
 use Rattle.race_core.proofs.EndMoves.{OpensNone, all_opened, end_own, may_epoch, own_induction, sends_all}
 use Rattle.race_core.proofs.EndEpochs.{between_grows, client_sends, end_grows, from_end, opening_grows, opening_later, own_takes, within}
@@ -66,10 +68,10 @@ record On (w : Way) (peer : ℕ) (g : FrameView) : Type 0 where
 
 on_parts : (w : Way) (peer : ℕ) (g : FrameView) → is_on w peer g ≡ true → On w peer g
 on_parts w peer g e =
-    let a = and_true (g.peer == peer) ((g.slot == w.slot) && (same_bool g.up w.up && (g.epoch == w.epoch))) e in
-    let b = and_true (g.slot == w.slot) (same_bool g.up w.up && (g.epoch == w.epoch)) a.1 in
-    let c = and_true (same_bool g.up w.up) (g.epoch == w.epoch) b.1 in
-    record { peer_is = eqb_true g.peer peer a.0; slot_is = eqb_true g.slot w.slot b.0; side = c.0; epoch_is = eqb_true g.epoch w.epoch c.1 }
+    let a = and_parts (g.peer == peer) ((g.slot == w.slot) && (same_bool g.up w.up && (g.epoch == w.epoch))) e in
+    let b = and_parts (g.slot == w.slot) (same_bool g.up w.up && (g.epoch == w.epoch)) a.1 in
+    let c = and_parts (same_bool g.up w.up) (g.epoch == w.epoch) b.1 in
+    record { peer_is = eqb-true g.peer peer a.0; slot_is = eqb-true g.slot w.slot b.0; side = c.0; epoch_is = eqb-true g.epoch w.epoch c.1 }
 
 pub uses_touches : (w : Way) (e : Entry) → uses w e ≡ true → Touches (end_to w) w.epoch e
 uses_touches w e used = go (list_any (is_on (up_of w) w.server) e.sent) refl used
@@ -145,7 +147,7 @@ same_slot (j ∷ js) a x y (inr m) (inr n) e = same_slot js a.1 x y m n e
 pub ran_or : (js : List Running) (kind : EntryKind) (j : Running) → Member j (jobs_after js kind) → Member j js ⊎ ((job : ℕ) × (what : Job) × ((kind ≡ Begin job what) × (j.slot ≡ free_slot js)))
 ran_or js (Begin job what) j (inl m) = inr (job, what, (refl, ap (λ (z : Running). z.slot) m))
 ran_or js (Begin job what) j (inr m) = inl m
-ran_or js (ends_job job outcome) j m = inl (member_filter (λ (z : Running). not (z.number == job)) js j m).0
+ran_or js (ends_job job outcome) j m = inl (Member-filter_parts (λ (z : Running). not (z.number == job)) js j m).0
 ran_or js (Crash clock) j m = absurd m
 ran_or js kind j m = inl m
 
@@ -205,7 +207,7 @@ module _ (s : SetUp) (past : List Entry) (e : Entry) (words : ℕ → Option Wor
   no_begin o job slot j what kind free =
       let js = jobs past s.number in
       let x = open_runs s past run a client o in
-      let few : length js < 4 = subst (λ n. n < 4) (sym (length_map running (works past s.number)) ∙ ap length (jobs_are past s.number)) (begins_few s past words e own j what kind) in
+      let few : length js < 4 = subst (λ n. n < 4) (sym (length-map (works past s.number) running) ∙ ap length (jobs_are past s.number)) (begins_few s past words e own j what kind) in
       let at : x.job.slot ≡ free_slot js = x.slot ∙ sym slot ∙ free in
       true≢false (sym (subst (λ n. Slots.uses js n ≡ true) at (used_slot js x.job x.runs)) ∙ free_is js few)
 

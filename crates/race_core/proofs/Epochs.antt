@@ -1,6 +1,7 @@
 -- Of the openings of a connection: nothing is on the ways of one that is to come, and the server is at none later than the client.
 use Rattle.std.proofs.Common.{◌≡◌, ◌≢◌, ℕ, ◌<◌, ◌≤◌, Bool, true, false, List, [], ◌∷◌, Option, Some, None, inl, inr, refl, sym, ap, ◌∙◌, subst, arith}
 use Rattle.std.specs.Prelude.{◌==◌, slice_get, zero}
+use Rattle.std.proofs.lemmas.Bool.{eqb-true}
 use Rattle.annex_base.specs.Lists.{Each}
 use Rattle.run_data.specs.declared.entry.Entry.{Entry}
 use Rattle.run_data.specs.declared.entry.FrameView.{FrameView}
@@ -19,7 +20,6 @@ use Rattle.race_core.proofs.WayCounts.{out_sender-is, out_taker-is, way_in, way_
 use Rattle.race_core.proofs.ServerEnds.{TakesHere, at_server}
 use Rattle.race_core.proofs.EndMoves.{all_epoch, end_gave, end_own, end_shuts, end_took-is, gave_none, shuts_none, took_none}
 use Rattle.race_core.proofs.EndEpochs.{end_grows, from_end, within}
-use Rattle.race_core.proofs.Lists.{eqb_true}
 use Rattle.race_core.proofs.Flights.{Sending, sending}
 use Rattle.race_core.proofs.Turns
 use Rattle.race_core.proofs.Told.{on_parts, prefixes, sends_member, sends_on}
@@ -36,7 +36,7 @@ not_both None a b p apart = refl
 not_both (Some n) a b p apart = go (n == b) refl
   where
     go : (c : Bool) → (n == b) ≡ c → c ≡ false
-    go true e = absurd (apart (sym (eqb_true n a p) ∙ eqb_true n b e))
+    go true e = absurd (apart (sym (eqb-true n a p) ∙ eqb-true n b e))
     go false e = refl
 
 module _ (run : Run) (repos : Each IsSetUp run.repos) where

@@ -3,8 +3,10 @@ use Rattle.std.proofs.Common.{◌≡◌, ℕ, ◌≤◌, Bool, true, false, List
 use Rattle.std.proofs.lemmas.Bool.Decides.{nat_tests}
 use Rattle.std.specs.Prelude.{if◌then◌else◌, ◌||◌, find, length, min, nat_lt}
 use Rattle.std.specs.List.{list_any, reduce}
+use Rattle.std.proofs.lemmas.Bool.{ltb-true}
 use Rattle.annex_base.specs.Lists.{Each, Member}
 use Rattle.annex_base.specs.declared.kinds.Word.{Word}
+use Rattle.annex_base.proofs.Lists.{Each-from_members}
 use Rattle.drop_proof.specs.declared.evidence.Evidence.{Evidence}
 use Rattle.drop_proof.specs.declared.evidence.Kind.{Kind}
 use Rattle.drop_proof.specs.declared.evidence.Kind.TheVariants.{Locked, Trusted, Recent}
@@ -47,7 +49,6 @@ use Rattle.race_core.proofs.Known.{asked_known, evidence_known, gather_same}
 use Rattle.race_core.proofs.KnownAgrees.{known_agrees, knows_same}
 use Rattle.race_core.proofs.DropOwn.{list_agrees}
 use Rattle.race_core.proofs.AtTargets.{at_targets}
-use Rattle.race_core.proofs.Plain.{lt_true}
 use Rattle.race_core.proofs.Knowing
 
 -- a first end is of a lock
@@ -144,7 +145,7 @@ module _ (s : SetUp) (past : List Entry) (words : ℕ → Option Word) (e : Entr
       settled x (inl z) =
           let w = x.by.w in
           let k : KnewAt s past w (Ends (Refused (refusals.OldProtocol n))) = subst (KnewAt s past w) z.0 (knew s past h w x.runs) in
-          record { d = job_of s past h w x.runs; hears = z.1.0; old = lt_true n 3 z.1.1; locked = locked_by (items s.repos past r w.number (job_of s past h w x.runs)) k.0 (ap least_end (items_known w x.runs k.1.enough) ∙ k.1.first) }
+          record { d = job_of s past h w x.runs; hears = z.1.0; old = ltb-true n 3 z.1.1; locked = locked_by (items s.repos past r w.number (job_of s past h w x.runs)) k.0 (ap least_end (items_known w x.runs k.1.enough) ∙ k.1.first) }
       settled x (inr (inl z)) = absurd (let no' : Refused (refusals.OldProtocol n) ≡ DropStep.denied (turn_at s past e x.by) = z.1 in cc)
       settled x (inr (inr z)) = absurd (apart (DropStep.first_end (turn_at s past e x.by)) _ z.2)
         where
@@ -198,10 +199,6 @@ failures_have f g (d ∷ cs) c (inr m) fails = go (f d) (failures_have f g cs c 
     go : (o : Offer) → Member (record { repo = c; cause = g c }) (failures f g cs) → Member (record { repo = c; cause = g c }) (pick o (λ kind. failures f g cs) (record { repo = d; cause = g d } ∷ failures f g cs))
     go (Gives kind) more = more
     go Fails more = inr more
-
-each_of : {X : Type 0} (P : X → Type 0) (xs : List X) → ((x : X) → Member x xs → P x) → Each P xs
-each_of P [] f = tt
-each_of P (x ∷ xs) f = (f x (inl refl), each_of P xs (λ y m. f y (inr m)))
 
 offers_none : (clock : ℕ → ℕ) (h : Heard) → heard_offer clock (Some h) ≡ Fails → heard_offer (λ time. time) (Some h) ≡ Fails
 offers_none clock (Jobs.Held since) e = absurd (cc)
@@ -279,7 +276,7 @@ module _ (s : SetUp) (past : List Entry) (words : ℕ → Option Word) (e : Entr
           let cands : cs ≡ candidates (side_in (running w)) (length s.repos) s.number (target_in s.number (running w)) = (λ i. candidates (sym (side_is w) i) (length s.repos) s.number (sym (target_is s.number w) i)) in
           let knows_none : (c : ℕ) → asked s.repos past s.number w.number c ≡ Fails → Knowing.knows s (state_of s past) w c ≡ Fails = (λ c a. sym (knows_same s past w (list_agrees s past h w m) c) ∙ sym (asked_known s.repos past s.number w.number c run) ∙ a) in
           let each = failures_each (IsCauseOf s.repos past s.number w.number cs) f g cs cs (λ c n. n) (λ c n fails. caused w m y.part_is y.last c n fails) in
-          let all = each_of (λ c. asked s.repos past s.number w.number c ≡ Fails → Member (record { repo = c; cause = why s.repos past s.number w.number c }) reasons) cs
+          let all = Each-from_members (λ c. asked s.repos past s.number w.number c ≡ Fails → Member (record { repo = c; cause = why s.repos past s.number w.number c }) reasons) cs
           (λ c n a. subst (Member (record { repo = c; cause = why s.repos past s.number w.number c })) (sym reasons_are)
           (subst (λ q. Member (record { repo = c; cause = q }) (failures f g cs)) (sym (why_is w m y.part_is y.last c n (knows_none c a))) (failures_have f g cs c n (knows_none c a)))) in
           record {

@@ -3,7 +3,10 @@ use Rattle.node_model.specs.Clocks.{hold_time}
 use Rattle.std.proofs.Common.{◌≡◌, ℕ, ◌+◌, ◌<◌, ◌≤◌, Bool, true, false, not, ◌&&◌, List, [], ◌∷◌, length, Some, None, ◌⊎◌, inl, inr, refl, sym, ap, ◌∙◌, subst, arith, min}
 use Rattle.std.specs.Prelude.{fold, option_map, ◌==◌}
 use Rattle.std.specs.List.{reduce}
+use Rattle.std.proofs.lemmas.Bool.{and_parts, eqb-true, or_from}
 use Rattle.annex_base.specs.Lists.{Each}
+use Rattle.annex_base.proofs.Conditions.{eqb_refl}
+use Rattle.annex_base.proofs.Lists.{Each-both, Each-weaker}
 use Rattle.drop_proof.specs.declared.evidence.Evidence.{Evidence}
 use Rattle.drop_proof.specs.declared.evidence.Kind.{Kind}
 use Rattle.drop_proof.specs.declared.evidence.Kind.TheVariants.{Locked, Trusted, Recent}
@@ -23,7 +26,7 @@ use Rattle.node_model.specs.Evidence.{Gives, candidates}
 use Rattle.race_core.specs.Lawful.{IsFresh}
 use Rattle.race_core.proofs.Heard.{heard_key}
 use Rattle.race_core.proofs.Own.{HeardOf, MessagePast}
-use Rattle.race_core.proofs.Lists.{and_true, eqb_refl, eqb_true, neither, Each-any, Each-both, Each-weaker}
+use Rattle.race_core.proofs.Lists.{Each-any}
 use Rattle.race_core.proofs.Changes.{BarOf, PutsBar, bar_was, decided_keeps, decided_new}
 use Rattle.race_core.proofs.Gather.{evidence_each, offer_end}
 use Rattle.race_core.proofs.Told.{heard_of, reply_heard}
@@ -38,7 +41,7 @@ pub record Standing' (past : List Entry) (r j : ℕ) (key : List ℕ) : Type 0 w
   pub open' : done past r j ≡ false
 
 pub done_end : (j : ℕ) (kind : EntryKind) → done_kind j kind ≡ true → (outcome : Outcome) × (kind ≡ End j outcome)
-done_end j (End job outcome) h = let w = and_true (job == j) (not (is_lost_ordered outcome)) h in (outcome, ap (λ x. End x outcome) (eqb_true job j w.0))
+done_end j (End job outcome) h = let w = and_parts (job == j) (not (is_lost_ordered outcome)) h in (outcome, ap (λ x. End x outcome) (eqb-true job j w.0))
 done_end j _ h = cc
 
 bar_ended : (e : Entry) (past : List Entry) (r j : ℕ) (key : List ℕ) (outcome : Outcome) → is_of r e ≡ true → e.kind ≡ End j outcome → bar past r key ≡ Some j → bar (e ∷ past) r key ≡ None
@@ -52,7 +55,7 @@ barred repos (e ∷ past) r j key run h = go (λ k. barred repos past r j key ru
     Barred = bar past r key ≡ Some j
 
     old : Barred → Standing' past r j key → Standing' (e ∷ past) r j key
-    old b s = record { d = s.d; decided_is = keeps (decided_keeps e past r j s.d s.decided_is); key_is = s.key_is; open' = neither (is_of r e && done_kind j e.kind) (done past r j) (not_now (is_of r e) refl (done_kind j e.kind) refl) s.open' }
+    old b s = record { d = s.d; decided_is = keeps (decided_keeps e past r j s.d s.decided_is); key_is = s.key_is; open' = or_from (is_of r e && done_kind j e.kind) (done past r j) (not_now (is_of r e) refl (done_kind j e.kind) refl) s.open' }
       where
         keeps : (decided (e ∷ past) r j ≡ Some s.d) ⊎ BarOf e r j → decided (e ∷ past) r j ≡ Some s.d
         keeps (inl k) = k
@@ -71,7 +74,7 @@ barred repos (e ∷ past) r j key run h = go (λ k. barred repos past r j key ru
       d = record { place = length past; key = key; need = p.need };
       decided_is = decided_new e past r j p.need key p.repo_is p.kind_is;
       key_is = refl;
-      open' = neither (is_of r e && done_kind j e.kind) (done past r j) (rw (p.repo_is, p.kind_is) refl) ((run.0.own r p.repo_is).bar_put j p.need key p.kind_is).open';
+      open' = or_from (is_of r e && done_kind j e.kind) (done past r j) (rw (p.repo_is, p.kind_is) refl) ((run.0.own r p.repo_is).bar_put j p.need key p.kind_is).open';
     }
 
     go : (Barred → Standing' past r j key) → Barred ⊎ PutsBar e r key j → Standing' (e ∷ past) r j key

@@ -3,8 +3,9 @@ use Rattle.node_model.specs.Clocks.{hold_time, runs_on, ClockSet}
 use Rattle.std.proofs.Common.{◌≡◌, ℕ, ◌+◌, ◌-◌, ◌<◌, ◌≤◌, Bool, true, false, not, ◌&&◌, List, [], ◌∷◌, length, Option, Some, None, ◌⊎◌, inl, inr, refl, sym, ap, ◌∙◌, subst, arith}
 use Rattle.std.specs.Prelude.{◌==◌, nat_lt, nat_le, count_by}
 use Rattle.std.specs.List.{list_any, range_with_len}
-use Rattle.std.proofs.lemmas.Bool.{true≢false}
+use Rattle.std.proofs.lemmas.Bool.{true≢false, or_parts, cases_Bool, or_left, or_right}
 use Rattle.std.proofs.lemmas.Bool.Decides.{nat_tests}
+use Rattle.std.proofs.lemmas.Option.{same_Some}
 use Rattle.run_data.specs.declared.entry.Entry.{Entry}
 use Rattle.run_data.specs.declared.run.RepoView.{RepoView}
 use Rattle.drop_proof.specs.declared.rule.Need.{Need}
@@ -25,11 +26,12 @@ use Rattle.node_model.specs.Evidence.{Gives, is_trusted, candidates}
 use Rattle.drop_proof.specs.Judging.{is_enough, counts}
 use Rattle.run_model.specs.Safety.{Removal, removal, removals, add_removal, local_removal, remote_removal}
 use Rattle.annex_base.specs.Lists.{Each, Member}
+use Rattle.annex_base.proofs.Lists.{Each-both, Each-weaker, Member-append_cases}
+use Rattle.annex_base.proofs.Conditions.{eqb_refl, bytes_eq-refl}
 use Rattle.race_core.specs.Lawful.{Free, InTime, FoundRemote, IsFresh, Lawful, since_of}
-use Rattle.race_core.proofs.Lists.{or_false, Each-both, eqb_refl, true_or_false, Each-any, Each-weaker, or_left, or_right, Member-append}
+use Rattle.race_core.proofs.Lists.{Each-any}
 use Rattle.race_core.proofs.Gather.{never_target, evidence_each, evidence_count, enough_m, offer_locked, offer_recent}
-use Rattle.race_core.proofs.Changes.{Crashes, TakesAway, crash_or, crash_sets, lasts_crash, set_by_now, present_stays, PutsBar, bar_was, decided_was, Shares, blocked_was, unblocked_later, lasts, lasts_stays, lasts-blocks, decided_keeps, decided_new, same_repo, removal_is, order_is, removal_was, Removes, Obeys, any_add, bytes_refl, same_owner_refl, VouchedBy, vouch_was, own_lock, sender_before, reply_vouched}
-use Rattle.race_core.proofs.Flights.{some_inj}
+use Rattle.race_core.proofs.Changes.{Crashes, TakesAway, crash_or, crash_sets, lasts_crash, set_by_now, present_stays, PutsBar, bar_was, decided_was, Shares, blocked_was, unblocked_later, lasts, lasts_stays, lasts-blocks, decided_keeps, decided_new, same_repo, removal_is, order_is, removal_was, Removes, Obeys, any_add, same_owner_refl, VouchedBy, vouch_was, own_lock, sender_before, reply_vouched}
 
 abbrev pub is_later : ℕ → Removal → Bool
 is_later place x = nat_lt place x.decision
@@ -125,7 +127,7 @@ free_later repos past e r place key row no_gone no_bar = record { later = later;
 
 vouched_kept : (repos : List RepoView) (past : List Entry) (e : Entry) → Facts repos past → Lawful repos past e
     → (r a j : ℕ) (v : Vouch) (d : Decision) → Member v (vouches (e ∷ past) r a j) → decided (e ∷ past) a j ≡ Some d → LaterOnly repos (e ∷ past) r d.place (key_of v)
-vouched_kept repos past e f law r a j v d m h = elim (Member-append v (vouch past e r a j) (vouches past r a j) m) [
+vouched_kept repos past e f law r a j v d m h = elim (Member-append_cases (vouch past e r a j) (vouches past r a j) v m) [
   | inl k ↦ let w = vouch_was past e r a j v k in
       free_later repos past e r d.place (key_of v) (law.copies r a j v k).0
       (λ t. vouched_no_gone r a j e.kind v w.1 t.by (key_of v) t.kind_is) (λ i t. vouched_no_bar r a j e.kind v w.1 i t.need (key_of v) t.kind_is)
@@ -140,7 +142,7 @@ end_done past e a j outcome is kind lost = rw (is, kind, eqb_refl j, lost) refl
 
 new_lasts : (past : List Entry) (e : Entry) (r hold end until : ℕ) (owner : By) (key : List ℕ) → is_of r e ≡ true → e.kind ≡ Share hold end owner key → until ≤ end
     → lasts (holds (e ∷ past) r) hold until owner key ≡ true
-new_lasts past e r hold end until owner key is kind le = rw (is, kind, eqb_refl hold, same_owner_refl owner, bytes_refl key, le') refl
+new_lasts past e r hold end until owner key is kind le = rw (is, kind, eqb_refl hold, same_owner_refl owner, bytes_eq-refl key, le') refl
   where
     le' : nat_le until end ≡ true
     le' = grind (arith, nat_tests)
@@ -148,7 +150,7 @@ new_lasts past e r hold end until owner key is kind le = rw (is, kind, eqb_refl 
 lasting_kept : (repos : List RepoView) (past : List Entry) (e : Entry) → Facts repos past → Lawful repos past e
     → (r a j : ℕ) (v : Vouch) → Member v (vouches (e ∷ past) r a j) → Lasts repos (e ∷ past) r v ⊎ (done (e ∷ past) a j ≡ true)
 lasting_kept repos past e f law r a j (Look key) m = inl tt
-lasting_kept repos past e f law r a j (Lock hold since owner key) m = elim (Member-append v (vouch past e r a j) (vouches past r a j) m) [ inl k ↦ inl (fresh k) | inr k ↦ old k (f.lasting r a j v k) ]
+lasting_kept repos past e f law r a j (Lock hold since owner key) m = elim (Member-append_cases (vouch past e r a j) (vouches past r a j) v m) [ inl k ↦ inl (fresh k) | inr k ↦ old k (f.lasting r a j v k) ]
   where
     v : Vouch
     v = Lock hold since owner key
@@ -321,7 +323,7 @@ obeyed repos past e law key x t =
     let a : removal repos past key e ≡ Some (remote_removal repos past t.r t.a w.j w.need w.s) = order_is repos e past t.r t.a t.slot w.j w.deadline w.need key w.s t.repo_is t.kind_is w.sent_is w.from_a w.kind_is in
     let b : removal repos past key e ≡ Some (remote_removal repos past t.r t.a t.j t.need t.s) = order_is repos e past t.r t.a t.slot t.j t.deadline t.need key t.s t.repo_is t.kind_is t.sent_is t.from_a t.order_is in
     let c : Some (remote_removal repos past t.r t.a t.j t.need t.s) ≡ Some (remote_removal repos past t.r t.a w.j w.need w.s) = sym b ∙ a in
-    (w, t.is ∙ some_inj _ _ c)
+    (w, t.is ∙ same_Some _ _ c)
 
 removed_kept : (repos : List RepoView) (past : List Entry) (e : Entry) → Facts repos past → Lawful repos past e → (key : List ℕ) → Each (RemovalOk repos (e ∷ past) key) (removals repos (e ∷ past) key)
 removed_kept repos past e f law key = go (removal repos past key e) refl
@@ -342,7 +344,7 @@ removed_kept repos past e f law key = go (removal repos past key e) refl
 -- ---- all together
 
 bar_gone : (e : Entry) (past : List Entry) (r : ℕ) (by : By) (key : List ℕ) → is_of r e ≡ true → e.kind ≡ Gone by key → bar (e ∷ past) r key ≡ None
-bar_gone e past r by key is kind = rw (is, kind, bytes_refl key) refl
+bar_gone e past r by key is kind = rw (is, kind, bytes_eq-refl key) refl
 
 bar_gone_not : (past : List Entry) (e : Entry) (r j : ℕ) (key : List ℕ) → bar (e ∷ past) r key ≡ Some j → TakesAway e r key → ⊥
 bar_gone_not past e r j key h t = let k : bar (e ∷ past) r key ≡ None = bar_gone e past r t.by key t.repo_is t.kind_is in cc
@@ -363,7 +365,7 @@ bar_crashed e past r key t = rw (t.repo_is, t.kind_is) refl
 pub facts_kept : (repos : List RepoView) (past : List Entry) (e : Entry) → Facts repos past → Lawful repos past e → Facts repos (e ∷ past)
 facts_kept repos past e f law = record {
   clocks = λ r. set_by_now repos e past r (f.clocks r) law.time;
-  asked_by_now = λ r a j v m. elim (Member-append v (vouch past e r a j) (vouches past r a j) m) [
+  asked_by_now = λ r a j v m. elim (Member-append_cases (vouch past e r a j) (vouches past r a j) v m) [
     | inl k ↦ (law.copies r a j v k).1
     | inr k ↦ omega (arith, f.asked_by_now r a j v k, law.time)
   ];
@@ -371,9 +373,9 @@ facts_kept repos past e f law = record {
   bar_free = λ r j t key le h. elim (crash_or repos e past r) [
     | inl k ↦ absurd (let none : bar (e ∷ past) r key ≡ None = bar_crashed e past r key k in let both : Some j ≡ None = sym h ∙ none in cc)
     | inr k ↦ subst (λ (c : ClockSet). is_blocked (holds (e ∷ past) r) key (runs_on c t) ≡ false) (sym k.1)
-        (elim (true_or_false (is_blocked (holds (e ∷ past) r) key (clock repos past r t))) [ inl s ↦ absurd (free r j t key le h k.0 s) | inr s ↦ s ])
+        (elim (cases_Bool (is_blocked (holds (e ∷ past) r) key (clock repos past r t))) [ inl s ↦ absurd (free r j t key le h k.0 s) | inr s ↦ s ])
   ];
-  guarded = λ r a j hold since owner key m o lt. guarded r a j hold since owner key o lt (Member-append (Lock hold since owner key) (vouch past e r a j) (vouches past r a j) m);
+  guarded = λ r a j hold since owner key m o lt. guarded r a j hold since owner key o lt (Member-append_cases (vouch past e r a j) (vouches past r a j) (Lock hold since owner key) m);
   placed = λ a j d h. elim (decided_was e past a j d h) [ inl s ↦ omega (arith, f.placed a j d s) | inr t ↦ omega (arith, t.place_is) ];
   vouched = λ r a j v d m h. vouched_kept repos past e f law r a j v d m h;
   lasting = λ r a j v m. lasting_kept repos past e f law r a j v m;
@@ -403,7 +405,7 @@ facts_kept repos past e f law = record {
       | inr g ↦ absurd (vouched_no_gone r a j e.kind (Lock hold since owner key) (vouch_was past e r a j (Lock hold since owner key) k).1 g.by key g.kind_is)
     ]
     guarded r a j hold since owner key o lt (inr k) =
-        let open' : done past a j ≡ false = (or_false (is_of a e && done_kind j e.kind) (done past a j) o).1 in
+        let open' : done past a j ≡ false = (or_parts (is_of a e && done_kind j e.kind) (done past a j) o).1 in
         elim (present_stays e past r key (f.guarded r a j hold since owner key k open' (omega (arith, law.time)))) [
           | inl s ↦ s
           | inr g ↦ absurd (true≢false (sym (lock_blocks repos past e.time f law.time r a j hold since owner key k open' lt) ∙ unheld_gone repos past e f law r e.time g.by key (omega arith) g.repo_is g.kind_is))

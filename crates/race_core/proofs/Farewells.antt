@@ -1,7 +1,9 @@
 -- The end of a job closes its ends.
 use Rattle.std.proofs.Common.{◌≡◌, ℕ, Bool, true, false, List, [], ◌∷◌, ◌++◌, inl, inr, refl, sym, ap, ◌∙◌}
 use Rattle.std.specs.Prelude.{if◌then◌else◌, ◌&&◌, flat_map, not}
+use Rattle.std.proofs.lemmas.List.Elements.{filter-append}
 use Rattle.annex_base.specs.Lists.{Member}
+use Rattle.annex_base.proofs.Lists.{Each-filter}
 use Rattle.run_data.specs.declared.entry.FrameView.{FrameView}
 use Rattle.run_data.specs.declared.entry.FrameText.TheVariants.{Closing, Line}
 use Rattle.p2p_wire.specs.declared.message.Message.TheVariants.{UnlockContent}
@@ -9,8 +11,7 @@ use Rattle.p2p_wire.specs.Messages.{text_of}
 use Rattle.node_model.specs.Ends.{End, EndName, end_sends, frames, is_opening, sends_at, sent_at}
 use Rattle.node_model.specs.Jobs.{job_end}
 use Rattle.node_model.specs.JobStep.{Turn, end_with, farewell, farewells, has_lock, key_of, others_of}
-use Rattle.race_core.proofs.Plain.{each_filter}
-use Rattle.race_core.proofs.ServerEnds.{each_flat, filter_append, sent_same}
+use Rattle.race_core.proofs.ServerEnds.{each_flat, sent_same}
 use Rattle.race_core.proofs.EndMoves.{NoOpening, OpensNone, all_opened, frames_none, sends_all}
 
 pub fold_append : (c : End) (fs gs : List FrameView) → sends_all c (fs ++ gs) ≡ sends_all (sends_all c fs) gs
@@ -30,7 +31,7 @@ farewell_none t lost peer true = go (has_lock t peer && not lost)
     go false = (refl, tt)
 
 all_none : (t : Turn) (lost : Bool) (a : EndName) (xs : List ℕ) → OpensNone (sent_at a (flat_map (to_peer t lost) xs))
-all_none t lost a xs = each_filter (λ g. is_opening g.body ≡ false) (sends_at a) (flat_map (to_peer t lost) xs)
+all_none t lost a xs = Each-filter (λ g. is_opening g.body ≡ false) (sends_at a) (flat_map (to_peer t lost) xs)
     (each_flat (λ g. is_opening g.body ≡ false) (to_peer t lost) (λ peer. frames_none (job_end t.w peer) (end_with t peer) (farewell t lost peer (end_with t peer).opened) (farewell_none t lost peer (end_with t peer).opened)) xs)
 
 -- a closed end stays so
@@ -56,7 +57,7 @@ module _ (t : Turn) (lost : Bool) (peer : ℕ) (o : (end_with t peer).opened ≡
   a = job_end t.w peer
 
   split : (d : End) (x : ℕ) (xs : List ℕ) → sends_all d (sent_at a (flat_map (to_peer t lost) (x ∷ xs))) ≡ sends_all (sends_all d (sent_at a (to_peer t lost x))) (sent_at a (flat_map (to_peer t lost) xs))
-  split d x xs = ap (sends_all d) (filter_append (sends_at a) (to_peer t lost x) (flat_map (to_peer t lost) xs)) ∙ fold_append d (sent_at a (to_peer t lost x)) (sent_at a (flat_map (to_peer t lost) xs))
+  split d x xs = ap (sends_all d) (filter-append (sends_at a) (to_peer t lost x) (flat_map (to_peer t lost) xs)) ∙ fold_append d (sent_at a (to_peer t lost x)) (sent_at a (flat_map (to_peer t lost) xs))
 
   all_closed : (d : End) (xs : List ℕ) → Member peer xs → (sends_all d (sent_at a (flat_map (to_peer t lost) xs))).opened ≡ false
   all_closed d [] m = absurd m

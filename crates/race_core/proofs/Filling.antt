@@ -5,6 +5,7 @@ use Rattle.std.specs.Prelude.{if◌then◌else◌, ◌==◌, ◌&&◌, bytes_eq}
 use Rattle.std.specs.List.{list_any}
 use Rattle.std.proofs.lemmas.Bool.{true≢false}
 use Rattle.annex_base.specs.declared.kinds.Word.{Word}
+use Rattle.annex_base.proofs.Conditions.{bytes_eq_tells}
 use Rattle.run_data.specs.declared.entry.Entry.{Entry}
 use Rattle.run_data.specs.declared.entry.EntryKind.{EntryKind}
 use Rattle.run_data.specs.declared.entry.FrameView.{FrameView}
@@ -17,7 +18,6 @@ use Rattle.p2p_wire.specs.Messages.{message_of}
 use Rattle.run_model.specs.Causes.{is_put_from}
 use Rattle.run_model.specs.Said.{Says, is_request, message_in, said_line, wants_answer}
 use Rattle.run_model.specs.Frames.{says, taken_if}
-use Rattle.race_core.proofs.LogLemmas.{bytes_eq_tells}
 use Rattle.node_model.specs.SetUp.{SetUp}
 use Rattle.node_model.specs.Ends.{End, EndName, end_takes, frames, is_opening, sent_at, server_end, taken_at, takes_at}
 use Rattle.run_model.specs.States.{end_at, content, session, state_of}

@@ -2,14 +2,16 @@
 use Rattle.std.proofs.Common.{◌≡◌, ℕ, true, false, List, ◌∷◌, ◌⊎◌, inl, inr, refl, sym, ap, ◌∙◌, subst}
 use Rattle.std.specs.Prelude.{◌==◌, ◌&&◌, bytes_eq}
 use Rattle.std.specs.List.{list_any}
+use Rattle.std.proofs.lemmas.Bool.{and_parts, or_right}
 use Rattle.annex_base.specs.Lists.{Member}
+use Rattle.annex_base.proofs.Conditions.{bytes_eq_tells, eqb_refl}
+use Rattle.annex_base.proofs.Lists.{list_any_member}
 use Rattle.run_data.specs.declared.entry.Entry.{Entry}
 use Rattle.run_data.specs.declared.job.Job.{Job}
 use Rattle.node_model.specs.Slots.{Running}
 use Rattle.run_model.specs.Past.{is_of, jobs}
 use Rattle.run_model.specs.Logs.{has_stepped, is_step}
 use Rattle.run_model.specs.Causes.{FillsByGet, gets}
-use Rattle.race_core.proofs.LogLemmas.{bytes_eq_tells}
 use Rattle.node_model.specs.SetUp.{SetUp}
 use Rattle.node_model.specs.Jobs.{Fresh, Gets, Work, running}
 use Rattle.run_model.specs.States.{rows_at, works}
@@ -21,7 +23,6 @@ use Rattle.race_core.proofs.WorkFits.{step_number, step_runs}
 use Rattle.race_core.proofs.Decisions.{runs_begun}
 use Rattle.race_core.proofs.Carried.{kind_carries}
 use Rattle.race_core.proofs.FreshSteps.{of_kind}
-use Rattle.race_core.proofs.Plain.{and_true, eqb_refl, or_right, any_of}
 use Rattle.race_core.proofs.EpochJobs.{any_member}
 
 abbrev pub Filling : SetUp → List Entry → Work → Type 0
@@ -55,13 +56,13 @@ pub fills_by_get : (s : SetUp) (past : List Entry) → OwnPast s past → (key :
 fills_by_get s past h key any =
     let x = any_member (λ (w : Work). w.fills && bytes_eq w.what.key key) (works past s.number) any in
     let w = x.0 in
-    let two = and_true w.fills (bytes_eq w.what.key key) x.2 in
+    let two = and_parts w.fills (bytes_eq w.what.key key) x.2 in
     let z = fills_stepped s past h.run w x.1 two.0 in
     let among : Member (running w) (jobs past s.number) = subst (Member (running w)) (jobs_are past s.number) (running_member (works past s.number) w x.1) in
     record {
       other = w.number;
       d = record { what = w.what; begun = runs_begun s past h.run w x.1 };
-      runs_it = any_of (λ (j : Running). j.number == w.number) (jobs past s.number) (running w) among (eqb_refl w.number);
+      runs_it = list_any_member (λ (j : Running). j.number == w.number) (jobs past s.number) (running w) among (eqb_refl w.number);
       kind_is = z.0;
       key_is = elim (bytes_eq_tells w.what.key key) [ inl y ↦ y.1 | inr y ↦ absurd (let both : true ≡ false = sym two.1 ∙ y.0 in cc) ];
       begun = z.1;

@@ -2,6 +2,8 @@
 use Rattle.std.proofs.Common.{◌≡◌, ℕ, Bool, true, false, ◌&&◌, List, [], ◌∷◌, Option, Some, None, inl, inr, refl, sym, ap, ◌∙◌, subst}
 use Rattle.std.specs.Prelude.{if◌then◌else◌, slice_get}
 use Rattle.std.specs.Option.{unwrap_or}
+use Rattle.std.proofs.lemmas.Option.{same_Some}
+use Rattle.annex_base.proofs.Conditions.{eqb_refl}
 use Rattle.run_data.specs.declared.entry.Entry.{Entry}
 use Rattle.run_data.specs.declared.run.Run.{Run}
 use Rattle.run_model.specs.Past.{Occurs, is_of}
@@ -11,9 +13,7 @@ use Rattle.run_model.specs.Safety.{Removal, past_at}
 use Rattle.run_model.specs.Run.{IsRun}
 use Rattle.race_core.specs.Places.{removal_at}
 use Rattle.race_core.specs.Readings.{IsFirstStep, Judge, judge_at}
-use Rattle.race_core.proofs.Lists.{eqb_refl}
 use Rattle.race_core.proofs.Changes.{Obeys, Removes, removal_was, repo_of}
-use Rattle.race_core.proofs.Flights.{some_inj}
 use Rattle.race_core.proofs.ReadOnce.{step_made}
 use Rattle.race_core.proofs.Dropped.{meets_at, messages_at}
 use Rattle.race_core.proofs.EntryPlaces.{occurs_at}
@@ -34,7 +34,7 @@ stepped_first (e ∷ past) r j b h = go (λ k. stepped_first past r j b k) (befo
   where
     now' : before_step past r j ≡ None → (p q d : Bool) → is_of r e ≡ p → is_step j e.kind ≡ q → in_drop past r j ≡ d → (if p && (q && d) then Some past else None) ≡ Some b → Stepped (e ∷ past) r j b
     now' none true true true is step drops k =
-        let same : past ≡ b = some_inj past b k in
+        let same : past ≡ b = same_Some past b k in
         record {
           entry = e;
           occurs = inl (refl, sym same);
@@ -89,7 +89,7 @@ read_at_first run key place e x judge h at is judge_is = elim (removal_was run.r
     Reads y = (first : ℕ) × IsFirstStep run y.repo y.job first × (read_at y.past y.repo y.job ≡ past_at run first)
 
     reads : (y : Judge) → judge_at run place e ≡ Some y → Reads y → Reads judge
-    reads y y_is k = subst Reads (some_inj y judge (sym y_is ∙ judge_is)) k
+    reads y y_is k = subst Reads (same_Some y judge (sym y_is ∙ judge_is)) k
 
     by_own : Removes run.repos e (past_at run place) key x → Reads judge
     by_own t =
@@ -99,7 +99,7 @@ read_at_first run key place e x judge h at is judge_is = elim (removal_was run.r
     by_order : Obeys run.repos e (past_at run place) key x → Reads judge
     by_order t =
         let o = order_obeyed run place t.r t.a t.slot key h (record { entry = e; entry_is = at; repo_is = t.repo_is; kind_is = t.kind_is }) in
-        let same : o.taken.entry ≡ e = some_inj o.taken.entry e (sym o.taken.entry_is ∙ at) in
+        let same : o.taken.entry ≡ e = same_Some o.taken.entry e (sym o.taken.entry_is ∙ at) in
         let y = o.order in
         let found = ((meets_at run o.at y.entry h y.entry_is).own t.a y.repo_is).orders o.j t.r o.deadline o.need key y.kind_is in
         let step : is_step o.j y.entry.kind ≡ true = ap (is_step o.j) y.kind_is ∙ eqb_refl o.j in

@@ -1,16 +1,14 @@
 -- Frames on their way: who sent them.
 use Rattle.std.proofs.Common.{◌≡◌, ℕ, zero, suc, Bool, true, false, List, [], ◌∷◌, ◌++◌, Option, Some, None, ◌⊎◌, inl, inr, refl, sym, subst}
 use Rattle.std.specs.Prelude.{map, slice_get, option_map, if◌then◌else◌}
+use Rattle.std.proofs.lemmas.Option.{same_Some}
 use Rattle.annex_base.specs.Lists.{Member}
+use Rattle.annex_base.proofs.Lists.{Member-append_left, Member-append_right}
 use Rattle.run_data.specs.declared.entry.Entry.{Entry}
 use Rattle.run_data.specs.declared.entry.FrameView.{FrameView}
 use Rattle.run_model.specs.Past.{Always, Occurs, is_of}
 use Rattle.run_model.specs.Frames.{Way, Flying, Sent, flying, on_way, sender_of, sent, sent_of, taken, way_of, sender}
 use Rattle.run_model.specs.Drops.{Vouch, vouch, vouches}
-use Rattle.race_core.proofs.Lists.{Member-left, Member-right}
-
-pub some_inj : {X : Type 0} (x y : X) → Some x ≡ Some y → x ≡ y
-some_inj x y e = cc
 
 -- ---- entries that stand in a past
 
@@ -32,13 +30,13 @@ occurs_earlier (e ∷ past) x y before older (inr o) p = inr (occurs_earlier pas
 pub occurs_vouch : (past : List Entry) (x : Entry) (before : List Entry) (r a j : ℕ) (v : Vouch) → Occurs past x before → Member v (vouch before x r a j) → Member v (vouches past r a j)
 occurs_vouch [] x before r a j v o m = absurd o
 occurs_vouch (e ∷ past) x before r a j v (inl o) m =
-    Member-left v (vouch past e r a j) (vouches past r a j) (subst (λ (q : List Entry). Member v (vouch q e r a j)) o.1 (subst (λ (y : Entry). Member v (vouch before y r a j)) o.0 m))
-occurs_vouch (e ∷ past) x before r a j v (inr o) m = Member-right v (vouch past e r a j) (vouches past r a j) (occurs_vouch past x before r a j v o m)
+    Member-append_left (vouch past e r a j) (vouches past r a j) v (subst (λ (q : List Entry). Member v (vouch q e r a j)) o.1 (subst (λ (y : Entry). Member v (vouch before y r a j)) o.0 m))
+occurs_vouch (e ∷ past) x before r a j v (inr o) m = Member-append_right (vouch past e r a j) (vouches past r a j) v (occurs_vouch past x before r a j v o m)
 
 pub occurs_vouches : (past : List Entry) (x : Entry) (before : List Entry) (r a j : ℕ) (v : Vouch) → Occurs past x before → Member v (vouches before r a j) → Member v (vouches past r a j)
 occurs_vouches [] x before r a j v o m = absurd o
-occurs_vouches (e ∷ past) x before r a j v (inl o) m = Member-right v (vouch past e r a j) (vouches past r a j) (subst (λ (q : List Entry). Member v (vouches q r a j)) o.1 m)
-occurs_vouches (e ∷ past) x before r a j v (inr o) m = Member-right v (vouch past e r a j) (vouches past r a j) (occurs_vouches past x before r a j v o m)
+occurs_vouches (e ∷ past) x before r a j v (inl o) m = Member-append_right (vouch past e r a j) (vouches past r a j) v (subst (λ (q : List Entry). Member v (vouches q r a j)) o.1 m)
+occurs_vouches (e ∷ past) x before r a j v (inr o) m = Member-append_right (vouch past e r a j) (vouches past r a j) v (occurs_vouches past x before r a j v o m)
 
 -- ---- frames
 
@@ -48,7 +46,7 @@ get_none (suc k) x h = cc
 
 pub get_member : {X : Type 0} (xs : List X) (k : ℕ) (x : X) → slice_get xs k ≡ Some x → Member x xs
 get_member [] k x h = absurd (get_none k x h)
-get_member (y ∷ xs) zero x h = inl (sym (some_inj y x h))
+get_member (y ∷ xs) zero x h = inl (sym (same_Some y x h))
 get_member (y ∷ xs) (suc k) x h = inr (get_member xs k x h)
 
 pub get_append : {X : Type 0} (xs ys : List X) (k : ℕ) (x : X) → slice_get (xs ++ ys) k ≡ Some x → (slice_get xs k ≡ Some x) ⊎ Member x ys
@@ -98,7 +96,7 @@ sent_from past r (Some f) s h = go (slice_get (sent past (way_of r f)) (taken pa
   where
     go : (x : Option Flying) → slice_get (sent past (way_of r f)) (taken past (way_of r f)) ≡ x → option_map sent_of x ≡ Some s → SentFrom past r (Some f) s
     go None is k = cc
-    go (Some it) is k = record { f = f; takes_it = refl; it = it; next = is; s_is = sym (some_inj (sent_of it) s k); sending = sending past (way_of r f) (taken past (way_of r f)) it is }
+    go (Some it) is k = record { f = f; takes_it = refl; it = it; next = is; s_is = sym (same_Some (sent_of it) s k); sending = sending past (way_of r f) (taken past (way_of r f)) it is }
 
 pub sender_occurs : (past : List Entry) (r : ℕ) (o : Option FrameView) (s : Sent) → sender past r o ≡ Some s → Occurs past s.entry s.before
 sender_occurs past r o s h = let t = sent_from past r o s h in subst (λ (x : Sent). Occurs past x.entry x.before) (sym t.s_is) t.sending.occurs

@@ -5,6 +5,7 @@ use Rattle.std.specs.Prelude.{if◌then◌else◌, ◌&&◌, ◌||◌, not}
 use Rattle.std.specs.List.{list_all, list_any}
 use Rattle.annex_base.specs.Lists.{Member}
 use Rattle.annex_base.specs.declared.kinds.Call.{Call}
+use Rattle.annex_base.proofs.Conditions.{if_either}
 use Rattle.annex_base.specs.declared.kinds.Call.TheVariants as calls
 use Rattle.drop_proof.specs.declared.rule.Side.{Side}
 use Rattle.drop_proof.specs.declared.rule.Side.TheVariants.{Local, Remote}
@@ -26,7 +27,8 @@ use Rattle.run_model.specs.Past.{holds, is_of}
 use Rattle.node_model.specs.Rows.{is_lost_ordered}
 use Rattle.node_model.specs.Evidence.{Standing, Asked}
 use Rattle.run_model.specs.Logs.{before_step, has_stepped, in_drop, is_step}
-use Rattle.node_model.specs.Look.{first_of, Made, same_call}
+use Rattle.node_model.specs.Look.{first_of, Made}
+use Rattle.annex_base.specs.Calls.{same_call}
 use Rattle.p2p_wire.specs.declared.message.Message.TheVariants.{Put}
 use Rattle.p2p_wire.specs.Messages.{message_of, text_of}
 use Rattle.node_model.specs.SetUp.{SetUp}
@@ -39,7 +41,6 @@ use Rattle.node_model.specs.Requests.{asks, goes_to}
 use Rattle.node_model.specs.TransferStep.{first_put}
 use Rattle.node_model.specs.Turns.{by_partner, goes, goes_on, has_room, needs}
 use Rattle.run_model.specs.Run.{OwnPast, OwnRun}
-use Rattle.race_core.proofs.Cases.{if_found}
 use Rattle.race_core.proofs.Spoken.{put_read}
 use Rattle.race_core.proofs.JobSteps.{Origin, Steps, invariant, turn_at}
 use Rattle.race_core.proofs.JobKept.{kind_kept}
@@ -86,7 +87,7 @@ module _ (before : Turn) (none : owns_share before ≡ false) where
 
   module _ (read : message_of (text_of (Put [] (key_of p))) ≡ Some (Put [] (key_of p))) where
     put_goes : (peer : ℕ) → OffBy p (goes_to p peer)
-    put_goes peer = if_found (OffBy p) (end_with p peer).opened (asks p p.w.version None peer Puts) (sends_to p (talk p) None peer (Opening ∷ []))
+    put_goes peer = if_either (OffBy p) (end_with p peer).opened (asks p p.w.version None peer Puts) (sends_to p (talk p) None peer (Opening ∷ []))
         (λ e. ap (λ o. is_fresh (says_some p.w p.look.time peer None o).phase) read) (λ e. refl)
 
     put_first : (here : Bool) (peer : Option ℕ) → OffBy p (first_put p here peer)

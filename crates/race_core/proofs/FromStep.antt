@@ -4,6 +4,7 @@ use Rattle.std.proofs.Common.{◌≡◌, ℕ, ◌≤◌, true, List, [], ◌∷�
 use Rattle.std.specs.Prelude.{reverse}
 use Rattle.annex_base.specs.Lists.{Each}
 use Rattle.annex_base.specs.declared.kinds.Word.{Word}
+use Rattle.annex_base.proofs.Conditions.{eqb_refl}
 use Rattle.run_data.specs.declared.entry.By.{By}
 use Rattle.run_data.specs.declared.entry.Entry.{Entry}
 use Rattle.run_data.specs.declared.entry.EntryKind.{EntryKind}
@@ -18,7 +19,6 @@ use Rattle.race_core.proofs.BySteps.{ByStep}
 use Rattle.run_model.specs.Run.{FramesPart, IsBounded, IsRun, MayBe, Ordered, OwnPart, OwnPast, OwnRun, RunPast, RunStep, TimeIs, set_up}
 use Rattle.race_core.specs.Lawful.{IsLawful}
 use Rattle.race_core.proofs.Own.{IsMessageRun, Meets, MessagePast, Own}
-use Rattle.race_core.proofs.Lists.{eqb_refl}
 use Rattle.race_core.proofs.MessageRuns.{message_lawful, message_safe}
 use Rattle.race_core.proofs.FoundOwn.{known_step, look_step, no_script_step, obeys_step, share_step, shares_with_step}
 use Rattle.race_core.proofs.SessionOwn.{answered_step, release_step}

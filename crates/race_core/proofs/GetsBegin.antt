@@ -1,9 +1,12 @@
 -- A get that is to begin has made no step: its first step brings it to another phase, or to its drop.
 use Rattle.std.proofs.Common.{◌≡◌, ◌≢◌, ℕ, ◌<◌, Bool, true, false, List, [], ◌∷◌, Option, Some, None, inl, inr, refl, sym, ap, ◌∙◌, subst}
-use Rattle.std.specs.Prelude.{if◌then◌else◌, ◌&&◌, ◌||◌, filter, map, not}
+use Rattle.std.specs.Prelude.{nat_lt, if◌then◌else◌, ◌&&◌, ◌||◌, filter, map, not}
 use Rattle.std.specs.List.{list_all, list_any}
+use Rattle.std.proofs.lemmas.Bool.{or_parts}
 use Rattle.annex_base.specs.Lists.{Each, Member}
 use Rattle.annex_base.specs.declared.kinds.Call.{Call}
+use Rattle.annex_base.proofs.Lists.{Each-filter}
+use Rattle.annex_base.proofs.Conditions.{if_either}
 use Rattle.annex_base.specs.declared.kinds.Call.TheVariants as calls
 use Rattle.run_data.specs.declared.entry.By.{By}
 use Rattle.run_data.specs.declared.entry.By.TheVariants.{Script, Job as by_job, Peer}
@@ -26,15 +29,14 @@ use Rattle.p2p_wire.specs.Messages.{message_of, text_of}
 use Rattle.node_model.specs.SetUp.{SetUp}
 use Rattle.node_model.specs.Jobs.{Drops, Fresh, Gets, Part, Phase, Puts, Work, first_look, is_move, partner, says_some, work_kind}
 use Rattle.run_model.specs.States.{rows_at, works}
-use Rattle.node_model.specs.Calls.{to_release}
-use Rattle.node_model.specs.Look.{Made, same_call}
+use Rattle.node_model.specs.Calls.{to_release, to_read, to_resume}
+use Rattle.node_model.specs.Look.{Made}
+use Rattle.annex_base.specs.Calls.{same_call}
 use Rattle.node_model.specs.JobStep.{Turn, by_me, end_with, ends, farewells, is_there, key_of, me, owns_share, quietly, says_to, sends_to, talk}
 use Rattle.node_model.specs.Requests.{asks, goes_to}
 use Rattle.node_model.specs.TransferStep.{first_get, next_source}
 use Rattle.node_model.specs.Turns.{by_partner, goes, goes_on, has_room, needs}
 use Rattle.run_model.specs.Run.{OwnRun}
-use Rattle.race_core.proofs.Plain.{each_filter}
-use Rattle.race_core.proofs.Cases.{if_found}
 use Rattle.race_core.proofs.Spoken.{get_read}
 use Rattle.race_core.proofs.JobSteps.{Origin, Stepped, Steps, invariant, turn_at}
 use Rattle.race_core.proofs.PhaseFacts.{GoodTo, is_fresh}
@@ -63,7 +65,7 @@ unheld_map j f [] same a = tt
 unheld_map j f (h ∷ hs) same a = (ap (λ (b : By). same_owner b (by_job j)) (same h) ∙ a.0, unheld_map j f hs same a.1)
 
 keep_owner : (owner : By) (h : Hold) → (keep_of owner h).owner ≡ h.owner
-keep_owner owner h = if_found (λ (x : Hold). x.owner ≡ h.owner) (same_owner h.owner owner) (record h { kept = true }) h (λ e. refl) (λ e. refl)
+keep_owner owner h = if_either (λ (x : Hold). x.owner ≡ h.owner) (same_owner h.owner owner) (record h { kept = true }) h (λ e. refl) (λ e. refl)
 
 unheld_after : (j : ℕ) (was : List Hold) (kind : EntryKind) → (is_share kind ≡ true → option_is (job_of kind) j ≡ false) → Unheld j was → Unheld j (holds_after was kind)
 unheld_after j was (Share number end owner k) still a = (other owner (still refl), a)
@@ -72,24 +74,20 @@ unheld_after j was (Share number end owner k) still a = (other owner (still refl
     other Script e = refl
     other (by_job i) e = e
     other (Peer p q) e = refl
-unheld_after j was (Release number k) still a = each_filter (λ (h : Hold). same_owner h.owner (by_job j) ≡ false) _ was a
+unheld_after j was (Release number k) still a = Each-filter (λ (h : Hold). same_owner h.owner (by_job j) ≡ false) _ was a
 unheld_after j was (Close peer slot client) still a =
-    if_found (Unheld j) client was (map (keep_of (Peer peer slot)) was) (λ e. a) (λ e. unheld_map j (keep_of (Peer peer slot)) was (keep_owner (Peer peer slot)) a)
+    if_either (Unheld j) client was (map (keep_of (Peer peer slot)) was) (λ e. a) (λ e. unheld_map j (keep_of (Peer peer slot)) was (keep_owner (Peer peer slot)) a)
 unheld_after j was (Fault calls.Unhold owner) still a = unheld_map j (keep_of owner) was (keep_owner owner) a
 unheld_after j was (ends_job job outcome) still a =
-    if_found (Unheld j) (is_lost_ordered outcome) (map (keep_of (by_job job)) was) (filter (λ h. h.kept || not (same_owner h.owner (by_job job))) was)
-    (λ e. unheld_map j (keep_of (by_job job)) was (keep_owner (by_job job)) a) (λ e. each_filter (λ (h : Hold). same_owner h.owner (by_job j) ≡ false) _ was a)
+    if_either (Unheld j) (is_lost_ordered outcome) (map (keep_of (by_job job)) was) (filter (λ h. h.kept || not (same_owner h.owner (by_job job))) was)
+    (λ e. unheld_map j (keep_of (by_job job)) was (keep_owner (by_job job)) a) (λ e. Each-filter (λ (h : Hold). same_owner h.owner (by_job j) ≡ false) _ was a)
 unheld_after j was (Crash clock) still a = unheld_map j (restart clock) was (λ h. refl) a
 unheld_after j was kind still a = a
-
-or_false : (a b : Bool) → (a || b) ≡ false → (a ≡ false) × (b ≡ false)
-or_false true b e = absurd (cc)
-or_false false b e = (refl, e)
 
 pub unheld : (past : List Entry) (r j : ℕ) → has_stepped past r j ≡ false → Unheld j (holds past r)
 unheld [] r j none = tt
 unheld (e ∷ past) r j none =
-    let both = or_false (is_of r e && is_step j e.kind) (has_stepped past r j) none in
+    let both = or_parts (is_of r e && is_step j e.kind) (has_stepped past r j) none in
     go (unheld past r j both.1) both.0 (is_of r e) refl
   where
     step_free : (kind : EntryKind) → is_step j kind ≡ false → is_share kind ≡ true → option_is (job_of kind) j ≡ false
@@ -105,7 +103,7 @@ unasked_unheld [] r j none = tt
 unasked_unheld (e ∷ past) r j none = go (unasked_unheld past r j two.1) (is_of r e) refl
   where
     two : ((is_job r j e && asks_by e.kind e.sent) ≡ false) × (has_asked past r j ≡ false)
-    two = or_false (is_job r j e && asks_by e.kind e.sent) (has_asked past r j) none
+    two = or_parts (is_job r j e && asks_by e.kind e.sent) (has_asked past r j) none
 
     off : (a b c d : Bool) → a ≡ true → (a && b && (c || d)) ≡ false → c ≡ true → b ≡ false
     off true false c d i n s = refl
@@ -147,7 +145,7 @@ module _ (before : Turn) where
   fault_leaves cs a b call e = λ p. refl
 
   look_leaves : (r : ℕ) (w : Work) (here : Bool) (bar : Option ℕ) → w.part ≡ Gets → (first_look r w Gets here bar).part ≡ Gets → is_fresh (first_look r w Gets here bar).phase ≡ false
-  look_leaves r w true bar gets = if_found (λ (x : Work). x.part ≡ Gets → is_fresh x.phase ≡ false) (is_move w.what.kind) (record w { part = Drops; phase = Fresh; fills = false })
+  look_leaves r w true bar gets = if_either (λ (x : Work). x.part ≡ Gets → is_fresh x.phase ≡ false) (is_move w.what.kind) (record w { part = Drops; phase = Fresh; fills = false })
       (record w { phase = Rattle.node_model.specs.Jobs.Ends (outcomes.Got None None); fills = false }) (λ e p. absurd (let no_part : Drops ≡ Gets = p in cc)) (λ e p. refl)
   look_leaves r w false bar gets = λ p. refl
 
@@ -160,14 +158,20 @@ module _ (before : Turn) where
         (record { kind = ends_job t.w.number outcome; taken = None; sent = farewells t (is_lost_ordered outcome); lines = [] })
         (λ call e. absurd (no_release (owns_share t) (not (is_lost_ordered outcome)) none call e)) tt
 
+    -- neither of the calls is this one
+    resumes_without : (call : Call) → same_call call calls.PartSize ≡ false → same_call call calls.ReadPart ≡ false → (reads : Bool)
+        → list_any (same_call call) (calls.PartSize ∷ to_read reads) ≡ false
+    resumes_without call a b true = rw a (rw b refl)
+    resumes_without call a b false = rw a refl
+
     goes_leaves : (peer : ℕ) → LeavesBy (goes_to t peer)
-    goes_leaves peer = if_found LeavesBy (end_with t peer).opened (asks t t.w.version None peer Gets) (sends_to t (talk t) None peer (Opening ∷ []))
-        (λ e. attempts_even LeavesBy t (calls.PartSize ∷ []) None (says_to t (talk t) None peer (Get t.look.part [] (key_of t))) (fault_leaves (calls.PartSize ∷ []) refl refl)
+    goes_leaves peer = if_either LeavesBy (end_with t peer).opened (asks t t.w.version None peer Gets) (sends_to t (talk t) None peer (Opening ∷ []))
+        (λ e. attempts_even LeavesBy t (to_resume t.look.part) None (says_to t (talk t) None peer (Get t.look.part [] (key_of t))) (fault_leaves (to_resume t.look.part) (resumes_without calls.PutFile refl refl (nat_lt 0 t.look.part)) (resumes_without calls.Unhold refl refl (nat_lt 0 t.look.part)))
         (λ p. ap (λ o. is_fresh (says_some (record t.w { fills = true }) t.look.time peer None o).phase) read))
         (λ e p. refl)
 
     get_leaves : (here filled : Bool) (source : Option ℕ) → LeavesBy (first_get t here filled source)
-    get_leaves true filled source = if_found LeavesBy (is_move t.w.what.kind) (quietly (talk t) None) (ends t None (outcomes.Got None None)) (λ e. quiet_leaves) (λ e. ends_leaves (outcomes.Got None None))
+    get_leaves true filled source = if_either LeavesBy (is_move t.w.what.kind) (quietly (talk t) None) (ends t None (outcomes.Got None None)) (λ e. quiet_leaves) (λ e. ends_leaves (outcomes.Got None None))
     get_leaves false true source = ends_leaves (outcomes.TransferRefused failures.Busy)
     get_leaves false false None = quiet_leaves
     get_leaves false false (Some peer) = goes_leaves peer

@@ -1,8 +1,9 @@
 -- A job that knows the version of its peer has it from the answer to VERSION on the connection that is open.
 use Rattle.std.proofs.Common.{◌≡◌, ◌≢◌, ℕ, Bool, true, false, Option, Some, None, refl, sym, ap, ◌∙◌, subst}
 use Rattle.std.specs.Prelude.{if◌then◌else◌, ◌&&◌}
-use Rattle.std.proofs.lemmas.Bool.{true≢false}
+use Rattle.std.proofs.lemmas.Bool.{true≢false, and_parts}
 use Rattle.annex_base.specs.declared.kinds.Call.{Call}
+use Rattle.annex_base.proofs.Lists.{find_member}
 use Rattle.annex_base.specs.declared.kinds.Call.TheVariants as calls
 use Rattle.run_data.specs.declared.entry.Entry.{Entry}
 use Rattle.run_data.specs.declared.entry.EntryKind.{EntryKind}
@@ -24,8 +25,6 @@ use Rattle.node_model.specs.Look.{Made, waiting}
 use Rattle.node_model.specs.JobStep.{Turn, end_with, me, says_to, talk}
 use Rattle.node_model.specs.Found.{JobKind}
 use Rattle.node_model.specs.Turns.{awaits, by_partner, goes_on, has_room, is_awaiting, takes, takes_frame, with_partner, takes_text}
-use Rattle.race_core.proofs.Plain.{and_true}
-use Rattle.race_core.proofs.Cases.{find_was}
 use Rattle.race_core.proofs.JobFacts.{frame_found}
 use Rattle.race_core.proofs.JobKept.{claims_kept}
 use Rattle.race_core.proofs.Carried.{on_keeps}
@@ -124,8 +123,8 @@ partner_takes t m p on awaiting opened does = go (waiting (end_with t p) t.look 
         room false g = absurd (cc)
         room true g =
             let same : takes_frame t p f f.body ≡ m = cc in
-            let was = find_was (λ g. takes_at (job_end t.w p) g && may_take (end_with t p) g) t.look.at_hand f is in
-            let both = and_true (takes_at (job_end t.w p) f) (may_take (end_with t p) f) was.1 in
+            let was = find_member (λ g. takes_at (job_end t.w p) g && may_take (end_with t p) g) t.look.at_hand f is in
+            let both = and_parts (takes_at (job_end t.w p) f) (may_take (end_with t p) f) was.1 in
             record { f = f; taken_is = subst (λ (x : Made). x.taken ≡ Some f) same (frame_found t p f on f.body refl).0; of_end = both.0; may = both.1; waits = is; made_is = sym same }
 
 -- ---- as the connection is opened, the version is asked

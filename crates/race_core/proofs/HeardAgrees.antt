@@ -2,6 +2,7 @@
 use Rattle.std.proofs.Common.{◌≡◌, ℕ, Bool, true, false, List, [], ◌∷◌, Option, Some, None, refl, ap, ◌∙◌}
 use Rattle.std.specs.Prelude.{option_map}
 use Rattle.std.proofs.lemmas.Bool.{true≢false}
+use Rattle.std.proofs.lemmas.Option.{same_Some}
 use Rattle.run_data.specs.declared.entry.Entry.{Entry}
 use Rattle.run_data.specs.declared.entry.FrameView.{FrameView}
 use Rattle.run_data.specs.declared.entry.FrameText.{FrameText}
@@ -64,9 +65,6 @@ abbrev pub refuses_look : Phase → Bool
 refuses_look (AsksLook peer) = true
 refuses_look phase = false
 
-some_inj : (x y : ℕ) → Some x ≡ Some y → x ≡ y
-some_inj x y e = cc
-
 no_copy : (last : Option Request) → last_for_copy last ≡ false → by_request last ≡ []
 no_copy None e = refl
 no_copy (Some x) e = go x.what e
@@ -82,15 +80,15 @@ order_hears time (Some n) key = refl
 
 pub last_hears : (key : List ℕ) (target : Option ℕ) (phase : Phase) (peer : ℕ) (last : Option Request) → partner target phase ≡ Some peer → awaits_of target phase peer ≡ true
     → LastIs key target phase peer last → by_request last ≡ by_phase key phase
-last_hears key target (AsksLock p since) peer last on waits is = ap by_request (is (some_inj p peer on))
-last_hears key target (AsksLook p) peer last on waits is = let x = is (some_inj p peer on) in ap by_request x.1
+last_hears key target (AsksLock p since) peer last on waits is = ap by_request (is (same_Some p peer on))
+last_hears key target (AsksLook p) peer last on waits is = let x = is (same_Some p peer on) in ap by_request x.1
 last_hears key target AsksTime peer last on waits is = let x = is on in ap by_request x.1
 last_hears key target Orders peer last on waits is = let x = is on in ap by_request x.2 ∙ order_hears x.0 x.1 key
-last_hears key target (PutsAnswer p start) peer last on waits is = let x = is (some_inj p peer on) in ap by_request x.1
-last_hears key target (PutsOffer p) peer last on waits is = let x = is (some_inj p peer on) in ap by_request x.1
-last_hears key target (GetsData p start) peer last on waits is = let x = is (some_inj p peer on) in ap by_request x.1
-last_hears key target (GetsBytes p start size left) peer last on waits is = let x = is (some_inj p peer on) in ap by_request x.1
-last_hears key target (GetsWord p start size) peer last on waits is = let x = is (some_inj p peer on) in ap by_request x.1
+last_hears key target (PutsAnswer p start) peer last on waits is = let x = is (same_Some p peer on) in ap by_request x.1
+last_hears key target (PutsOffer p) peer last on waits is = let x = is (same_Some p peer on) in ap by_request x.1
+last_hears key target (GetsData p start) peer last on waits is = let x = is (same_Some p peer on) in ap by_request x.1
+last_hears key target (GetsBytes p start size left) peer last on waits is = let x = is (same_Some p peer on) in ap by_request x.1
+last_hears key target (GetsWord p start size) peer last on waits is = let x = is (same_Some p peer on) in ap by_request x.1
 last_hears key target phase peer last on waits is = no_copy last (is waits)
 
 -- **heard, by the phase**: SUCCESS that a job takes tells it what its phase asks for
@@ -152,15 +150,15 @@ order_look (Some n) key = refl
 
 last_looks : (key : List ℕ) (target : Option ℕ) (phase : Phase) (peer : ℕ) (last : Option Request) → partner target phase ≡ Some peer → awaits_of target phase peer ≡ true
     → LastIs key target phase peer last → last_is_look last ≡ refuses_look phase
-last_looks key target (AsksLock p since) peer last on waits is = ap last_is_look (is (some_inj p peer on))
-last_looks key target (AsksLook p) peer last on waits is = let x = is (some_inj p peer on) in ap last_is_look x.1
+last_looks key target (AsksLock p since) peer last on waits is = ap last_is_look (is (same_Some p peer on))
+last_looks key target (AsksLook p) peer last on waits is = let x = is (same_Some p peer on) in ap last_is_look x.1
 last_looks key target AsksTime peer last on waits is = let x = is on in ap last_is_look x.1
 last_looks key target Orders peer last on waits is = let x = is on in ap last_is_look x.2 ∙ order_look x.1 key
-last_looks key target (PutsAnswer p start) peer last on waits is = let x = is (some_inj p peer on) in ap last_is_look x.1
-last_looks key target (PutsOffer p) peer last on waits is = let x = is (some_inj p peer on) in ap last_is_look x.1
-last_looks key target (GetsData p start) peer last on waits is = let x = is (some_inj p peer on) in ap last_is_look x.1
-last_looks key target (GetsBytes p start size left) peer last on waits is = let x = is (some_inj p peer on) in ap last_is_look x.1
-last_looks key target (GetsWord p start size) peer last on waits is = let x = is (some_inj p peer on) in ap last_is_look x.1
+last_looks key target (PutsAnswer p start) peer last on waits is = let x = is (same_Some p peer on) in ap last_is_look x.1
+last_looks key target (PutsOffer p) peer last on waits is = let x = is (same_Some p peer on) in ap last_is_look x.1
+last_looks key target (GetsData p start) peer last on waits is = let x = is (same_Some p peer on) in ap last_is_look x.1
+last_looks key target (GetsBytes p start size left) peer last on waits is = let x = is (same_Some p peer on) in ap last_is_look x.1
+last_looks key target (GetsWord p start size) peer last on waits is = let x = is (same_Some p peer on) in ap last_is_look x.1
 last_looks key target phase peer last on waits is = look_copy last (is waits)
 
 -- **a cause, by the phase**: FAILURE that a job takes is a cause where its phase asks for a look

@@ -4,9 +4,11 @@ use Rattle.run_model.specs.States.{state_of, end_at, works}
 use Rattle.std.proofs.Common.{◌≡◌, ◌≢◌, ℕ, Bool, true, false, List, [], ◌∷◌, Option, Some, None, ◌⊎◌, inl, inr, refl, sym, ap, ◌∙◌, subst}
 use Rattle.std.specs.Prelude.{if◌then◌else◌, ◌==◌, ◌&&◌, ◌||◌, fold, map, not, option_map}
 use Rattle.std.specs.List.{list_any}
-use Rattle.std.proofs.lemmas.Bool.{true≢false}
+use Rattle.std.proofs.lemmas.Bool.{true≢false, and_parts, eqb-true}
 use Rattle.annex_base.specs.Lists.{Member}
 use Rattle.annex_base.specs.declared.kinds.Word.{Word}
+use Rattle.annex_base.proofs.Conditions.{eqb_refl}
+use Rattle.annex_base.proofs.Lists.{Member-filter_parts, list_any_member}
 use Rattle.run_data.specs.declared.entry.By.TheVariants.{Script}
 use Rattle.run_data.specs.declared.entry.Entry.{Entry}
 use Rattle.run_data.specs.declared.entry.EntryKind.{EntryKind}
@@ -24,7 +26,6 @@ use Rattle.node_model.specs.Ends.{same_bool, EndName, End, end_after, end_sends,
 use Rattle.node_model.specs.Look.{first_of}
 use Rattle.run_model.specs.Drops.{cause_closed, cause_said, cause_taken, cause_with, in_slot, newer_cause, option_is_none, or_closed, shuts}
 use Rattle.race_core.proofs.Heard.{heard_cause}
-use Rattle.race_core.proofs.Plain.{and_true, eqb_refl, eqb_true, member_filter, any_of}
 use Rattle.race_core.proofs.SaidDown.{said_is, said_closing}
 use Rattle.race_core.proofs.HeardAgrees.{cause_if, refuses_look, takes_failure}
 use Rattle.race_core.proofs.HeardTells.{stepped_own}
@@ -148,7 +149,7 @@ shut_by a c e o shut = by_taken e.taken refl
     sent : (k : Option FrameView) → taken_at a e.taken ≡ k → (end_took c k).opened ≡ true → TookClose a e ⊎ SentClose a e
     sent k is still =
         let z = fold_shut (end_took c k) (sent_at a e.sent) still (subst (λ (q : Option FrameView). (fold (λ c f. end_sends c f.body) (end_took c q) (sent_at a e.sent)).opened ≡ false) is shut) in
-        let y = member_filter (sends_at a) e.sent z.0 z.1 in
+        let y = Member-filter_parts (sends_at a) e.sent z.0 z.1 in
         inr (record { g = z.0; sent = y.0; of_end = y.1; body_is = z.2 })
 
     by_taken : (k : Option FrameView) → e.taken ≡ k → TookClose a e ⊎ SentClose a e
@@ -166,9 +167,9 @@ shut_by a c e o shut = by_taken e.taken refl
 -- a frame of a client's end
 pub client_taken : (peer slot : ℕ) (f : FrameView) → takes_at (client_end peer slot) f ≡ true → (f.peer ≡ peer) × (f.slot ≡ slot) × (f.up ≡ false)
 client_taken peer slot f e =
-    let two = and_true ((f.peer == peer) && (f.slot == slot)) (same_bool true (if f.up then false else true)) e in
-    let one = and_true (f.peer == peer) (f.slot == slot) two.0 in
-    (eqb_true f.peer peer one.0, eqb_true f.slot slot one.1, down f.up two.1)
+    let two = and_parts ((f.peer == peer) && (f.slot == slot)) (same_bool true (if f.up then false else true)) e in
+    let one = and_parts (f.peer == peer) (f.slot == slot) two.0 in
+    (eqb-true f.peer peer one.0, eqb-true f.slot slot one.1, down f.up two.1)
   where
     down : (b : Bool) → same_bool true (if b then false else true) ≡ true → b ≡ false
     down true h = absurd (cc)
@@ -176,9 +177,9 @@ client_taken peer slot f e =
 
 pub client_sent : (peer slot : ℕ) (g : FrameView) → sends_at (client_end peer slot) g ≡ true → (g.peer ≡ peer) × (g.slot ≡ slot) × (g.up ≡ true)
 client_sent peer slot g e =
-    let two = and_true ((g.peer == peer) && (g.slot == slot)) (same_bool g.up true) e in
-    let one = and_true (g.peer == peer) (g.slot == slot) two.0 in
-    (eqb_true g.peer peer one.0, eqb_true g.slot slot one.1, up g.up two.1)
+    let two = and_parts ((g.peer == peer) && (g.slot == slot)) (same_bool g.up true) e in
+    let one = and_parts (g.peer == peer) (g.slot == slot) two.0 in
+    (eqb-true g.peer peer one.0, eqb-true g.slot slot one.1, up g.up two.1)
   where
     up : (b : Bool) → same_bool b true ≡ true → b ≡ true
     up true h = refl
@@ -195,7 +196,7 @@ shut_told past e r j peer slot c its other o shut = told_now past e r j peer (sh
       (let at = client_taken peer slot t.f t.of_end in
       taken_cause past r peer t.f at.0 at.2 Closed (ap (λ (m : Said). cause_said m (option_map said_of (last_request past (up_of (way_of r t.f)))) None) (ap message_in t.body_is ∙ said_closing))))
   | inr t ↦ inl (let at = client_sent peer slot t.g t.of_end in
-      any_of (shuts peer) e.sent t.g t.sent (let q : (t.g.peer == peer) ≡ true = ap (λ n. n == peer) at.0 ∙ eqb_refl peer in rw (q, at.2, closing_closes t.g.body t.body_is) refl))
+      list_any_member (shuts peer) e.sent t.g t.sent (let q : (t.g.peer == peer) ≡ true = ap (λ n. n == peer) at.0 ∙ eqb_refl peer in rw (q, at.2, closing_closes t.g.body t.body_is) refl))
 ]))
 
 -- ---- an entry that is no step of the job

@@ -1,7 +1,9 @@
 -- What holds of a running job's list of what it heard, by its entries; what keeps it, and what a new word at its head does.
 use Rattle.std.proofs.Common.{◌≡◌, ℕ, Bool, true, false, List, [], ◌∷◌, Option, Some, None, ◌⊎◌, inl, inr, refl, sym, ap, ◌∙◌, subst}
 use Rattle.std.specs.Prelude.{◌==◌}
-use Rattle.std.proofs.lemmas.Bool.{true≢false}
+use Rattle.std.proofs.lemmas.Bool.{true≢false, eqb-true}
+use Rattle.std.proofs.lemmas.Option.{same_Some}
+use Rattle.annex_base.proofs.Conditions.{eqb_refl}
 use Rattle.drop_proof.specs.declared.rule.Side.{Side}
 use Rattle.drop_proof.specs.declared.rule.Side.TheVariants.{Remote}
 use Rattle.run_data.specs.declared.entry.Entry.{Entry}
@@ -13,7 +15,6 @@ use Rattle.node_model.specs.SetUp.{SetUp}
 use Rattle.run_model.specs.States.{end_at}
 use Rattle.node_model.specs.Jobs
 use Rattle.node_model.specs.Jobs.{AsksLock, AsksLook, AsksTime, Drops, Greets, Lacks, Opens, Orders, Part, Phase, Unseen, Work, partner, running}
-use Rattle.race_core.proofs.Plain.{eqb_refl, eqb_true}
 use Rattle.race_core.proofs.ClientRuns.{client_end}
 use Rattle.race_core.proofs.DropReads.{told_of}
 use Rattle.race_core.proofs.TalkFacts.{Fits}
@@ -114,13 +115,13 @@ module _ (s : SetUp) (past : List Entry) (e : Entry) (j : Running) where
     where
       is : (c : ℕ) (b : Bool) → (q == c) ≡ b → heard (e ∷ past) s.number j.number c ≡ heard_as j.what.key (told_of ((q, h) ∷ list) c)
       is c true same =
-          let at : q ≡ c = eqb_true q c same in
+          let at : q ≡ c = eqb-true q c same in
           subst (λ n. heard (e ∷ past) s.number j.number n ≡ heard_as j.what.key (told_of ((q, h) ∷ list) n)) at (says ∙ ap (heard_as j.what.key) (sym (told_head q h list)))
       is c false apart = still_heard c (tells c apart) ∙ (x.heard_is c ∙ ap (heard_as j.what.key) (sym (told_tail q c h list apart)))
 
       tells_why : (c : ℕ) → (c == s.number) ≡ false → gave_none (told_of ((q, h) ∷ list) c) ≡ true → (b : Bool) → (q == c) ≡ b → Told (e ∷ past) s.number j.number c
       tells_why c other none true same =
-          let at : q ≡ c = eqb_true q c same in
+          let at : q ≡ c = eqb-true q c same in
           subst (λ n. Told (e ∷ past) s.number j.number n) at
           (told (subst (λ o. gave_none o ≡ true) (told_head q h list) (subst (λ n. gave_none (told_of ((q, h) ∷ list) n) ≡ true) (sym at) none)) (subst (λ n. (n == s.number) ≡ false) (sym at) other))
       tells_why c other none false apart = told_stays past e s.number j.number c (x.told c other (subst (λ o. gave_none o ≡ true) (told_tail q c h list apart) none))
@@ -132,9 +133,6 @@ module _ (s : SetUp) (past : List Entry) (e : Entry) (j : Running) where
       lists_new q h list (λ c apart. tells c) (still_heard q (tells q) ∙ (x.heard_is q ∙ (ap (heard_as j.what.key) before ∙ sym none))) (λ gave other. told other) x
 
 -- ---- where it stands
-
-on_is : (p peer : ℕ) → Some p ≡ Some peer → p ≡ peer
-on_is p peer e = cc
 
 not_at_target : (s : SetUp) (past : List Entry) (j : Running) (list : List (ℕ × Jobs.Heard)) (p peer : ℕ) → p ≡ peer → (target_in s.number j == peer) ≡ false → AtTarget s j p ⊎ Candidate s past j list p → Candidate s past j list peer
 not_at_target s past j list p peer same apart (inr x) = subst (Candidate s past j list) same x
@@ -149,10 +147,10 @@ target_peer s past j list peer on apart side =
 -- on a connection, not its target's, it stands with a candidate
 pub on_candidate : (s : SetUp) (past : List Entry) (j : Running) (list : List (ℕ × Jobs.Heard)) (phase : Phase) (peer : ℕ) → Fits Drops phase → partner j.what.peer phase ≡ Some peer → (target_in s.number j == peer) ≡ false
     → Asking s past j list phase → Candidate s past j list peer
-on_candidate s past j list (Opens p) peer fits on apart x = not_at_target s past j list p peer (on_is p peer on) apart x
-on_candidate s past j list (Greets p) peer fits on apart x = not_at_target s past j list p peer (on_is p peer on) apart x
-on_candidate s past j list (AsksLock p since) peer fits on apart x = subst (Candidate s past j list) (on_is p peer on) x
-on_candidate s past j list (AsksLook p) peer fits on apart x = subst (Candidate s past j list) (on_is p peer on) x
+on_candidate s past j list (Opens p) peer fits on apart x = not_at_target s past j list p peer (same_Some p peer on) apart x
+on_candidate s past j list (Greets p) peer fits on apart x = not_at_target s past j list p peer (same_Some p peer on) apart x
+on_candidate s past j list (AsksLock p since) peer fits on apart x = subst (Candidate s past j list) (same_Some p peer on) x
+on_candidate s past j list (AsksLook p) peer fits on apart x = subst (Candidate s past j list) (same_Some p peer on) x
 on_candidate s past j list AsksTime peer fits on apart x = target_peer s past j list peer on apart x
 on_candidate s past j list Orders peer fits on apart x = target_peer s past j list peer on apart x
 on_candidate s past j list (Jobs.GetsData p start) peer fits on apart x = absurd fits

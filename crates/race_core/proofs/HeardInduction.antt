@@ -1,9 +1,11 @@
 -- **H**: the list of each running job agrees with what it heard by its repository's entries.
-use Rattle.std.proofs.Common.{◌≡◌, ◌≢◌, ℕ, ◌<◌, Bool, true, false, List, [], ◌∷◌, Option, Some, None, ◌⊎◌, inl, inr, refl, sym, ap, ◌∙◌, subst, arith}
+use Rattle.std.proofs.Common.{◌≡◌, ◌≢◌, ℕ, ◌<◌, Bool, true, false, List, [], ◌∷◌, Option, Some, None, ◌⊎◌, inl, inr, refl, sym, ap, ◌∙◌, subst}
 use Rattle.std.specs.Prelude.{if◌then◌else◌, ◌==◌, fold}
-use Rattle.std.proofs.lemmas.Bool.{true≢false}
-use Rattle.std.proofs.lemmas.Bool.Decides.{nat_tests}
+use Rattle.std.proofs.lemmas.Bool.{true≢false, eqb-true, ne_eqb}
+use Rattle.std.proofs.lemmas.Option.{same_Some}
 use Rattle.annex_base.specs.Lists.{Member}
+use Rattle.annex_base.proofs.Conditions.{eqb_refl, eqb_sym}
+use Rattle.annex_base.proofs.Lists.{find_member}
 use Rattle.run_data.specs.declared.entry.By.{By}
 use Rattle.run_data.specs.declared.entry.By.TheVariants.{Job as by_job}
 use Rattle.run_data.specs.declared.entry.Entry.{Entry}
@@ -22,7 +24,6 @@ use Rattle.race_core.proofs.Heard.{Heard, Locked_at, Seen_there, heard, heard_ki
 use Rattle.race_core.proofs.KnownAgrees.{heard_as}
 use Rattle.race_core.proofs.HeardAgrees.{by_phase}
 use Rattle.race_core.proofs.HeardTells.{Listens, NoCopy, lock_listens, look_listens, stepped_own, stepped_silent, stepped_tells, still_tells, told_or, taken_peer, tells_else}
-use Rattle.race_core.proofs.Plain.{eqb_refl, eqb_sym, eqb_true, some_inj}
 use Rattle.race_core.proofs.Makers.{taken_of}
 use Rattle.race_core.proofs.HeardCauses.{Told, look_told, shut_told, still_told}
 use Rattle.race_core.proofs.HeardHolds.{Asking, AtTarget, Candidate, Holds, HoldsOf, Lists, ShutTold, asking_kept, candidate_kept, gave_none, holds_kept, lists_kept, lists_new, none_new, on_candidate}
@@ -37,7 +38,6 @@ use Rattle.node_model.specs.Knows.{is_unasked, standing_of}
 use Rattle.node_model.specs.JobStep.{Turn, end_with}
 use Rattle.run_model.specs.Run.{OwnPast, OwnRun}
 use Rattle.node_model.specs.Found.{JobKind}
-use Rattle.race_core.proofs.Cases.{find_was}
 use Rattle.race_core.proofs.JobKept.{kind_kept}
 use Rattle.race_core.proofs.TalkFacts.{Apart, Chosen, Fits}
 use Rattle.race_core.proofs.PhaseFacts.{Good, GoodTo, is_fresh}
@@ -52,9 +52,6 @@ use Rattle.race_core.proofs.HeardLists.{Changed, ClosedAt, FrameTold, OwnLacks, 
 use Rattle.race_core.proofs.Asking.{Came, is_on_one, kind_came}
 
 -- ---- plain facts
-
-eqb_apart : (a b : ℕ) → a ≢ b → (a == b) ≡ false
-eqb_apart a b e = grind (arith, nat_tests)
 
 no_share : (j time : ℕ) (kind : EntryKind) → ((hold end : ℕ) (owner : By) (key : List ℕ) → kind ≢ Share hold end owner key) → heard_kind j time kind ≡ []
 no_share j time (Share hold end owner key) apart = absurd (apart hold end owner key refl)
@@ -137,7 +134,7 @@ module _ (s : SetUp) (past : List Entry) (e : Entry) (is : is_of s.number e ≡ 
       → gave_none (Some h) ≡ false → partner v.what.peer v.phase ≡ Some peer → v.part ≡ Drops → Listens s past e b.by fit ((peer, h) ∷ v.heard) → Listed'
   got f took told peer h word says word_is given on part l =
       let k = taken_of s past e b.by f took in
-      let same : f.peer ≡ peer = taken_peer s past e f k ∙ some_inj k.peer peer (sym k.on ∙ on) in
+      let same : f.peer ≡ peer = taken_peer s past e f k ∙ same_Some k.peer peer (sym k.on ∙ on) in
       let tells : hears past e f.peer r v.number ≡ word ∷ [] = stepped_tells s past e b.by fit past_is f took told (others f took) ∙ says in
       record {
         lists = of_list ((peer, h) ∷ v.heard) l.list_is (lists_new s past e j peer h v.heard (λ c apart. else_none c (subst (λ n. (n == c) ≡ false) (sym same) apart) (c == r) refl)
@@ -147,7 +144,7 @@ module _ (s : SetUp) (past : List Entry) (e : Entry) (is : is_of s.number e ≡ 
       }
     where
       else_none : (c : ℕ) → (f.peer == c) ≡ false → (d : Bool) → (c == r) ≡ d → hears past e c r v.number ≡ []
-      else_none c apart true own = subst (λ n. hears past e n r v.number ≡ []) (sym (eqb_true c r own)) (own_silent (λ hold end owner key kind. let bad = sym l.kind_is ∙ kind in cc))
+      else_none c apart true own = subst (λ n. hears past e n r v.number ≡ []) (sym (eqb-true c r own)) (own_silent (λ hold end owner key kind. let bad = sym l.kind_is ∙ kind in cc))
       else_none c apart false other = tells_else r c v.number past e f took apart other
 
   -- no word of a copy by a frame
@@ -178,7 +175,7 @@ module _ (s : SetUp) (past : List Entry) (e : Entry) (is : is_of s.number e ≡ 
       all_silent c = go (c == r) refl
         where
           go : (d : Bool) → (c == r) ≡ d → hears past e c r v.number ≡ []
-          go true own = subst (λ n. hears past e n r v.number ≡ []) (sym (eqb_true c r own)) (own_silent apart)
+          go true own = subst (λ n. hears past e n r v.number ≡ []) (sym (eqb-true c r own)) (own_silent apart)
           go false other = silent c other
 
       own_word : OwnLacks r v y → Listed'
@@ -203,7 +200,7 @@ module _ (s : SetUp) (past : List Entry) (e : Entry) (is : is_of s.number e ≡ 
       refused f took m says failure peer phase list =
           let k = taken_of s past e b.by f took in
           let on : partner v.what.peer v.phase ≡ Some peer = ap (partner v.what.peer) phase in
-          let same : f.peer ≡ peer = taken_peer s past e f k ∙ some_inj k.peer peer (sym k.on ∙ on) in
+          let same : f.peer ≡ peer = taken_peer s past e f k ∙ same_Some k.peer peer (sym k.on ∙ on) in
           let part : v.part ≡ Drops = only_look v.part (subst (Fits v.part) phase fit) in
           let cand : Candidate s past j v.heard peer = subst (Asking s past j v.heard) phase (was.asking part) in
           record {
@@ -264,7 +261,7 @@ module _ (s : SetUp) (past : List Entry) (e : Entry) (is : is_of s.number e ≡ 
   chosen : (p : ℕ) → Chosen t p → Open p → AtTarget s j p ⊎ Candidate s (e ∷ past) j v.heard p
   chosen p (inr c) f = inl (c.1, c.2)
   chosen p (inl c) f = inr (record {
-    unheard = unasked_none (standing_of s (state_of s past) v p) (heard_of v p) (find_was (is_to_ask s (state_of s past) v) (candidates_of s v) p c.1).1;
+    unheard = unasked_none (standing_of s (state_of s past) v p) (heard_of v p) (find_member (is_to_ask s (state_of s past) v) (candidates_of s v) p c.1).1;
     shut = f;
   })
 
@@ -417,5 +414,5 @@ module _ (s : SetUp) where
           let before = earlier s p e k in
           let mine = k.run.0 is in
           holds_step s p e is before
-          (λ f took. eqb_apart f.peer s.number (taken_from_step s p mine.0 e before k.bounds.0 is mine.1 f took)) x b (works_fit s p before.run b.by.w (step_runs s p e x b))
+          (λ f took. ne_eqb f.peer s.number (taken_from_step s p mine.0 e before k.bounds.0 is mine.1 f took)) x b (works_fit s p before.run b.by.w (step_runs s p e x b))
           (was b.by.w (step_runs s p e x b) before)

@@ -3,6 +3,7 @@ use Rattle.std.proofs.Common.{sym, ◌⊎◌, inl, inr, ◌≡◌, ℕ, Bool, tr
 use Rattle.std.specs.Prelude.{◌==◌}
 use Rattle.annex_base.specs.declared.kinds.Call.{Call}
 use Rattle.annex_base.specs.declared.kinds.Call.TheVariants.{Unhold, PutFile}
+use Rattle.annex_base.proofs.Conditions.{if_either}
 use Rattle.drop_proof.specs.declared.rule.Side.{Side}
 use Rattle.drop_proof.specs.declared.rule.Side.TheVariants.{Remote}
 use Rattle.run_data.specs.declared.entry.Entry.{Entry}
@@ -22,7 +23,6 @@ use Rattle.p2p_wire.specs.Messages.{message_of}
 use Rattle.node_model.specs.Ends.{end_after, EndName}
 use Rattle.node_model.specs.Jobs
 use Rattle.node_model.specs.Jobs.{AsksLock, AsksLook, Drops, Fresh, GetsData, GetsWord, Gets, Greets, Next, Orders, Part, Phase, Puts, PutsAnswer, PutsOffer, Rows, Work, claims, closed_part, fault_of, fault_phase, first_look, gained, hears_frame, job_end, learns, listens, quiet, running, says, says_some, sends, talks, talks_on, target_of, took, took_line, transferred, unreleased, word_taken, work_kind}
-use Rattle.race_core.proofs.Cases.{if_found}
 use Rattle.run_data.specs.declared.entry.By.{By}
 use Rattle.run_data.specs.declared.job.Cause.{Cause}
 use Rattle.node_model.specs.Slots.{Running}
@@ -37,7 +37,7 @@ abbrev pub SameList : Work → Work → Type 0
 SameList w x = x.heard ≡ w.heard
 
 pub transferred_list : (w : Work) (o : Outcome) → SameList w (transferred w o)
-transferred_list w o = if_found (SameList w) (Jobs.is_move w.what.kind) (record w { part = Drops; phase = Fresh; fills = false }) (record w { phase = Jobs.Ends o; fills = false }) (λ e. refl) (λ e. refl)
+transferred_list w o = if_either (SameList w) (Jobs.is_move w.what.kind) (record w { part = Drops; phase = Fresh; fills = false }) (record w { phase = Jobs.Ends o; fills = false }) (λ e. refl) (λ e. refl)
 
 word_list : (w : Work) (word : Option Message) (phase : Phase) → SameList w (word_taken w word phase)
 word_list w word (GetsWord peer start size) = refl
@@ -91,7 +91,7 @@ closed_change : (r : ℕ) (w : Work) (peer : ℕ) (part : Part)
 closed_change r w peer Gets = inl refl
 closed_change r w peer Puts = inl refl
 closed_change r w peer Drops =
-    if_found (λ (x : Work). SameList w x ⊎ ((Drops ≡ Drops) × ((target_of r w == peer) ≡ false) × (x.heard ≡ (peer, Jobs.Lacks causes.Closed) ∷ w.heard))) (target_of r w == peer)
+    if_either (λ (x : Work). SameList w x ⊎ ((Drops ≡ Drops) × ((target_of r w == peer) ≡ false) × (x.heard ≡ (peer, Jobs.Lacks causes.Closed) ∷ w.heard))) (target_of r w == peer)
     (Jobs.to_phase w (Jobs.Ends (outcomes.Refused (refusals.Lost (Jobs.is_ordered w.phase))))) (Jobs.hears w peer (Jobs.Lacks causes.Closed)) (λ e. inl refl) (λ e. inr (refl, e, refl))
 
 -- ---- an entry of the job
@@ -179,7 +179,7 @@ talks_changed rows r w y e s [] sends = heard (e.taken) refl
 on_changed : (rows : Rows) (r : ℕ) (w y : Work) (e : Entry) → Talker w y → (p : Option ℕ) → Jobs.partner w.what.peer w.phase ≡ p → Changed rows r w e (talks_on rows r y e p)
 on_changed rows r w y e s None on = talks_changed rows r w y e s e.sent refl
 on_changed rows r w y e s (Some peer) on =
-    if_found (Changed rows r w e) (end_after (job_end y peer) (rows.ends (job_end y peer)) e).opened (talks rows r y e e.sent) (closed_part r y peer y.part)
+    if_either (Changed rows r w e) (end_after (job_end y peer) (rows.ends (job_end y peer)) e).opened (talks rows r y e e.sent) (closed_part r y peer y.part)
     (λ h. talks_changed rows r w y e s e.sent refl)
     (λ h. elim (closed_change r y peer y.part) [
       | inl same ↦ inl (same ∙ s.list)
@@ -230,7 +230,7 @@ kind_changed rows r w e s kind other = on_changed rows r w (learns (claims w w.p
 -- ---- the job as it talks
 
 learns_heard : (x : Work) (phase : Phase) (taken : Option FrameView) → (learns x phase taken).heard ≡ x.heard
-learns_heard x (Jobs.Greets peer) (Some f) = if_found (λ (y : Work). y.heard ≡ x.heard) (option_is x.what.peer peer) (record x { version = Jobs.version_said x.version (line_in f.body) }) x (λ e. refl) (λ e. refl)
+learns_heard x (Jobs.Greets peer) (Some f) = if_either (λ (y : Work). y.heard ≡ x.heard) (option_is x.what.peer peer) (record x { version = Jobs.version_said x.version (line_in f.body) }) x (λ e. refl) (λ e. refl)
 learns_heard x phase taken = refl
 
 claims_heard : (w : Work) (part : Part) (phase : Phase) → (claims w part phase).heard ≡ w.heard

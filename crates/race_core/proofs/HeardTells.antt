@@ -1,9 +1,11 @@
 -- What an entry of a repository tells its jobs of a copy: the partner's SUCCESS where the phase asks for one, and nothing else.
 use Rattle.std.proofs.Common.{◌≡◌, ℕ, Bool, true, false, List, [], ◌∷◌, Option, Some, None, ◌⊎◌, inl, inr, refl, sym, ap, ◌∙◌, subst}
 use Rattle.std.specs.Prelude.{if◌then◌else◌, ◌==◌, ◌&&◌, not}
-use Rattle.std.proofs.lemmas.Bool.{true≢false}
+use Rattle.std.proofs.lemmas.Bool.{true≢false, eqb-true, and_parts}
+use Rattle.std.proofs.lemmas.Option.{same_Some}
 use Rattle.annex_base.specs.Lists.{Member}
 use Rattle.annex_base.specs.declared.kinds.Word.{Word}
+use Rattle.annex_base.proofs.Conditions.{eqb_refl}
 use Rattle.run_data.specs.declared.entry.By.TheVariants.{Script, Job as by_job, Peer}
 use Rattle.run_data.specs.declared.entry.Entry.{Entry}
 use Rattle.run_data.specs.declared.entry.EntryKind.{EntryKind}
@@ -19,7 +21,6 @@ use Rattle.node_model.specs.Slots.{job_of}
 use Rattle.node_model.specs.Ends.{same_bool}
 use Rattle.run_model.specs.Logs.{is_step}
 use Rattle.race_core.proofs.Heard.{Heard, heard_answer, heard_frame, heard_kind, hears}
-use Rattle.race_core.proofs.Plain.{and_right, eqb_refl, eqb_true, some_inj}
 use Rattle.race_core.proofs.SaidDown.{is_said, said_is}
 use Rattle.race_core.proofs.HeardAgrees.{by_phase, takes_other, takes_success}
 use Rattle.node_model.specs.SetUp.{SetUp}
@@ -45,7 +46,7 @@ use Rattle.race_core.proofs.ClientCounts.{and_left}
 -- the frame that a job takes is of its partner
 pub taken_peer : (s : SetUp) (past : List Entry) (e : Entry) (f : FrameView) (t : TakenBy s past e f) → f.peer ≡ t.peer
 taken_peer s past e f t =
-    eqb_true f.peer t.peer (and_left (f.peer == t.peer) (f.slot == t.w.slot)
+    eqb-true f.peer t.peer (and_left (f.peer == t.peer) (f.slot == t.w.slot)
     (and_left ((f.peer == t.peer) && (f.slot == t.w.slot)) (same_bool true (if f.up then false else true)) t.of_end))
 
 -- what SUCCESS tells the job of its partner
@@ -111,7 +112,7 @@ success_or (Some m) = inr (λ e. cc)
 pub told_or : (key : List ℕ) (phase : Phase) (taken : Option FrameView) → NoCopy key phase taken ⊎ (GotLock phase taken ⊎ GotLook phase taken)
 told_or key phase None = inl (λ f took told. absurd (cc))
 told_or key phase (Some f) = elim (success_or (line_in f.body)) [
-  | inr other ↦ inl (λ g took told. absurd (other (ap (λ (h : FrameView). line_in h.body) (some_inj f g took) ∙ told)))
+  | inr other ↦ inl (λ g took told. absurd (other (ap (λ (h : FrameView). line_in h.body) (same_Some f g took) ∙ told)))
   | inl told ↦ go phase refl told
 ]
   where
@@ -205,7 +206,7 @@ module _ (s : SetUp) (past : List Entry) (e : Entry) (x : Stepped s past e) (fit
             by_peer : (b : Bool) → (f.peer == c) ≡ b → hears past e c s.number x.w.number ≡ []
             by_peer false apart = tells_else s.number c x.w.number past e f took apart other
             by_peer true same =
-                let is : f.peer ≡ c = eqb_true f.peer c same in
+                let is : f.peer ≡ c = eqb-true f.peer c same in
                 elim (success_or (line_in f.body)) [
                   | inl told ↦ subst (λ n. hears past e n s.number x.w.number ≡ []) is (stepped_tells f took told (subst (λ n. (n == s.number) ≡ false) (sym is) other) ∙ bare f took told)
                   | inr not_it ↦ unsaid not_it
@@ -238,7 +239,7 @@ still_tells s past words e own fit past_is j still c = go (c == s.number) refl
     other_frame f took other its false up =
         let x = taker s past words e own f took up in
         let w_fit = fit x.w (stepped_runs s past e x) in
-        let number : x.w.number ≡ j = eqb_true x.w.number j (subst (λ o. option_is o j ≡ true) (stepped_job s past e x) (and_right (is_of s.number e) (option_is (job_of e.kind) j) its)) in
+        let number : x.w.number ≡ j = eqb-true x.w.number j (subst (λ o. option_is o j ≡ true) (stepped_job s past e x) ((and_parts (is_of s.number e) (option_is (job_of e.kind) j) its).1)) in
         let talks : e.kind ≡ Talk (Some x.w.number) → ⊥ = λ kind. true≢false (sym (subst (λ n. (x.w.number == n) ≡ true) number (eqb_refl x.w.number)) ∙ subst (λ k. is_step j k ≡ false) kind still) in
         subst (λ n. hears past e c s.number n ≡ []) number (elim (told_or x.w.what.key x.w.phase e.taken) [
           | inl bare ↦ stepped_silent s past e x w_fit past_is bare c other

@@ -2,6 +2,7 @@
 use Rattle.std.proofs.Common.{◌≡◌, ℕ, ◌+◌, ◌≤◌, Bool, true, false, List, [], ◌∷◌, ◌++◌, length, Option, Some, None, ◌⊎◌, inl, inr, refl, sym, ap, ◌∙◌, subst, arith}
 use Rattle.std.specs.Prelude.{◌&&◌, ◌==◌, find, if◌then◌else◌, slice_get}
 use Rattle.annex_base.specs.declared.kinds.Word.{Word}
+use Rattle.annex_base.proofs.Lists.{slice_get-left}
 use Rattle.run_data.specs.declared.entry.By.TheVariants.{Script}
 use Rattle.run_data.specs.declared.entry.Entry.{Entry}
 use Rattle.run_data.specs.declared.entry.EntryKind.{EntryKind}
@@ -20,7 +21,6 @@ use Rattle.run_model.specs.Run.{ComesAnyTime, IsStep, OwnPart, OwnRun}
 use Rattle.race_core.specs.Merged.{Kept, KeptStep, Letter, TakesNext, earlier, stamp_of, word_got, word_in, word_read}
 use Rattle.race_core.proofs.PathsRead.{step_paths, with_paths}
 use Rattle.race_core.proofs.WorkNumbers.{number_begun}
-use Rattle.race_core.proofs.Plain.{get_left}
 
 -- ---- other paths
 
@@ -82,7 +82,7 @@ module _ (s : SetUp) (got more : Way → List Letter) where
   all w = got w ++ more w
 
   next_more : (past : List Entry) (w : Way) (e : Entry) (f : FrameView) → TakesNext (got w) past w e f → TakesNext (all w) past w e f
-  next_more past w e f x = record { letter = x.letter; next = get_left (got w) (more w) (taken past w) x.letter x.next; seq_is = x.seq_is; body_is = x.body_is; later = x.later }
+  next_more past w e f x = record { letter = x.letter; next = slice_get-left (got w) (more w) (taken past w) x.letter x.next; seq_is = x.seq_is; body_is = x.body_is; later = x.later }
 
   word_more : (j c : ℕ) (past : List Entry) → Kept s got past → word_got got past s.number j c ≡ word_got all past s.number j c
   word_more j c [] h = refl
@@ -96,7 +96,7 @@ module _ (s : SetUp) (got more : Way → List Letter) where
       read : (was : Option Word) (o : Option FrameView) → e.taken ≡ o → word_read got past s.number c o was ≡ word_read all past s.number c o was
       read was None is = refl
       read was (Some f) is = let x = h.0.takes f is in ap (λ y. if f.peer == c then word_in y else was)
-          (x.next ∙ sym (get_left (got (way_of s.number f)) (more (way_of s.number f)) (taken past (way_of s.number f)) x.letter x.next))
+          (x.next ∙ sym (slice_get-left (got (way_of s.number f)) (more (way_of s.number f)) (taken past (way_of s.number f)) x.letter x.next))
 
   pub kept_more : (past : List Entry) → Kept s got past → Kept s all past
   kept_more [] h = tt

@@ -3,7 +3,9 @@
 use Rattle.std.proofs.Common.{◌≡◌, ℕ, suc, ◌+◌, ◌<◌, ◌≤◌, Bool, true, false, List, [], ◌∷◌, length, Some, inl, inr, refl, sym, ap, ◌∙◌, subst, arith}
 use Rattle.std.specs.Prelude.{if◌then◌else◌, ◌==◌, ◌&&◌, filter, nat_lt, not}
 use Rattle.std.proofs.lemmas.Bool.Decides.{nat_tests}
+use Rattle.std.proofs.lemmas.Bool.{and_parts, eqb-true}
 use Rattle.annex_base.specs.Lists.{Each, Member}
+use Rattle.annex_base.proofs.Lists.{Each-filter, filter_none}
 use Rattle.run_data.specs.declared.entry.Entry.{Entry}
 use Rattle.run_data.specs.declared.entry.FrameView.{FrameView}
 use Rattle.run_data.specs.declared.entry.FrameText.{FrameText}
@@ -22,8 +24,7 @@ use Rattle.run_model.specs.States.{end_at, content, session, state_of}
 use Rattle.node_model.specs.Sessions.{Session, new_session, sends_close, sent_more, session_after, session_left, session_took}
 use Rattle.node_model.specs.SessionStep.{Here, here, on_frame}
 use Rattle.run_model.specs.Run.{OwnRun}
-use Rattle.race_core.proofs.Plain.{and_true, each_filter}
-use Rattle.race_core.proofs.ServerEnds.{AtServer, GivesHere, Shuts, TakesHere, at_server, filter_none}
+use Rattle.race_core.proofs.ServerEnds.{AtServer, GivesHere, Shuts, TakesHere, at_server}
 use Rattle.race_core.proofs.EndMoves.{NoOpening, OpensNone, all_epoch, all_opened, end_gave, end_own, end_shuts, end_took-is, frame_none, gave_none, gave_one, may_epoch, opening_closed, own_induction, pieces_none, sends_all, sent_gave, sent_took, session_own, shuts_none, taken_none, takes_epoch, took_at, took_none}
 use Rattle.race_core.proofs.NewSessions.{close_shuts, closed_new, new_left}
 use Rattle.race_core.proofs.WayCounts.{count_in, hits, in_count, in_other, one_if, out_count, out_other, way_in, way_out}
@@ -62,9 +63,6 @@ at_none k n = go (k == n)
 
 at_other : (k n d : ℕ) → k < n → at k n d ≡ 0
 at_other k n d l = let no' : (k == n) ≡ false = grind (arith, nat_tests) in rw no' refl
-
-same_at : (k n : ℕ) → (k == n) ≡ true → k ≡ n
-same_at k n e = grind (arith, nat_tests)
 
 -- a session that closes fits as well
 left_fits : (b da dr : ℕ) (shut : Bool) (x : Session) (o : Bool) → (shut ≡ true → o ≡ false) → Fits b (busy x.doing) da dr o → Fits b (busy (session_left shut x).doing) da dr o
@@ -108,7 +106,7 @@ adds_balanced c c' b b' da dr A R A' R' opened same fits a r x = record { later 
       where
         go : (t : Bool) → (c.epoch == n) ≡ t → A' n ≤ R' n
         go true is =
-            let k : c.epoch ≡ n = same_at c.epoch n is in
+            let k : c.epoch ≡ n = eqb-true c.epoch n is in
             bound n (A' n) (R' n) (subst (λ m. A m + b ≡ R m) k was) (a n ∙ rw is refl) (r n ∙ rw is refl)
         go false is =
             let i : A' n ≡ A n + 0 = a n ∙ rw is refl in
@@ -177,7 +175,7 @@ count_frames a c n (body ∷ bodies) none = go (c.epoch == n) refl (count_frames
 
 -- a Close is no answer
 shuts_count : (n : ℕ) (fs : List FrameView) → Each (λ g. g.body ≡ Closing) fs → count_in is_answer n fs ≡ 0
-shuts_count n fs all = ap length (filter_none (says is_answer) (filter (λ g. g.epoch == n) fs) (each_filter (λ g. says is_answer g ≡ false) (λ g. g.epoch == n) fs (none fs all)))
+shuts_count n fs all = ap length (filter_none (says is_answer) (filter (λ g. g.epoch == n) fs) (Each-filter (λ g. says is_answer g ≡ false) (λ g. g.epoch == n) fs (none fs all)))
   where
     none : (gs : List FrameView) → Each (λ g. g.body ≡ Closing) gs → Each (λ g. says is_answer g ≡ false) gs
     none [] z = tt
@@ -347,7 +345,7 @@ module _ (s : SetUp) (past : List Entry) (e : Entry) (p q : ℕ) (is : is_of s.n
             go (Line text) j = absurd (cc)
 
         opens : (body : FrameText) → body ≡ Opening → (if is_opening body then not c.opened && nat_lt c.epoch x.f.epoch else c.opened && (x.f.epoch == c.epoch)) ≡ true → c.epoch < x.f.epoch
-        opens Opening j may = let l : nat_lt c.epoch x.f.epoch ≡ true = (and_true (not c.opened) (nat_lt c.epoch x.f.epoch) may).1 in grind (arith, nat_tests)
+        opens Opening j may = let l : nat_lt c.epoch x.f.epoch ≡ true = (and_parts (not c.opened) (nat_lt c.epoch x.f.epoch) may).1 in grind (arith, nat_tests)
         opens Closing j may = absurd (cc)
         opens (Bytes n) j may = absurd (cc)
         opens (Line text) j may = absurd (cc)

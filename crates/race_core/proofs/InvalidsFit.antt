@@ -2,6 +2,7 @@
 -- asked for.
 use Rattle.std.proofs.Common.{◌≡◌, ℕ, ◌+◌, true, false, List, length, Some, refl, sym, ap, ◌∙◌, subst, arith}
 use Rattle.std.specs.Prelude.{slice_get}
+use Rattle.std.proofs.lemmas.Option.{same_Some}
 use Rattle.annex_base.specs.Lists.{Each}
 use Rattle.run_data.specs.declared.entry.Entry.{Entry}
 use Rattle.run_data.specs.declared.entry.FrameView.{FrameView}
@@ -17,7 +18,7 @@ use Rattle.run_model.specs.States.{content}
 use Rattle.race_core.proofs.AnswersFit.{step_at}
 use Rattle.race_core.proofs.ClosedFound.{InvalidsFit}
 use Rattle.race_core.proofs.Contents.{below}
-use Rattle.race_core.proofs.Flights.{occurs_earlier, sending, some_inj}
+use Rattle.race_core.proofs.Flights.{occurs_earlier, sending}
 use Rattle.race_core.proofs.FromStep.{meets, message_past, own_past, part_of}
 use Rattle.race_core.proofs.InvalidsTurn.{InvalidInTurn, invalids_turn}
 use Rattle.race_core.proofs.Told.{message_at, one_answers, prefixes, sends_member, sends_on, up_at, way_sent, way_up}
@@ -107,7 +108,7 @@ module _ (run : Run) (repos : Each IsSetUp run.repos) where
       let at = step_at run past x before h o in
       let may = (part_of (set_up run) before x r at.0 is).frames.takes f takes in
       let y = invalid_of before x r f at.1 at.0 is takes down says' may in
-      let same : y.request ≡ asked = some_inj y.request asked (sym y.last ∙ last) in
+      let same : y.request ≡ asked = same_Some y.request asked (sym y.last ∙ last) in
       let get : Says (Get y.start y.file y.key) ≡ Says (Get start file key) = sym y.asked_is ∙ (ap said_of same ∙ asked_is) in
       subst (λ p. TookGet before p start key asked) (server_is r f down)
       (subst (λ n. TookGet before (sender_of (way_of r f)) n key asked) (same_start y.start start y.file file y.key key get)

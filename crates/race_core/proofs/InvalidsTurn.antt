@@ -5,6 +5,7 @@ use Rattle.std.proofs.lemmas.Bool.{true≢false}
 use Rattle.annex_base.specs.Lists.{Member}
 use Rattle.annex_base.specs.declared.kinds.Call.TheVariants as calls
 use Rattle.annex_base.specs.declared.kinds.Word.{Word}
+use Rattle.annex_base.proofs.Conditions.{if_either}
 use Rattle.run_data.specs.declared.entry.Entry.{Entry}
 use Rattle.run_data.specs.declared.entry.EntryKind.{EntryKind}
 use Rattle.run_data.specs.declared.entry.EntryKind.TheVariants.{Fault, Talk}
@@ -26,7 +27,7 @@ use Rattle.node_model.specs.Sessions.{Doing, Gives, Session, reaches}
 use Rattle.node_model.specs.SessionStep.{Here, Reply, by_of, close_kind, content_of, gives_next, here, on_frame, on_piece, reply, shuts}
 use Rattle.race_core.proofs.AnswersRead.{all_read}
 use Rattle.race_core.proofs.AnswersTurn.{bytes_end, closing_ends}
-use Rattle.race_core.proofs.Cases.{if_found, unless_found}
+use Rattle.race_core.proofs.Cases.{unless_found}
 use Rattle.race_core.proofs.Counting.{bytes_counts}
 use Rattle.race_core.proofs.Giving.{GetTaken, gets_stand}
 use Rattle.race_core.proofs.InTurn.{AllRead, in_turn}
@@ -53,7 +54,7 @@ Refused was b says = ((key : List ℕ) × (at : ℕ) × (left : ℕ) × (was ≡
 piece_not : (h : Here) (key : List ℕ) (at n : ℕ) (b : FrameText) → message_in b ≡ Says Invalid → Member b (on_piece h key at n).says → ⊥
 piece_not h key at n b e = unless_found (λ (x : Reply). Member b x.says → ⊥) (failing h.fails (calls.Read ∷ [])) (λ call. record { kind = Fault call (by_of h); says = Closing ∷ [] })
     (if reaches (content_of h key) (at + n) then record { kind = Talk None; says = Bytes n ∷ [] } else shuts (close_kind h)) (λ call m. closes m)
-    (if_found (λ (x : Reply). Member b x.says → ⊥) (reaches (content_of h key) (at + n)) (record { kind = Talk None; says = Bytes n ∷ [] }) (shuts (close_kind h)) (λ y m. bytes m) (λ y m. closes m))
+    (if_either (λ (x : Reply). Member b x.says → ⊥) (reaches (content_of h key) (at + n)) (record { kind = Talk None; says = Bytes n ∷ [] }) (shuts (close_kind h)) (λ y m. bytes m) (λ y m. closes m))
   where
     closes : Member b (Closing ∷ []) → ⊥
     closes (inl i) = closing_ends b Invalid i e
@@ -66,7 +67,7 @@ piece_not h key at n b e = unless_found (λ (x : Reply). Member b x.says → ⊥
 given_refused : (h : Here) (key : List ℕ) (at left : ℕ) (good : Bool) (b : FrameText) → message_in b ≡ Says Invalid
     → Member b (if left == 0 then reply (Talk None) (if good then Valid else Invalid) else on_piece h key at (min 32768 left)).says
     → Refused (Gives key at left good) b (if left == 0 then reply (Talk None) (if good then Valid else Invalid) else on_piece h key at (min 32768 left)).says
-given_refused h key at left good b e = if_found (λ (x : Reply). Member b x.says → Refused (Gives key at left good) b x.says) (left == 0) (reply (Talk None) (if good then Valid else Invalid)) (on_piece h key at (min 32768 left))
+given_refused h key at left good b e = if_either (λ (x : Reply). Member b x.says → Refused (Gives key at left good) b x.says) (left == 0) (reply (Talk None) (if good then Valid else Invalid)) (on_piece h key at (min 32768 left))
     (λ done. word good) (λ more m. absurd (piece_not h key at (min 32768 left) b e m))
   where
     word : (g : Bool) → Member b (reply (Talk None) (if g then Valid else Invalid)).says → Refused (Gives key at left g) b (reply (Talk None) (if g then Valid else Invalid)).says

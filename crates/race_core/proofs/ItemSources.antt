@@ -2,11 +2,11 @@
 use Rattle.node_model.specs.Clocks.{hold_time}
 use Rattle.std.proofs.Common.{◌≡◌, ℕ, ◌+◌, ◌≤◌, Bool, true, false, List, [], ◌∷◌, Option, Some, None, ◌⊎◌, inl, inr, refl, sym, ap, ◌∙◌, subst, arith}
 use Rattle.std.specs.Prelude.{if◌then◌else◌, ◌==◌, bytes_eq, nat_le, slice_get}
-use Rattle.std.specs.List.{list_any}
 use Rattle.std.specs.Cmp.Lexicographic.{bytes_decides}
-use Rattle.std.proofs.lemmas.Bool.{true≢false}
+use Rattle.std.proofs.lemmas.Bool.{true≢false, and_parts, eqb-true}
 use Rattle.std.proofs.lemmas.Bool.Decides.{nat_tests}
 use Rattle.annex_base.specs.Lists.{Each, Member}
+use Rattle.annex_base.proofs.Lists.{Each-member, list_any_found}
 use Rattle.drop_proof.specs.declared.evidence.Evidence.{Evidence}
 use Rattle.drop_proof.specs.declared.evidence.Kind.TheVariants.{Locked, Recent}
 use Rattle.run_data.specs.declared.entry.By.{By}
@@ -31,7 +31,6 @@ use Rattle.race_core.specs.Items.{AsksLock, IsFor, IsHeld, IsToldBy, SendsUp, Wa
 use Rattle.race_core.proofs.Own.{Meets, MessagePast, OneClock, seeks}
 use Rattle.race_core.specs.Places.{removal_at}
 use Rattle.race_core.specs.Readings.{Judge, judge_at}
-use Rattle.race_core.proofs.Lists.{Each-at, and_true, eqb_true, or_true}
 use Rattle.race_core.proofs.Changes.{lasts, lasts_one, newer-was, reply_vouched, same_owner_true, same_repo}
 use Rattle.race_core.proofs.Flights.{occurs_always, occurs_earlier, sender_occurs}
 use Rattle.race_core.proofs.Gather.{offer_end, offer_locked, offer_recent}
@@ -72,7 +71,7 @@ told_now e past a j c v m = go (c == a) refl (is_job a j e) refl m
     }
 
     go : (b : Bool) → (c == a) ≡ b → (d : Bool) → is_job a j e ≡ d → Member v (if b then vouch past e c a j else (if d then told_by c a j (sender past a e.taken) else [])) → Told (e ∷ past) a j c v
-    go true same d job k = record { entry = e; before = past; occurs = inl (refl, refl); vouched = k; told = inl (eqb_true c a same) }
+    go true same d job k = record { entry = e; before = past; occurs = inl (refl, refl); vouched = k; told = inl (eqb-true c a same) }
     go false same true job k = by_sender job (sender past a e.taken) refl k
     go false same false job k = absurd k
 
@@ -100,7 +99,7 @@ sends_up past c a j f said up asks t =
 -- and it is one of the repository at the other end
 asker_is : (past : List Entry) (c a j : ℕ) (f : FrameView) → (t : AskedBy past c a j f) → f.peer ≡ a
 asker_is past c a j f t =
-    let own : is_of a t.it.entry ≡ true = (and_true (is_of a t.it.entry) (option_is (job_of t.it.entry.kind) j) t.is_asked).0 in
+    let own : is_of a t.it.entry ≡ true = (and_parts (is_of a t.it.entry) (option_is (job_of t.it.entry.kind) j) t.is_asked).0 in
     sym (sender_way c f) ∙ same_repo t.it.entry (sender_of (way_of c f)) a t.sending.repo_is own
 
 -- the entry by which job j of a asked for the lock, and the share by which it was given
@@ -132,7 +131,7 @@ asked_lock repos past a j c hold since owner key run h = let t = vouches_by p x 
         let seeks_is : seeks a j x ≡ true = share_seeks a j x hold end key (subst (λ q. is_of q x ≡ true) own.0 is) kind_is in
         record {
           asked_it = record { entry = x; before = p; occurs = given.occurs; seeks_is = seeks_is; time_is = own.2 };
-          asks = record { job_is = (and_true (is_job a j x) _ seeks_is).0; asks = inr (own.0, record { hold = hold; end = end; kind_is = kind_is }) };
+          asks = record { job_is = (and_parts (is_job a j x) _ seeks_is).0; asks = inr (own.0, record { hold = hold; end = end; kind_is = kind_is }) };
           owner_is = inl (own.0, own.1);
           given = given;
           share_repo = is;
@@ -163,13 +162,6 @@ asked_lock repos past a j c hold since owner key run h = let t = vouches_by p x 
 
 -- ---- the hold
 
-pub some_member : {X : Type 0} (p : X → Bool) (xs : List X) → list_any p xs ≡ true → (x : X) × Member x xs × (p x ≡ true)
-some_member p [] h = absurd (cc)
-some_member p (x ∷ xs) h = elim (or_true (p x) (list_any p xs) h) [
-  | inl s ↦ (x, inl refl, s)
-  | inr s ↦ (let t = some_member p xs s in (t.0, inr t.1, t.2))
-]
-
 -- a hold that lasts until then
 record Lasting (hs : List Hold) (number until : ℕ) (owner : By) (key : List ℕ) : Type 0 where
   hold : Hold
@@ -181,12 +173,12 @@ record Lasting (hs : List Hold) (number until : ℕ) (owner : By) (key : List �
 
 lasting : (hs : List Hold) (number until : ℕ) (owner : By) (key : List ℕ) → lasts hs number until owner key ≡ true → Lasting hs number until owner key
 lasting hs number until owner key h =
-    let t = some_member (lasts_one number until owner key) hs h in
+    let t = list_any_found (lasts_one number until owner key) hs h in
     let x = t.0 in
-    let a = and_true (x.number == number) _ t.2 in
-    let b = and_true (same_owner x.owner owner) _ a.1 in
-    let c = and_true (bytes_eq x.key key) (nat_le until x.end) b.1 in
-    record { hold = x; recorded = t.1; number_is = eqb_true x.number number a.0; owner_is = same_owner_true x.owner owner b.0; key_is = (bytes_decides x.key key).0 c.0; lasts_it = at_most until x.end c.1 }
+    let a = and_parts (x.number == number) _ t.2 in
+    let b = and_parts (same_owner x.owner owner) _ a.1 in
+    let c = and_parts (bytes_eq x.key key) (nat_le until x.end) b.1 in
+    record { hold = x; recorded = t.1; number_is = eqb-true x.number number a.0; owner_is = same_owner_true x.owner owner b.0; key_is = (bytes_decides x.key key).0 c.0; lasts_it = at_most until x.end c.1 }
   where
     at_most : (m n : ℕ) → nat_le m n ≡ true → m ≤ n
     at_most m n k = grind (arith, nat_tests)
@@ -222,7 +214,7 @@ item_asked : (run : Run) (key : List ℕ) (place : ℕ) (e : Entry) (x : Removal
     → judge_at run place e ≡ Some judge → Member item x.items → asked run.repos judge.past judge.repo judge.job item.repo ≡ Gives item.kind
 item_asked run key place e x judge item h at is judge_is m =
     let d = dropped run key place e x judge h at is judge_is in
-    Each-at (λ (i : Evidence). asked run.repos judge.past judge.repo judge.job i.repo ≡ Gives i.kind) item x.items
+    Each-member (λ (i : Evidence). asked run.repos judge.past judge.repo judge.job i.repo ≡ Gives i.kind) x.items item
     (subst (Each (λ (i : Evidence). asked run.repos judge.past judge.repo judge.job i.repo ≡ Gives i.kind)) (sym d.items_are) (evidence_asked x.side run.repos judge.past judge.repo judge.job d.r x.need)) m
 
 -- a locked item of a removal stands on a lock that was asked for, and on a hold that is there

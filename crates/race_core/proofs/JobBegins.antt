@@ -1,7 +1,10 @@
 -- Each job of a run begins at one place; and the job by which a removal, or an order, is made is a drop, or a move, of the key.
 use Rattle.std.proofs.Common.{◌≡◌, ℕ, ◌+◌, ◌<◌, ◌≤◌, Bool, true, false, ◌&&◌, ◌||◌, List, [], ◌∷◌, Option, Some, ◌⊎◌, inl, inr, refl, sym, ap, ◌∙◌, subst, arith}
 use Rattle.std.specs.Prelude.{if◌then◌else◌, ◌==◌, slice_get}
+use Rattle.std.proofs.lemmas.Bool.{eqb-true}
+use Rattle.std.proofs.lemmas.Option.{same_Some}
 use Rattle.annex_base.specs.Lists.{Member}
+use Rattle.annex_base.proofs.Conditions.{eqb_refl, if_is}
 use Rattle.drop_proof.specs.declared.rule.Need.{Need}
 use Rattle.drop_proof.specs.declared.rule.Side.{Side}
 use Rattle.drop_proof.specs.declared.rule.Side.TheVariants.{Local, Remote}
@@ -28,8 +31,6 @@ use Rattle.race_core.proofs.JobSteps.{stepped_runs}
 use Rattle.race_core.proofs.Decisions.{kind_of, order_stands_on, runs_begun, stepped_of}
 use Rattle.race_core.proofs.ReadKeys.{key_read}
 use Rattle.race_core.specs.Removals.{HasJob, IsAt}
-use Rattle.race_core.proofs.Lists.{eqb_refl, eqb_true, if_is}
-use Rattle.race_core.proofs.Flights.{some_inj}
 use Rattle.race_core.proofs.Pasts.{past_before}
 use Rattle.race_core.proofs.FromStep.{Part, own_past, part_of}
 use Rattle.race_core.proofs.AtPlaces.{past_next}
@@ -59,7 +60,7 @@ begun_by (e ∷ past) r j what h = go (λ k. begun_by past r j what k) (if_is (i
   where
     begins : (was : Option Job) (kind : EntryKind) → begun_job_after j was kind ≡ Some what → (was ≡ Some what) ⊎ (kind ≡ Begin j what)
     begins was (Begin job w) k = elim (if_is (job == j) (Some w) was (Some what) k) [
-      | inl t ↦ (let number : job ≡ j = eqb_true job j t.0 in let same : w ≡ what = some_inj w what t.1 in inr (λ i. Begin (number i) (same i)))
+      | inl t ↦ (let number : job ≡ j = eqb-true job j t.0 in let same : w ≡ what = same_Some w what t.1 in inr (λ i. Begin (number i) (same i)))
       | inr t ↦ inl t.1
     ]
     begins was kind k = inl k

@@ -2,8 +2,10 @@
 use Rattle.std.proofs.Common.{◌≡◌, ℕ, ◌+◌, ◌-◌, ◌/◌, Bool, true, false, List, [], ◌∷◌, ◌++◌, Option, Some, None, ◌⊎◌, inl, inr, refl, sym, ap, ◌∙◌, subst}
 use Rattle.std.specs.Prelude.{◌^◌, if◌then◌else◌, ◌==◌, ◌&&◌, find, min, nat_lt, nat_le, bytes_eq, codes, not}
 use Rattle.std.specs.List.{list_all}
+use Rattle.std.proofs.lemmas.Bool.{eqb-true}
 use Rattle.annex_base.specs.Lists.{Each}
 use Rattle.annex_base.specs.declared.kinds.Call.{Call}
+use Rattle.annex_base.proofs.Conditions.{if_either}
 use Rattle.annex_base.specs.declared.kinds.Call.TheVariants as calls
 use Rattle.drop_proof.specs.declared.rule.Side.{Side}
 use Rattle.drop_proof.specs.declared.rule.Side.TheVariants.{Local, Remote}
@@ -27,7 +29,7 @@ use Rattle.node_model.specs.Ends.{End, frames, is_opening}
 use Rattle.node_model.specs.Sessions.{reaches}
 use Rattle.node_model.specs.Jobs
 use Rattle.node_model.specs.Jobs.{Work, Part, Phase, Gets, Puts, Drops, Fresh, Next, Opens, Greets, GetsData, GetsBytes, GetsWord, PutsOffer, PutsBytes, PutsWord, PutsAnswer, AsksLock, AsksLook, AsksTime, job_end, partner, side_of, is_move}
-use Rattle.node_model.specs.Calls.{to_commit, to_hold, to_release}
+use Rattle.node_model.specs.Calls.{to_commit, to_hold, to_release, to_resume}
 use Rattle.node_model.specs.State.{State}
 use Rattle.node_model.specs.Look.{Look, Made, failing, waiting}
 use Rattle.node_model.specs.SessionStep.{bytes_left}
@@ -38,8 +40,7 @@ use Rattle.node_model.specs.Requests.{asks, goes_to}
 use Rattle.node_model.specs.TransferStep.{content_of, first_get, first_put, gains, next_get, next_source, puts_from, puts_piece, takes_bytes, takes_get, takes_put}
 use Rattle.node_model.specs.Turns.{awaits, by_partner, first_step, goes, goes_on, has_room, is_awaiting, job_step, judges, needs, next_step, outcome_of, slot_step, takes, takes_answer, takes_frame, takes_text, with_partner}
 use Rattle.race_core.proofs.EndMoves.{sends_epoch}
-use Rattle.race_core.proofs.Plain.{eqb_true}
-use Rattle.race_core.proofs.Cases.{if_found, some_was, unless_found}
+use Rattle.race_core.proofs.Cases.{some_was, unless_found}
 use Rattle.race_core.proofs.ServerEnds.{each_flat}
 
 -- a frame at an end that stands so: of its epoch while it is open, or the Opening of the next where it is closed
@@ -90,23 +91,23 @@ orders_says t taken deadline m o = one_says t (Order t.w.number (target t) deadl
 target_says : (t : Turn) (version : ℕ) (taken : Option FrameView) (end : Option ℕ) → Open t (target t) → Says t (asks_target t version taken end)
 target_says t version taken None o = orders_says t taken None (Remove (key_of t)) o
 target_says t version taken (Some end) o =
-    if_found (Says t) (nat_lt version 3) (quietly (talk t) taken) (says_to t (talk t) taken (target t) GetTimestamp) (λ e. tt) (λ e. one_says t (talk t) taken (target t) (Line (text_of GetTimestamp)) o refl)
+    if_either (Says t) (nat_lt version 3) (quietly (talk t) taken) (says_to t (talk t) taken (target t) GetTimestamp) (λ e. tt) (λ e. one_says t (talk t) taken (target t) (Line (text_of GetTimestamp)) o refl)
 
 copy_says : (t : Turn) (version : ℕ) (taken : Option FrameView) (peer : ℕ) (side : Side) → Open t peer → Says t (asks_copy t version taken peer side)
 copy_says t version taken peer Local o = one_says t (talk t) taken peer (Line (text_of (LockContent (key_of t)))) o refl
 copy_says t version taken peer Remote o =
-    if_found (Says t) (target t == peer) (asks_target t version taken (first_end t)) (asks_lock t taken peer)
-    (λ e. target_says t version taken (first_end t) (subst (Open t) (sym (eqb_true (target t) peer e)) o))
+    if_either (Says t) (target t == peer) (asks_target t version taken (first_end t)) (asks_lock t taken peer)
+    (λ e. target_says t version taken (first_end t) (subst (Open t) (sym (eqb-true (target t) peer e)) o))
     (λ e. one_says t (talk t) taken peer (Line (text_of (LockContent (key_of t)))) o refl)
 
 asks_says : (t : Turn) (version : ℕ) (taken : Option FrameView) (peer : ℕ) (part : Part) → Open t peer → Says t (asks t version taken peer part)
 asks_says t version taken peer Gets o =
-    attempts_says t (calls.PartSize ∷ []) taken (says_to t (talk t) taken peer (Get t.look.part [] (key_of t))) (one_says t (talk t) taken peer (Line (text_of (Get t.look.part [] (key_of t)))) o refl)
+    attempts_says t (to_resume t.look.part) taken (says_to t (talk t) taken peer (Get t.look.part [] (key_of t))) (one_says t (talk t) taken peer (Line (text_of (Get t.look.part [] (key_of t)))) o refl)
 asks_says t version taken peer Puts o = one_says t (talk t) taken peer (Line (text_of (Put [] (key_of t)))) o refl
 asks_says t version taken peer Drops o = copy_says t version taken peer (side_of t.w) o
 
 goes_to_says : (t : Turn) (peer : ℕ) → Says t (goes_to t peer)
-goes_to_says t peer = if_found (Says t) (end_with t peer).opened (asks t t.w.version None peer t.w.part) (sends_to t (talk t) None peer (Opening ∷ []))
+goes_to_says t peer = if_either (Says t) (end_with t peer).opened (asks t t.w.version None peer t.w.part) (sends_to t (talk t) None peer (Opening ∷ []))
     (λ o. asks_says t t.w.version None peer t.w.part o) (λ o. ((refl, refl, inr (o, refl, refl)), tt))
 
 -- ---- the steps that take no frame
@@ -128,7 +129,7 @@ first_drop_says t Local = attempts_says t (calls.Has ∷ []) None (bars t (row_r
 first_drop_says t Remote = remote_says t (required_there t)
 
 first_get_says : (t : Turn) (here filled : Bool) (source : Option ℕ) → Says t (first_get t here filled source)
-first_get_says t true filled source = if_found (Says t) (is_move t.w.what.kind) (quietly (talk t) None) (ends t None (Got None None)) (λ e. tt) (λ e. ends_says t None (Got None None))
+first_get_says t true filled source = if_either (Says t) (is_move t.w.what.kind) (quietly (talk t) None) (ends t None (Got None None)) (λ e. tt) (λ e. ends_says t None (Got None None))
 first_get_says t false true source = ends_says t None (TransferRefused failures.Busy)
 first_get_says t false false None = tt
 first_get_says t false false (Some peer) = goes_to_says t peer
@@ -144,7 +145,7 @@ first_says t Puts = attempts_says t (calls.Has ∷ []) None (first_put t (is_the
 first_says t Drops = first_drop_says t (side_of t.w)
 
 removes_says : (t : Turn) → Says t (removes t)
-removes_says t = if_found (Says t) (in_time (clock_of t) (first_end t)) (attempts t (calls.Remove ∷ []) None (quietly (Gone (by_me t) (key_of t)) None)) (ends t None (expired (clock_of t) (first_end t)))
+removes_says t = if_either (Says t) (in_time (clock_of t) (first_end t)) (attempts t (calls.Remove ∷ []) None (quietly (Gone (by_me t) (key_of t)) None)) (ends t None (expired (clock_of t) (first_end t)))
     (λ e. attempts_says t (calls.Remove ∷ []) None (quietly (Gone (by_me t) (key_of t)) None) tt) (λ e. ends_says t None (expired (clock_of t) (first_end t)))
 
 judges_says : (t : Turn) (enough : Bool) (next : Option ℕ) (side : Side) → Says t (judges t enough next side)
@@ -185,16 +186,16 @@ times_says : (t : Turn) (f : FrameView) (n : ℕ) (end : Option ℕ) → Open t 
 times_says t f n None o = orders_says t (Some f) None (Remove (key_of t)) o
 times_says t f n (Some end) o =
     let deadline = n + (end - clock_of t) / 1000 in
-    if_found (Says t) (nat_lt (clock_of t) end) (orders t (Some f) (Some deadline) (RemoveBefore deadline (key_of t))) (ends t (Some f) (Refused (refusals.Expired end (clock_of t))))
+    if_either (Says t) (nat_lt (clock_of t) end) (orders t (Some f) (Some deadline) (RemoveBefore deadline (key_of t))) (ends t (Some f) (Refused (refusals.Expired end (clock_of t))))
     (λ e. orders_says t (Some f) (Some deadline) (RemoveBefore deadline (key_of t)) o) (λ e. ends_says t (Some f) (Refused (refusals.Expired end (clock_of t))))
 
 time_says : (t : Turn) (f : FrameView) (peer n : ℕ) (side : Side) → Open t peer → (side ≡ Remote → Open t (target t)) → Says t (takes_time t f peer n side)
 time_says t f peer n Local o p = wrong_says t f peer o
-time_says t f peer n Remote o p = if_found (Says t) (nat_lt n (2 ^ 61)) (times t f n (first_end t)) (wrong t f peer) (λ e. times_says t f n (first_end t) (p refl)) (λ e. wrong_says t f peer o)
+time_says t f peer n Remote o p = if_either (Says t) (nat_lt n (2 ^ 61)) (times t f n (first_end t)) (wrong t f peer) (λ e. times_says t f n (first_end t) (p refl)) (λ e. wrong_says t f peer o)
 
 bytes_says : (t : Turn) (f : FrameView) (peer n : ℕ) (phase : Phase) → Open t peer → Says t (takes_bytes t f peer n phase)
 bytes_says t f peer n (GetsBytes p start size left) o =
-    if_found (Says t) (nat_lt 0 n && nat_le n left) (attempts t (calls.Append ∷ []) (Some f) (quietly (talk t) (Some f))) (wrong t f peer)
+    if_either (Says t) (nat_lt 0 n && nat_le n left) (attempts t (calls.Append ∷ []) (Some f) (quietly (talk t) (Some f))) (wrong t f peer)
     (λ e. attempts_says t (calls.Append ∷ []) (Some f) (quietly (talk t) (Some f)) tt) (λ e. wrong_says t f peer o)
 bytes_says t f peer n phase o = wrong_says t f peer o
 
@@ -223,12 +224,12 @@ from_says t f peer n o =
     let m = Data (bytes_left (content_of t) n) in
     let good = if reaches (content_of t) n then says_to t (talk t) (Some f) peer m else wrong t f peer in
     attempts_says t (calls.Size ∷ []) (Some f) good
-    (if_found (Says t) (reaches (content_of t) n) (says_to t (talk t) (Some f) peer m) (wrong t f peer) (λ e. one_says t (talk t) (Some f) peer (Line (text_of m)) o refl) (λ e. wrong_says t f peer o))
+    (if_either (Says t) (reaches (content_of t) n) (says_to t (talk t) (Some f) peer m) (wrong t f peer) (λ e. one_says t (talk t) (Some f) peer (Line (text_of m)) o refl) (λ e. wrong_says t f peer o))
 
 put_says : (t : Turn) (f : FrameView) (peer : ℕ) (phase : Phase) (m : Message) → Open t peer → Says t (takes_put t f peer phase m)
 put_says t f peer (PutsOffer p) AlreadyHave o = tt
 put_says t f peer (PutsOffer p) Failure o = tt
-put_says t f peer (PutsOffer p) (Error text) o = if_found (Says t) (bytes_eq text (codes "busy")) (hears t f) (wrong t f peer) (λ e. tt) (λ e. wrong_says t f peer o)
+put_says t f peer (PutsOffer p) (Error text) o = if_either (Says t) (bytes_eq text (codes "busy")) (hears t f) (wrong t f peer) (λ e. tt) (λ e. wrong_says t f peer o)
 put_says t f peer (PutsOffer p) (PutFrom n) o = from_says t f peer n o
 put_says t f peer (PutsAnswer p start) Success o = tt
 put_says t f peer (PutsAnswer p start) Failure o = tt
@@ -248,7 +249,7 @@ answer_says t f peer Drops phase m on o = drop_says t f peer phase m o (at_targe
 
 takes_says : (t : Turn) (f : FrameView) (peer : ℕ) (phase : Phase) (m : Message) → partner t.w.what.peer phase ≡ Some peer → Open t peer → Says t (takes t f peer phase m)
 takes_says t f peer (Opens p) (AuthSuccess id) on o = one_says t (talk t) (Some f) peer (Line (text_of (Version 3))) o refl
-takes_says t f peer (Greets p) (Version n) on o = if_found (Says t) (nat_le n 3) (asks t n (Some f) peer t.w.part) (wrong t f peer) (λ e. asks_says t n (Some f) peer t.w.part o) (λ e. wrong_says t f peer o)
+takes_says t f peer (Greets p) (Version n) on o = if_either (Says t) (nat_le n 3) (asks t n (Some f) peer t.w.part) (wrong t f peer) (λ e. asks_says t n (Some f) peer t.w.part o) (λ e. wrong_says t f peer o)
 takes_says t f peer phase m on o = answer_says t f peer t.w.part phase m on o
 
 text_says : (t : Turn) (f : FrameView) (peer : ℕ) (m : Option Message) → partner t.w.what.peer t.w.phase ≡ Some peer → Open t peer → Says t (takes_text t f peer m)

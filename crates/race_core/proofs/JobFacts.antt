@@ -3,7 +3,10 @@ use Rattle.node_model.specs.Clocks.{hold_time}
 use Rattle.std.proofs.Common.{◌≡◌, ℕ, ◌+◌, ◌-◌, ◌/◌, ◌^◌, Bool, true, false, List, [], ◌∷◌, Option, Some, None, ◌⊎◌, inl, inr, refl, sym, ap, subst}
 use Rattle.std.specs.Prelude.{if◌then◌else◌, ◌==◌, ◌&&◌, not, min, nat_lt, nat_le, bytes_eq, codes, find}
 use Rattle.std.specs.List.{list_all}
+use Rattle.std.proofs.lemmas.Bool.{and_parts}
 use Rattle.annex_base.specs.declared.kinds.Call.{Call}
+use Rattle.annex_base.proofs.Lists.{find_member}
+use Rattle.annex_base.proofs.Conditions.{if_either}
 use Rattle.annex_base.specs.declared.kinds.Call.TheVariants as calls
 use Rattle.drop_proof.specs.declared.rule.Side.{Side}
 use Rattle.drop_proof.specs.declared.rule.Side.TheVariants.{Local, Remote}
@@ -26,7 +29,7 @@ use Rattle.p2p_wire.specs.Messages.{order_of, message_of, text_of}
 use Rattle.node_model.specs.Sessions.{line_in, reaches}
 use Rattle.node_model.specs.Jobs
 use Rattle.node_model.specs.Jobs.{Part, Gets, Puts, Drops, Phase, Fresh, Next, Opens, Greets, GetsData, GetsBytes, GetsWord, PutsOffer, PutsBytes, PutsWord, PutsAnswer, AsksLock, AsksLook, AsksTime, is_move, Work, job_end, partner, side_of}
-use Rattle.node_model.specs.Calls.{to_commit, to_hold, to_release}
+use Rattle.node_model.specs.Calls.{to_commit, to_hold, to_release, to_resume}
 use Rattle.node_model.specs.Look.{Look, Made, failing, waiting}
 use Rattle.node_model.specs.SessionStep.{bytes_left}
 use Rattle.node_model.specs.Knows.{enough_by, next_by}
@@ -36,8 +39,7 @@ use Rattle.node_model.specs.Requests.{asks, goes_to}
 use Rattle.node_model.specs.TransferStep.{takes_get, takes_put, content_of, first_get, first_put, gains, next_get, next_source, puts_from, puts_piece, takes_bytes}
 use Rattle.node_model.specs.Turns.{takes_answer, awaits, by_partner, goes_on, has_room, job_step, needs, slot_step, with_partner, is_awaiting, first_step, goes, judges, next_step, outcome_of, takes, takes_frame, takes_text}
 use Rattle.node_model.specs.Found.{ByJob, FirstLocal, HasDeadline, IsAsked, JobFound, JobKind, JobTakes, Judged, Settled}
-use Rattle.race_core.proofs.Plain.{and_true}
-use Rattle.race_core.proofs.Cases.{find_was, if_found, some_was, unless_found}
+use Rattle.race_core.proofs.Cases.{some_was, unless_found}
 
 -- ---- what all jobs share
 
@@ -146,7 +148,7 @@ orders_found t taken deadline part side timed = (
 target_found : (t : Turn) (version : ℕ) (taken : Option FrameView) → t.w.part ≡ Drops → side_of t.w ≡ Remote → (end : Option ℕ) → first_end t ≡ end → JobFound t taken (asks_target t version taken end)
 target_found t version taken part side None is = orders_found t taken None part side is
 target_found t version taken part side (Some end) is =
-    if_found (JobFound t taken) (nat_lt version 3) (quietly (talk t) taken) (says_to t (talk t) taken (target t) GetTimestamp)
+    if_either (JobFound t taken) (nat_lt version 3) (quietly (talk t) taken) (says_to t (talk t) taken (target t) GetTimestamp)
     (λ e. quiet_found t taken) (λ e. sends_found t taken (target t) (Line (text_of GetTimestamp)) (GetTimestamp, refl, tt))
 
 lock_found : (t : Turn) (taken : Option FrameView) (peer : ℕ) → JobFound t taken (asks_lock t taken peer)
@@ -155,26 +157,26 @@ lock_found t taken peer = sends_found t taken peer (Line (text_of (LockContent (
 copy_found : (t : Turn) (version : ℕ) (taken : Option FrameView) (peer : ℕ) → t.w.part ≡ Drops → (side : Side) → side_of t.w ≡ side → JobFound t taken (asks_copy t version taken peer side)
 copy_found t version taken peer part Local side = lock_found t taken peer
 copy_found t version taken peer part Remote side =
-    if_found (JobFound t taken) (target t == peer) (asks_target t version taken (first_end t)) (asks_lock t taken peer)
+    if_either (JobFound t taken) (target t == peer) (asks_target t version taken (first_end t)) (asks_lock t taken peer)
     (λ e. target_found t version taken part side (first_end t) refl) (λ e. lock_found t taken peer)
 
 asks_found : (t : Turn) (version : ℕ) (taken : Option FrameView) (peer : ℕ) (part : Part) → t.w.part ≡ part → JobFound t taken (asks t version taken peer part)
 asks_found t version taken peer Gets part =
-    attempts_found t (calls.PartSize ∷ []) taken (says_to t (talk t) taken peer (Get t.look.part [] (key_of t)))
+    attempts_found t (to_resume t.look.part) taken (says_to t (talk t) taken peer (Get t.look.part [] (key_of t)))
     (sends_found t taken peer (Line (text_of (Get t.look.part [] (key_of t)))) (Get t.look.part [] (key_of t), refl, tt))
 asks_found t version taken peer Puts part = sends_found t taken peer (Line (text_of (Put [] (key_of t)))) (Put [] (key_of t), refl, tt)
 asks_found t version taken peer Drops part = copy_found t version taken peer part (side_of t.w) refl
 
 goes_to_found : (t : Turn) (peer : ℕ) → JobFound t None (goes_to t peer)
 goes_to_found t peer =
-    if_found (JobFound t None) (end_with t peer).opened (asks t t.w.version None peer t.w.part) (sends_to t (talk t) None peer (Opening ∷ []))
+    if_either (JobFound t None) (end_with t peer).opened (asks t t.w.version None peer t.w.part) (sends_to t (talk t) None peer (Opening ∷ []))
     (λ e. asks_found t t.w.version None peer t.w.part refl) (λ e. sends_found t None peer Opening tt)
 
 -- ---- what a drop judges
 
 gone_found : (t : Turn) → t.w.part ≡ Drops → t.w.phase ≡ Next → side_of t.w ≡ Local → enough_by t.read t.w ≡ true → JobFound t None (removes t)
 gone_found t part next side enough =
-    if_found (JobFound t None) (in_time (clock_of t) (first_end t)) (attempts t (calls.Remove ∷ []) None (quietly (Gone (by_me t) (key_of t)) None)) (ends t None (expired (clock_of t) (first_end t)))
+    if_either (JobFound t None) (in_time (clock_of t) (first_end t)) (attempts t (calls.Remove ∷ []) None (quietly (Gone (by_me t) (key_of t)) None)) (ends t None (expired (clock_of t) (first_end t)))
     (λ e. attempts_found t (calls.Remove ∷ []) None (quietly (Gone (by_me t) (key_of t)) None) (
       refl,
       record {
@@ -208,7 +210,7 @@ judges_found t part phase true next Remote enough asked is = goes_to_found t (ta
 first_get_found : (t : Turn) → t.w.part ≡ Gets → t.w.phase ≡ Fresh → (here filled : Bool) (source : Option ℕ) → is_there t ≡ here → t.filled (key_of t) ≡ filled
     → JobFound t None (first_get t here filled source)
 first_get_found t part first true filled source there is =
-    if_found (JobFound t None) (is_move t.w.what.kind) (quietly (talk t) None) (ends t None (Got None None))
+    if_either (JobFound t None) (is_move t.w.what.kind) (quietly (talk t) None) (ends t None (Got None None))
     (λ e. quiet_found t None) (λ e. ends_found t None (Got None None) (inl (part, first, there)))
 first_get_found t part first false true source there is = ends_found t None (TransferRefused failures.Busy) (inl (part, first, there, is))
 first_get_found t part first false false None there is = quiet_found t None
@@ -237,7 +239,7 @@ from_found t f peer n =
     let m = Data (bytes_left (content_of t) n) in
     let good = if reaches (content_of t) n then says_to t (talk t) (Some f) peer m else wrong t f peer in
     attempts_found t (calls.Size ∷ []) (Some f) good
-    (if_found (JobFound t (Some f)) (reaches (content_of t) n) (says_to t (talk t) (Some f) peer m) (wrong t f peer)
+    (if_either (JobFound t (Some f)) (reaches (content_of t) n) (says_to t (talk t) (Some f) peer m) (wrong t f peer)
     (λ e. sends_found t (Some f) peer (Line (text_of m)) (m, refl, tt)) (λ e. wrong_found t f peer))
 
 gains_found : (t : Turn) (f : FrameView) (peer start size : ℕ) → t.w.phase ≡ GetsWord peer start size → line_in f.body ≡ Some Valid
@@ -296,7 +298,7 @@ times_found : (t : Turn) (f : FrameView) (n : ℕ) → t.w.part ≡ Drops → si
 times_found t f n part side phase told None is = orders_found t (Some f) None part side is
 times_found t f n part side phase told (Some end) is =
     let deadline = n + (end - clock_of t) / 1000 in
-    if_found (JobFound t (Some f)) (nat_lt (clock_of t) end) (orders t (Some f) (Some deadline) (RemoveBefore deadline (key_of t)))
+    if_either (JobFound t (Some f)) (nat_lt (clock_of t) end) (orders t (Some f) (Some deadline) (RemoveBefore deadline (key_of t)))
     (ends t (Some f) (Refused (refusals.Expired end (clock_of t))))
     (λ e. orders_found t (Some f) (Some deadline) part side (f, refl, phase, (n, end, told, is, e, refl)))
     (λ e. ends_found t (Some f) (Refused (refusals.Expired end (clock_of t)))
@@ -306,7 +308,7 @@ time_found : (t : Turn) (f : FrameView) (peer n : ℕ) → t.w.part ≡ Drops �
     → (side : Side) → side_of t.w ≡ side → JobFound t (Some f) (takes_time t f peer n side)
 time_found t f peer n part phase told Local side = wrong_found t f peer
 time_found t f peer n part phase told Remote side =
-    if_found (JobFound t (Some f)) (nat_lt n (2 ^ 61)) (times t f n (first_end t)) (wrong t f peer)
+    if_either (JobFound t (Some f)) (nat_lt n (2 ^ 61)) (times t f n (first_end t)) (wrong t f peer)
     (λ e. times_found t f n part side phase told (first_end t) refl) (λ e. wrong_found t f peer)
 
 hears_found : (t : Turn) (f : FrameView) → JobFound t (Some f) (hears t f)
@@ -314,7 +316,7 @@ hears_found t f = quiet_found t (Some f)
 
 bytes_found : (t : Turn) (f : FrameView) (peer n : ℕ) (phase : Phase) → JobFound t (Some f) (takes_bytes t f peer n phase)
 bytes_found t f peer n (GetsBytes p start size left) =
-    if_found (JobFound t (Some f)) (nat_lt 0 n && nat_le n left) (attempts t (calls.Append ∷ []) (Some f) (quietly (talk t) (Some f))) (wrong t f peer)
+    if_either (JobFound t (Some f)) (nat_lt 0 n && nat_le n left) (attempts t (calls.Append ∷ []) (Some f) (quietly (talk t) (Some f))) (wrong t f peer)
     (λ e. attempts_found t (calls.Append ∷ []) (Some f) (quietly (talk t) (Some f)) (quiet_found t (Some f))) (λ e. wrong_found t f peer)
 bytes_found t f peer n phase = wrong_found t f peer
 
@@ -349,7 +351,7 @@ put_found : (t : Turn) (f : FrameView) (peer : ℕ) → partner t.w.what.peer t.
 put_found t f peer on (PutsOffer p) AlreadyHave is told = hears_found t f
 put_found t f peer on (PutsOffer p) Failure is told = hears_found t f
 put_found t f peer on (PutsOffer p) (Error text) is told =
-    if_found (JobFound t (Some f)) (bytes_eq text (codes "busy")) (hears t f) (wrong t f peer) (λ e. hears_found t f) (λ e. wrong_found t f peer)
+    if_either (JobFound t (Some f)) (bytes_eq text (codes "busy")) (hears t f) (wrong t f peer) (λ e. hears_found t f) (λ e. wrong_found t f peer)
 put_found t f peer on (PutsOffer p) (PutFrom n) is told = from_found t f peer n
 put_found t f peer on (PutsAnswer p start) Success is told = hears_found t f
 put_found t f peer on (PutsAnswer p start) Failure is told = hears_found t f
@@ -365,7 +367,7 @@ takes_found : (t : Turn) (f : FrameView) (peer : ℕ) → partner t.w.what.peer 
     → JobFound t (Some f) (takes t f peer phase m)
 takes_found t f peer on (Opens p) (AuthSuccess id) is told = sends_found t (Some f) peer (Line (text_of (Version 3))) (Version 3, refl, tt)
 takes_found t f peer on (Greets p) (Version n) is told =
-    if_found (JobFound t (Some f)) (nat_le n 3) (asks t n (Some f) peer t.w.part) (wrong t f peer) (λ e. asks_found t n (Some f) peer t.w.part refl) (λ e. wrong_found t f peer)
+    if_either (JobFound t (Some f)) (nat_le n 3) (asks t n (Some f) peer t.w.part) (wrong t f peer) (λ e. asks_found t n (Some f) peer t.w.part refl) (λ e. wrong_found t f peer)
 takes_found t f peer on phase m is told = answer_found t f peer on phase m is told t.w.part refl
 
 text_found : (t : Turn) (f : FrameView) (peer : ℕ) → partner t.w.what.peer t.w.phase ≡ Some peer → (m : Option Message) → line_in f.body ≡ m → JobFound t (Some f) (takes_text t f peer m)
@@ -405,8 +407,8 @@ awaits_found t peer m on awaiting opened (Some f) is e = go (has_room t peer) e
     go true g =
         let same : takes_frame t peer f f.body ≡ m = cc in
         let found = frame_found t peer f on f.body refl in
-        let was = find_was (λ g. takes_at (job_end t.w peer) g && may_take (end_with t peer) g) t.look.at_hand f is in
-        let both = and_true (takes_at (job_end t.w peer) f) (may_take (end_with t peer) f) was.1 in
+        let was = find_member (λ g. takes_at (job_end t.w peer) g && may_take (end_with t peer) g) t.look.at_hand f is in
+        let both = and_parts (takes_at (job_end t.w peer) f) (may_take (end_with t peer) f) was.1 in
         subst (MadeBy t) same (record {
           frame = inr (record { f = f; taken_is = found.0; peer = peer; partner_is = on; awaits = awaiting; opened = opened; of_end = both.0; may = both.1 });
           found = found.1;

@@ -3,6 +3,7 @@ use Rattle.std.proofs.Common.{◌≡◌, ℕ, Bool, true, false, List, [], ◌�
 use Rattle.std.specs.Prelude.{if◌then◌else◌, ◌==◌, filter, map, not}
 use Rattle.annex_base.specs.declared.kinds.Call.{Call}
 use Rattle.annex_base.specs.declared.kinds.Call.TheVariants.{Unhold, PutFile}
+use Rattle.annex_base.proofs.Conditions.{if_either}
 use Rattle.drop_proof.specs.declared.rule.Side.{Side}
 use Rattle.drop_proof.specs.declared.rule.Side.TheVariants.{Remote}
 use Rattle.run_data.specs.declared.entry.Entry.{Entry}
@@ -26,20 +27,19 @@ use Rattle.node_model.specs.Ends.{end_after}
 use Rattle.node_model.specs.Jobs
 use Rattle.node_model.specs.Jobs.{AsksLock, AsksLook, Drops, Fresh, GetsData, GetsWord, Gets, Greets, Orders, Part, Phase, Puts, PutsAnswer, PutsOffer, Rows, Work, claims, closed_part, fault_of, fault_phase, first_look, gained, hears_frame, job_end, learns, listens, quiet, running, says, says_some, sends, talks, talks_on, target_of, took, took_line, transferred, unreleased, word_taken, work_after, work_kind, works_after}
 use Rattle.run_model.specs.States.{rows_at, works}
-use Rattle.race_core.proofs.Cases.{if_found}
 
 -- it is the same job
 abbrev pub Same : Work → Work → Type 0
 Same w x = running x ≡ running w
 
 transferred_kept : (w : Work) (o : Outcome) → Same w (transferred w o)
-transferred_kept w o = if_found (Same w) (Jobs.is_move w.what.kind) (record w { part = Drops; phase = Fresh; fills = false }) (record w { phase = Jobs.Ends o; fills = false }) (λ e. refl) (λ e. refl)
+transferred_kept w o = if_either (Same w) (Jobs.is_move w.what.kind) (record w { part = Drops; phase = Fresh; fills = false }) (record w { phase = Jobs.Ends o; fills = false }) (λ e. refl) (λ e. refl)
 
 closed_kept : (r : ℕ) (w : Work) (peer : ℕ) (part : Part) → Same w (closed_part r w peer part)
 closed_kept r w peer Gets = refl
 closed_kept r w peer Puts = refl
 closed_kept r w peer Drops =
-    if_found (Same w) (target_of r w == peer) (Jobs.to_phase w (Jobs.Ends (outcomes.Refused (refusals.Lost (Jobs.is_ordered w.phase))))) (Jobs.hears w peer (Jobs.Lacks causes.Closed)) (λ e. refl) (λ e. refl)
+    if_either (Same w) (target_of r w == peer) (Jobs.to_phase w (Jobs.Ends (outcomes.Refused (refusals.Lost (Jobs.is_ordered w.phase))))) (Jobs.hears w peer (Jobs.Lacks causes.Closed)) (λ e. refl) (λ e. refl)
 
 word_kept : (w : Work) (word : Option Message) (phase : Phase) → Same w (word_taken w word phase)
 word_kept w word (GetsWord peer start size) = refl
@@ -100,7 +100,7 @@ talks_kept rows r w e [] = hears_kept rows r w e.taken
 on_kept : (rows : Rows) (r : ℕ) (w : Work) (e : Entry) (p : Option ℕ) → Same w (talks_on rows r w e p)
 on_kept rows r w e None = talks_kept rows r w e e.sent
 on_kept rows r w e (Some peer) =
-    if_found (Same w) (end_after (job_end w peer) (rows.ends (job_end w peer)) e).opened (talks rows r w e e.sent) (closed_part r w peer w.part)
+    if_either (Same w) (end_after (job_end w peer) (rows.ends (job_end w peer)) e).opened (talks rows r w e e.sent) (closed_part r w peer w.part)
     (λ h. talks_kept rows r w e e.sent) (λ h. closed_kept r w peer w.part)
 
 pub claims_kept : (w : Work) (part : Part) (phase : Phase) → Same w (claims w part phase)
@@ -143,7 +143,7 @@ kind_kept rows r w e kind =
     on_kept rows r (learns x w.phase e.taken) e (Jobs.partner w.what.peer w.phase) ∙ learns_kept x w.phase e.taken ∙ claims_kept w w.part w.phase
 
 pub after_kept : (rows : Rows) (r : ℕ) (e : Entry) (w : Work) → Same w (work_after rows r e w)
-after_kept rows r e w = if_found (Same w) (option_is (job_of e.kind) w.number) (work_kind rows r w e e.kind) w (λ h. kind_kept rows r w e e.kind) (λ h. refl)
+after_kept rows r e w = if_either (Same w) (option_is (job_of e.kind) w.number) (work_kind rows r w e e.kind) w (λ h. kind_kept rows r w e e.kind) (λ h. refl)
 
 all_kept : (rows : Rows) (r : ℕ) (e : Entry) (ws : List Work) → map running (map (work_after rows r e) ws) ≡ map running ws
 all_kept rows r e [] = refl

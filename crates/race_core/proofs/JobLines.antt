@@ -3,6 +3,7 @@
 use Rattle.std.proofs.Common.{◌≡◌, ℕ, Bool, true, false, List, [], ◌∷◌, ◌++◌, Option, Some, None, ◌⊎◌, inl, inr, refl, sym, ap, ◌∙◌, subst}
 use Rattle.std.specs.Prelude.{if◌then◌else◌, ◌&&◌, not}
 use Rattle.annex_base.specs.Lists.{Each, Member}
+use Rattle.annex_base.proofs.Lists.{Each-member}
 use Rattle.drop_proof.specs.declared.rule.Need.{Need}
 use Rattle.run_data.specs.declared.entry.EntryKind.{EntryKind}
 use Rattle.run_data.specs.declared.entry.EntryKind.TheVariants.{Gain, Share, Bar, Gone, Order, Talk, Fault, End as ends_job}
@@ -20,7 +21,6 @@ use Rattle.node_model.specs.Jobs.{job_end}
 use Rattle.node_model.specs.Look.{Made}
 use Rattle.node_model.specs.JobStep.{Turn, end_with, farewell, farewells, has_lock, key_of, others_of}
 use Rattle.node_model.specs.Found.{IsAsked, IsAsking, JobKind}
-use Rattle.race_core.proofs.Plain.{each_member}
 use Rattle.race_core.proofs.ReadAs.{IsJobs, SameHead}
 use Rattle.race_core.proofs.SaidDown.{said_bytes, said_closing, said_line-is, said_opening}
 use Rattle.race_core.proofs.ServerEnds.{each_flat}
@@ -67,7 +67,7 @@ job_said t m (Order j peer deadline need key) x g i = elim (subst (Member g) x.s
   | inr none ↦ absurd none
 ]
 job_said t m (Gain by size key) x g i = elim (subst (Member g) x.sent_is i) [ inl is ↦ ap (λ (f : FrameView). f.body) is | inr none ↦ absurd none ]
-job_said t m (ends_job j outcome) x g i = each_member (Farewell t (is_lost_ordered outcome)) (farewells t (is_lost_ordered outcome)) g (farewells_said t (is_lost_ordered outcome)) (subst (Member g) x.sent_is i)
+job_said t m (ends_job j outcome) x g i = Each-member (Farewell t (is_lost_ordered outcome)) (farewells t (is_lost_ordered outcome)) g (farewells_said t (is_lost_ordered outcome)) (subst (Member g) x.sent_is i)
 job_said t m (Talk (Some j)) x g i = elim (x.1) [
   | inl none ↦ absurd (no_member m.sent g none i)
   | inr one ↦ elim (subst (Member g) one.2 i) [ inl is ↦ subst IsAsked (sym (ap (λ (f : FrameView). f.body) is)) one.3 | inr none ↦ absurd none ]

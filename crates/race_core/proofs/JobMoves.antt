@@ -4,6 +4,7 @@ use Rattle.std.specs.Prelude.{if◌then◌else◌, ◌==◌}
 use Rattle.annex_base.specs.Lists.{Member}
 use Rattle.annex_base.specs.declared.kinds.Call.{Call}
 use Rattle.annex_base.specs.declared.kinds.Call.TheVariants.{PutFile, Unhold}
+use Rattle.annex_base.proofs.Conditions.{if_either}
 use Rattle.drop_proof.specs.declared.rule.Side.{Side}
 use Rattle.drop_proof.specs.declared.rule.Side.TheVariants.{Remote}
 use Rattle.run_data.specs.declared.entry.Entry.{Entry}
@@ -24,7 +25,6 @@ use Rattle.node_model.specs.Sessions.{line_in}
 use Rattle.node_model.specs.Jobs
 use Rattle.node_model.specs.Jobs.{AsksTime, Drops, Ends, Fresh, Gets, GetsBytes, GetsWord, Greets, Orders, Part, Phase, Puts, Rows, Work, claims, closed_part, fault_of, fault_phase, first_look, gets_bytes, gets_more, hears_frame, job_end, learns, listens, partner, put_from, puts_answer, puts_bytes, puts_more, quiet, says, says_some, sends, side_of, taken_message, talks, talks_on, target_of, took, took_line, transferred, unreleased, word_taken, work_kind}
 use Rattle.race_core.proofs.PhaseFacts.{readies_place}
-use Rattle.race_core.proofs.Cases.{if_found}
 use Rattle.run_data.specs.declared.job.SourceCause.{SourceCause}
 use Rattle.race_core.proofs.TalkFacts.{Fits}
 
@@ -125,7 +125,7 @@ module _ (target : Option ℕ) where
         line (Some m) = says_moves time f fs taken m
 
     transferred_moves : (sent : List FrameView) (o : Outcome) → Moves target w sent (transferred w o)
-    transferred_moves sent o = if_found (Moves target w sent) (Jobs.is_move w.what.kind) (record w { part = Drops; phase = Fresh; fills = false }) (record w { phase = Ends o; fills = false })
+    transferred_moves sent o = if_either (Moves target w sent) (Jobs.is_move w.what.kind) (record w { part = Drops; phase = Fresh; fills = false }) (record w { phase = Ends o; fills = false })
         (λ e. away w sent (record w { part = Drops; phase = Fresh; fills = false }) refl refl) (λ e. away w sent (record w { phase = Ends o; fills = false }) refl refl)
 
     look_moves : (sent : List FrameView) (r : ℕ) (part : Part) (there : Bool) (bar : Option ℕ) → Moves target w sent (first_look r w part there bar)
@@ -177,7 +177,7 @@ module _ (target : Option ℕ) where
     closed_moves : (sent : List FrameView) (r peer : ℕ) (part : Part) → w.part ≡ part → partner target w.phase ≡ Some peer → Moves target w sent (closed_part r w peer part)
     closed_moves sent r peer Gets is on = gains w sent peer (_) on is
     closed_moves sent r peer Puts is on = away w sent (closed_part r w peer Puts) refl refl
-    closed_moves sent r peer Drops is on = if_found (Moves target w sent) (target_of r w == peer) (Jobs.to_phase w (Ends (Refused (refusals.Lost (Jobs.is_ordered w.phase))))) (Jobs.hears w peer (Jobs.Lacks Rattle.run_data.specs.declared.job.Cause.TheVariants.Closed))
+    closed_moves sent r peer Drops is on = if_either (Moves target w sent) (target_of r w == peer) (Jobs.to_phase w (Ends (Refused (refusals.Lost (Jobs.is_ordered w.phase))))) (Jobs.hears w peer (Jobs.Lacks Rattle.run_data.specs.declared.job.Cause.TheVariants.Closed))
         (λ e. away w sent (_) refl refl) (λ e. away w sent (_) refl refl)
 
     talks_moves : (rows : Rows) (r : ℕ) (e : Entry) (fs : List FrameView) → Moves target w fs (talks rows r w e fs)
@@ -190,7 +190,7 @@ module _ (target : Option ℕ) where
 
     on_moves : (rows : Rows) (r : ℕ) (e : Entry) (p : Option ℕ) → partner target w.phase ≡ p → Moves target w e.sent (talks_on rows r w e p)
     on_moves rows r e None on = talks_moves rows r e e.sent
-    on_moves rows r e (Some peer) on = if_found (Moves target w e.sent) (end_after (job_end w peer) (rows.ends (job_end w peer)) e).opened (talks rows r w e e.sent) (closed_part r w peer w.part)
+    on_moves rows r e (Some peer) on = if_either (Moves target w e.sent) (end_after (job_end w peer) (rows.ends (job_end w peer)) e).opened (talks rows r w e e.sent) (closed_part r w peer w.part)
         (λ o. talks_moves rows r e e.sent) (λ o. closed_moves e.sent r peer w.part refl on)
 
     fault_moves : (sent : List FrameView) (r : ℕ) (part : Part) (side : Side) (phase : Phase) → Moves target w sent (fault_phase r w part side phase)
@@ -225,7 +225,7 @@ claims_causes w Gets Fresh = refl
 claims_causes w part phase = refl
 
 learns_causes : (w : Work) (phase : Phase) (o : Option FrameView) → (learns w phase o).causes ≡ w.causes
-learns_causes w (Greets peer) (Some f) = if_found (λ (x : Work). x.causes ≡ w.causes) (option_is w.what.peer peer) (record w { version = Jobs.version_said w.version (line_in f.body) }) w (λ e. refl) (λ e. refl)
+learns_causes w (Greets peer) (Some f) = if_either (λ (x : Work). x.causes ≡ w.causes) (option_is w.what.peer peer) (record w { version = Jobs.version_said w.version (line_in f.body) }) w (λ e. refl) (λ e. refl)
 learns_causes w phase o = refl
 
 -- **how any entry of a job moves it**

@@ -12,8 +12,8 @@ use Rattle.node_model.specs.SetUp.{SetUp}
 use Rattle.run_model.specs.States.{state_of}
 use Rattle.node_model.specs.AnyTime.{MayCome}
 use Rattle.annex_base.specs.declared.kinds.Word.{Word}
+use Rattle.annex_base.proofs.Lists.{Each-filter, Each-member, Each-weaker}
 use Rattle.run_model.specs.Run.{IsStep, OwnPart, OwnRun}
-use Rattle.race_core.proofs.Plain.{each_filter, each_member, each_weaker}
 use Rattle.race_core.proofs.StepFacts.{kind_found}
 
 -- the numbers fall
@@ -26,7 +26,7 @@ falling_filter q [] a = tt
 falling_filter q (j ∷ js) a = go (falling_filter q js a.1) (q j) refl
   where
     go : Falling (filter q js) → (b : Bool) → q j ≡ b → Falling (filter q (j ∷ js))
-    go more true is = rw is (each_filter (λ x. x.number < j.number) q js a.0, more)
+    go more true is = rw is (Each-filter (λ x. x.number < j.number) q js a.0, more)
     go more false is = rw is more
 
 -- at most so many have begun
@@ -41,11 +41,11 @@ after_numbered : (n : ℕ) (js : List Running) (kind : EntryKind) → ((job : �
 after_numbered n js (Begin job what) next x =
     let is : job ≡ n + 1 = next job what refl in
     record {
-      bounded = (omega arith, each_weaker (λ (j : Running). j.number ≤ n) (λ (j : Running). j.number ≤ n + 1) (λ j h. omega arith) js x.bounded);
-      falling = (each_weaker (λ (j : Running). j.number ≤ n) (λ (j : Running). j.number < job) (λ j h. omega arith) js x.bounded, x.falling);
+      bounded = (omega arith, Each-weaker (λ (j : Running). j.number ≤ n) (λ (j : Running). j.number ≤ n + 1) (λ j h. omega arith) js x.bounded);
+      falling = (Each-weaker (λ (j : Running). j.number ≤ n) (λ (j : Running). j.number < job) (λ j h. omega arith) js x.bounded, x.falling);
     }
 after_numbered n js (ends_job job outcome) next x = record {
-  bounded = each_filter (λ (j : Running). j.number ≤ n) (λ (j : Running). not (j.number == job)) js x.bounded;
+  bounded = Each-filter (λ (j : Running). j.number ≤ n) (λ (j : Running). not (j.number == job)) js x.bounded;
   falling = falling_filter (λ (j : Running). not (j.number == job)) js x.falling;
 }
 after_numbered n js (Crash clock) next x = record { bounded = tt; falling = tt }
@@ -77,11 +77,11 @@ pub same_job : (js : List Running) → Falling js → (x y : Running) → Member
 same_job [] a x y m n e = absurd m
 same_job (j ∷ js) a x y (inl m) (inl n) e = m ∙ sym n
 same_job (j ∷ js) a x y (inl m) (inr n) e =
-    let below : y.number < j.number = each_member (λ (z : Running). z.number < j.number) js y a.0 n in
+    let below : y.number < j.number = Each-member (λ (z : Running). z.number < j.number) js y a.0 n in
     let at : x.number ≡ j.number = ap (λ (z : Running). z.number) m in
     absurd (omega arith)
 same_job (j ∷ js) a x y (inr m) (inl n) e =
-    let below : x.number < j.number = each_member (λ (z : Running). z.number < j.number) js x a.0 m in
+    let below : x.number < j.number = Each-member (λ (z : Running). z.number < j.number) js x a.0 m in
     let at : y.number ≡ j.number = ap (λ (z : Running). z.number) n in
     absurd (omega arith)
 same_job (j ∷ js) a x y (inr m) (inr n) e = same_job js a.1 x y m n e

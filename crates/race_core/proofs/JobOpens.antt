@@ -5,6 +5,7 @@ use Rattle.std.specs.List.{list_all}
 use Rattle.std.proofs.lemmas.Bool.{true≢false}
 use Rattle.annex_base.specs.Lists.{Each}
 use Rattle.annex_base.specs.declared.kinds.Call.{Call}
+use Rattle.annex_base.proofs.Conditions.{if_either}
 use Rattle.annex_base.specs.declared.kinds.Call.TheVariants as calls
 use Rattle.drop_proof.specs.declared.rule.Side.{Side}
 use Rattle.drop_proof.specs.declared.rule.Side.TheVariants.{Local, Remote}
@@ -29,7 +30,7 @@ use Rattle.node_model.specs.Ends.{frames, is_opening}
 use Rattle.node_model.specs.Sessions.{reaches}
 use Rattle.node_model.specs.Jobs
 use Rattle.node_model.specs.Jobs.{Part, Gets, Puts, Drops, Phase, Fresh, Next, Opens, Greets, GetsData, GetsBytes, GetsWord, PutsOffer, PutsBytes, PutsWord, PutsAnswer, AsksLock, AsksLook, AsksTime, job_end, partner, side_of, is_move}
-use Rattle.node_model.specs.Calls.{to_commit, to_hold, to_release}
+use Rattle.node_model.specs.Calls.{to_commit, to_hold, to_release, to_resume}
 use Rattle.node_model.specs.Look.{Made, failing, waiting}
 use Rattle.node_model.specs.SessionStep.{bytes_left}
 use Rattle.node_model.specs.Knows.{enough_by, next_by}
@@ -38,7 +39,7 @@ use Rattle.node_model.specs.DropStep.{asks_copy, asks_lock, asks_target, bars, e
 use Rattle.node_model.specs.Requests.{asks, goes_to}
 use Rattle.node_model.specs.TransferStep.{content_of, first_get, first_put, gains, next_get, next_source, puts_from, puts_piece, takes_bytes, takes_get, takes_put}
 use Rattle.node_model.specs.Turns.{awaits, by_partner, first_step, goes, goes_on, has_room, is_awaiting, judges, needs, next_step, outcome_of, takes, takes_answer, takes_frame, takes_text, with_partner}
-use Rattle.race_core.proofs.Cases.{if_found, unless_found}
+use Rattle.race_core.proofs.Cases.{unless_found}
 use Rattle.race_core.proofs.ServerEnds.{each_flat}
 use Rattle.race_core.proofs.EndMoves.{OpensNone, frames_none}
 use Rattle.race_core.proofs.Farewells.{farewell_none}
@@ -82,22 +83,22 @@ orders_calls t taken deadline m = one_calls t (Order t.w.number (target t) deadl
 target_calls : (t : Turn) (version : ℕ) (taken : Option FrameView) (end : Option ℕ) → Calls t (asks_target t version taken end)
 target_calls t version taken None = orders_calls t taken None (Remove (key_of t))
 target_calls t version taken (Some end) =
-    if_found (Calls t) (nat_lt version 3) (quietly (talk t) taken) (says_to t (talk t) taken (target t) GetTimestamp) (λ e. tt) (λ e. one_calls t (talk t) taken (target t) (Line (text_of GetTimestamp)) refl)
+    if_either (Calls t) (nat_lt version 3) (quietly (talk t) taken) (says_to t (talk t) taken (target t) GetTimestamp) (λ e. tt) (λ e. one_calls t (talk t) taken (target t) (Line (text_of GetTimestamp)) refl)
 
 copy_calls : (t : Turn) (version : ℕ) (taken : Option FrameView) (peer : ℕ) (side : Side) → Calls t (asks_copy t version taken peer side)
 copy_calls t version taken peer Local = one_calls t (talk t) taken peer (Line (text_of (LockContent (key_of t)))) refl
 copy_calls t version taken peer Remote =
-    if_found (Calls t) (target t == peer) (asks_target t version taken (first_end t)) (asks_lock t taken peer)
+    if_either (Calls t) (target t == peer) (asks_target t version taken (first_end t)) (asks_lock t taken peer)
     (λ e. target_calls t version taken (first_end t)) (λ e. one_calls t (talk t) taken peer (Line (text_of (LockContent (key_of t)))) refl)
 
 asks_calls : (t : Turn) (version : ℕ) (taken : Option FrameView) (peer : ℕ) (part : Part) → Calls t (asks t version taken peer part)
 asks_calls t version taken peer Gets =
-    attempts_calls t (calls.PartSize ∷ []) taken (says_to t (talk t) taken peer (Get t.look.part [] (key_of t))) (one_calls t (talk t) taken peer (Line (text_of (Get t.look.part [] (key_of t)))) refl)
+    attempts_calls t (to_resume t.look.part) taken (says_to t (talk t) taken peer (Get t.look.part [] (key_of t))) (one_calls t (talk t) taken peer (Line (text_of (Get t.look.part [] (key_of t)))) refl)
 asks_calls t version taken peer Puts = one_calls t (talk t) taken peer (Line (text_of (Put [] (key_of t)))) refl
 asks_calls t version taken peer Drops = copy_calls t version taken peer (side_of t.w)
 
 goes_to_calls : (t : Turn) (peer : ℕ) → Called t peer → Calls t (goes_to t peer)
-goes_to_calls t peer called = if_found (Calls t) (end_with t peer).opened (asks t t.w.version None peer t.w.part) (sends_to t (talk t) None peer (Opening ∷ []))
+goes_to_calls t peer called = if_either (Calls t) (end_with t peer).opened (asks t t.w.version None peer t.w.part) (sends_to t (talk t) None peer (Opening ∷ []))
     (λ o. asks_calls t t.w.version None peer t.w.part) (λ o. ((λ e. called), tt))
 
 -- ---- the steps that take no frame
@@ -119,7 +120,7 @@ first_drop_calls t Local = attempts_calls t (calls.Has ∷ []) None (bars t (row
 first_drop_calls t Remote = remote_calls t (required_there t)
 
 first_get_calls : (t : Turn) (here filled : Bool) (source : Option ℕ) → next_source t ≡ source → Calls t (first_get t here filled source)
-first_get_calls t true filled source is = if_found (Calls t) (is_move t.w.what.kind) (quietly (talk t) None) (ends t None (Got None None)) (λ e. tt) (λ e. ends_calls t None (Got None None))
+first_get_calls t true filled source is = if_either (Calls t) (is_move t.w.what.kind) (quietly (talk t) None) (ends t None (Got None None)) (λ e. tt) (λ e. ends_calls t None (Got None None))
 first_get_calls t false true source is = ends_calls t None (TransferRefused failures.Busy)
 first_get_calls t false false None is = tt
 first_get_calls t false false (Some peer) is = goes_to_calls t peer (inl is)
@@ -135,7 +136,7 @@ first_calls t Puts = attempts_calls t (calls.Has ∷ []) None (first_put t (is_t
 first_calls t Drops = first_drop_calls t (side_of t.w)
 
 removes_calls : (t : Turn) → Calls t (removes t)
-removes_calls t = if_found (Calls t) (in_time (clock_of t) (first_end t)) (attempts t (calls.Remove ∷ []) None (quietly (Gone (by_me t) (key_of t)) None)) (ends t None (expired (clock_of t) (first_end t)))
+removes_calls t = if_either (Calls t) (in_time (clock_of t) (first_end t)) (attempts t (calls.Remove ∷ []) None (quietly (Gone (by_me t) (key_of t)) None)) (ends t None (expired (clock_of t) (first_end t)))
     (λ e. attempts_calls t (calls.Remove ∷ []) None (quietly (Gone (by_me t) (key_of t)) None) tt) (λ e. ends_calls t None (expired (clock_of t) (first_end t)))
 
 judges_calls : (t : Turn) → t.w.part ≡ Drops → t.w.phase ≡ Next → (enough : Bool) (next : Option ℕ) (side : Side) → enough_by t.read t.w ≡ enough → next_by t.read t.w ≡ next → side_of t.w ≡ side → Calls t (judges t enough next side)
@@ -172,16 +173,16 @@ times_calls : (t : Turn) (f : FrameView) (n : ℕ) (end : Option ℕ) → Calls 
 times_calls t f n None = orders_calls t (Some f) None (Remove (key_of t))
 times_calls t f n (Some end) =
     let deadline = n + (end - clock_of t) / 1000 in
-    if_found (Calls t) (nat_lt (clock_of t) end) (orders t (Some f) (Some deadline) (RemoveBefore deadline (key_of t))) (ends t (Some f) (Refused (refusals.Expired end (clock_of t))))
+    if_either (Calls t) (nat_lt (clock_of t) end) (orders t (Some f) (Some deadline) (RemoveBefore deadline (key_of t))) (ends t (Some f) (Refused (refusals.Expired end (clock_of t))))
     (λ e. orders_calls t (Some f) (Some deadline) (RemoveBefore deadline (key_of t))) (λ e. ends_calls t (Some f) (Refused (refusals.Expired end (clock_of t))))
 
 time_calls : (t : Turn) (f : FrameView) (peer n : ℕ) (side : Side) → Calls t (takes_time t f peer n side)
 time_calls t f peer n Local = wrong_calls t f peer
-time_calls t f peer n Remote = if_found (Calls t) (nat_lt n (2 ^ 61)) (times t f n (first_end t)) (wrong t f peer) (λ e. times_calls t f n (first_end t)) (λ e. wrong_calls t f peer)
+time_calls t f peer n Remote = if_either (Calls t) (nat_lt n (2 ^ 61)) (times t f n (first_end t)) (wrong t f peer) (λ e. times_calls t f n (first_end t)) (λ e. wrong_calls t f peer)
 
 bytes_calls : (t : Turn) (f : FrameView) (peer n : ℕ) (phase : Phase) → Calls t (takes_bytes t f peer n phase)
 bytes_calls t f peer n (GetsBytes p start size left) =
-    if_found (Calls t) (nat_lt 0 n && nat_le n left) (attempts t (calls.Append ∷ []) (Some f) (quietly (talk t) (Some f))) (wrong t f peer)
+    if_either (Calls t) (nat_lt 0 n && nat_le n left) (attempts t (calls.Append ∷ []) (Some f) (quietly (talk t) (Some f))) (wrong t f peer)
     (λ e. attempts_calls t (calls.Append ∷ []) (Some f) (quietly (talk t) (Some f)) tt) (λ e. wrong_calls t f peer)
 bytes_calls t f peer n phase = wrong_calls t f peer
 
@@ -210,12 +211,12 @@ from_calls t f peer n =
     let m = Data (bytes_left (content_of t) n) in
     let good = if reaches (content_of t) n then says_to t (talk t) (Some f) peer m else wrong t f peer in
     attempts_calls t (calls.Size ∷ []) (Some f) good
-    (if_found (Calls t) (reaches (content_of t) n) (says_to t (talk t) (Some f) peer m) (wrong t f peer) (λ e. one_calls t (talk t) (Some f) peer (Line (text_of m)) refl) (λ e. wrong_calls t f peer))
+    (if_either (Calls t) (reaches (content_of t) n) (says_to t (talk t) (Some f) peer m) (wrong t f peer) (λ e. one_calls t (talk t) (Some f) peer (Line (text_of m)) refl) (λ e. wrong_calls t f peer))
 
 put_calls : (t : Turn) (f : FrameView) (peer : ℕ) (phase : Phase) (m : Message) → Calls t (takes_put t f peer phase m)
 put_calls t f peer (PutsOffer p) AlreadyHave = tt
 put_calls t f peer (PutsOffer p) Failure = tt
-put_calls t f peer (PutsOffer p) (Error text) = if_found (Calls t) (bytes_eq text (codes "busy")) (hears t f) (wrong t f peer) (λ e. tt) (λ e. wrong_calls t f peer)
+put_calls t f peer (PutsOffer p) (Error text) = if_either (Calls t) (bytes_eq text (codes "busy")) (hears t f) (wrong t f peer) (λ e. tt) (λ e. wrong_calls t f peer)
 put_calls t f peer (PutsOffer p) (PutFrom n) = from_calls t f peer n
 put_calls t f peer (PutsAnswer p start) Success = tt
 put_calls t f peer (PutsAnswer p start) Failure = tt
@@ -228,7 +229,7 @@ answer_calls t f peer Drops phase m = drop_calls t f peer phase m
 
 takes_calls : (t : Turn) (f : FrameView) (peer : ℕ) (phase : Phase) (m : Message) → Calls t (takes t f peer phase m)
 takes_calls t f peer (Opens p) (AuthSuccess id) = one_calls t (talk t) (Some f) peer (Line (text_of (Version 3))) refl
-takes_calls t f peer (Greets p) (Version n) = if_found (Calls t) (nat_le n 3) (asks t n (Some f) peer t.w.part) (wrong t f peer) (λ e. asks_calls t n (Some f) peer t.w.part) (λ e. wrong_calls t f peer)
+takes_calls t f peer (Greets p) (Version n) = if_either (Calls t) (nat_le n 3) (asks t n (Some f) peer t.w.part) (wrong t f peer) (λ e. asks_calls t n (Some f) peer t.w.part) (λ e. wrong_calls t f peer)
 takes_calls t f peer phase m = answer_calls t f peer t.w.part phase m
 
 text_calls : (t : Turn) (f : FrameView) (peer : ℕ) (m : Option Message) → Calls t (takes_text t f peer m)

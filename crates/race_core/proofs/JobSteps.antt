@@ -2,10 +2,12 @@
 use Rattle.std.proofs.Common.{◌≡◌, ◌≢◌, ℕ, Bool, true, false, List, [], ◌∷◌, Option, Some, None, ◌⊎◌, inl, inr, refl, sym, ap, ◌∙◌, subst, arith}
 use Rattle.std.specs.Prelude.{◌<◌, ◌^◌, if◌then◌else◌, ◌==◌, find, map, not}
 use Rattle.std.proofs.lemmas.Bool.Decides.{nat_tests}
+use Rattle.std.proofs.lemmas.Bool.{eqb-true}
 use Rattle.annex_base.specs.Lists.{Member}
 use Rattle.annex_base.specs.declared.kinds.Call.{Call}
 use Rattle.annex_base.specs.declared.kinds.Call.TheVariants.{PutFile}
 use Rattle.annex_base.specs.declared.kinds.Word.{Word}
+use Rattle.annex_base.proofs.Lists.{Member-filter_parts, find_member}
 use Rattle.run_data.specs.declared.entry.By.TheVariants.{Script}
 use Rattle.run_data.specs.declared.entry.Entry.{Entry}
 use Rattle.run_data.specs.declared.entry.EntryKind.{EntryKind}
@@ -31,8 +33,7 @@ use Rattle.node_model.specs.OwedStep.{owed_step}
 use Rattle.node_model.specs.Turns.{job_step, slot_step}
 use Rattle.run_model.specs.Run.{IsStep, OwnPart, OwnRun}
 use Rattle.node_model.specs.Found.{JobKind, SessionKind}
-use Rattle.race_core.proofs.Plain.{eqb_true, member_filter}
-use Rattle.race_core.proofs.Cases.{find_was, first_was, some_was}
+use Rattle.race_core.proofs.Cases.{first_was, some_was}
 use Rattle.race_core.proofs.SessionFacts.{session_found}
 use Rattle.race_core.proofs.JobFacts.{MadeBy, partner_found}
 use Rattle.race_core.proofs.StepFacts.{pays_found}
@@ -54,7 +55,7 @@ abbrev pub turn_at : (s : SetUp) (past : List Entry) (e : Entry) → Stepped s p
 turn_at s past e x = turn_of s (state_of s past) x.look x.w
 
 pub stepped_runs : (s : SetUp) (past : List Entry) (e : Entry) (x : Stepped s past e) → Member x.w (works past s.number)
-stepped_runs s past e x = (find_was (λ w. w.slot == x.slot) (works past s.number) x.w x.runs).0
+stepped_runs s past e x = (find_member (λ w. w.slot == x.slot) (works past s.number) x.w x.runs).0
 
 -- what it found, and what it takes
 pub stepped_found : (s : SetUp) (past : List Entry) (e : Entry) (x : Stepped s past e) → MadeBy (turn_at s past e x) x.made
@@ -232,7 +233,7 @@ module _ (s : SetUp) (past : List Entry) (e : Entry) (run : OwnRun s past) (made
   ]
     where
       is_number : (x : Stepped s past e) → x.w.number ≡ w.number
-      is_number x = eqb_true x.w.number w.number (subst (λ o. option_is o w.number ≡ true) (stepped_job s past e x) (step_is_job w.number e.kind step))
+      is_number x = eqb-true x.w.number w.number (subst (λ o. option_is o w.number ≡ true) (stepped_job s past e x) (step_is_job w.number e.kind step))
 
   mapped_origin : (w : Work) → Member w (map (work_after (rows_at past s.number) s.number e) (works past s.number)) → ((job : ℕ) (what : Job) → e.kind ≢ Begin job what)
       → ((j : ℕ) (outcome : Outcome) → e.kind ≢ ends_job j outcome) → ((clock : ℕ) → e.kind ≢ Crash clock) → Origin s past e w
@@ -268,7 +269,7 @@ module _ (s : SetUp) (past : List Entry) (e : Entry) (run : OwnRun s past) (made
     no_crash = λ clock g. let no_end : Begin job what ≡ Crash clock = sym is ∙ g in cc;
   }))
   origin_by w (ends_job job outcome) is m =
-      let x = member_filter (λ (w : Work). not (w.number == job)) (works past s.number) w m in
+      let x = Member-filter_parts (λ (w : Work). not (w.number == job)) (works past s.number) w m in
       let off : (job == w.number) ≡ false = not_same w.number job x.1 in
       inr (inl (record {
         ran = x.0;

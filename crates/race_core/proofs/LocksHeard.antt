@@ -1,9 +1,9 @@
 -- Of whom a job has a lock: in its transfer of nobody, and a remote drop not of its target; and what it has it keeps.
-use Rattle.std.proofs.Common.{◌≡◌, ◌≢◌, ℕ, Bool, true, false, List, [], ◌∷◌, Option, Some, ◌⊎◌, inl, inr, refl, sym, ap, ◌∙◌, subst, arith}
+use Rattle.std.proofs.Common.{◌≡◌, ◌≢◌, ℕ, Bool, true, false, List, [], ◌∷◌, Option, Some, ◌⊎◌, inl, inr, refl, sym, ap, ◌∙◌, subst}
 use Rattle.std.specs.Prelude.{◌==◌, find, option_map}
-use Rattle.std.proofs.lemmas.Bool.{true≢false}
-use Rattle.std.proofs.lemmas.Bool.Decides.{nat_tests}
+use Rattle.std.proofs.lemmas.Bool.{true≢false, eqb-true, ne_eqb}
 use Rattle.annex_base.specs.Lists.{Member}
+use Rattle.annex_base.proofs.Conditions.{eqb_refl}
 use Rattle.drop_proof.specs.declared.rule.Side.TheVariants.{Remote}
 use Rattle.run_data.specs.declared.entry.Entry.{Entry}
 use Rattle.run_data.specs.declared.entry.EntryKind.{EntryKind}
@@ -25,7 +25,6 @@ use Rattle.race_core.proofs.TalkFacts.{Fits}
 use Rattle.race_core.proofs.PhaseFacts.{GoodTo}
 use Rattle.race_core.proofs.WorkFits.{step_kind, step_runs, step_sent, step_talk, steps_good, works_fit}
 use Rattle.race_core.proofs.HeardLists.{Changed, SameList, kind_changed, share_or, talker_is}
-use Rattle.race_core.proofs.Plain.{eqb_refl, eqb_true}
 use Rattle.race_core.proofs.Asking.{Came, is_on_one, kind_came}
 use Rattle.race_core.proofs.Aims.{aims, other_target}
 use Rattle.race_core.proofs.Dialogue.{kept}
@@ -40,16 +39,6 @@ first_held q h heard p e = rw e refl
 
 other_held : (q : ℕ) (h : Heard) (heard : List (ℕ × Heard)) (p : ℕ) → (q == p) ≡ false → held_in ((q, h) ∷ heard) p ≡ held_in heard p
 other_held q h heard p e = rw e refl
-
-apart_no : (q p : ℕ) → q ≢ p → (q == p) ≡ false
-apart_no q p apart = go (q == p) refl
-  where
-    same : (q == p) ≡ true → q ≡ p
-    same e = grind (arith, nat_tests)
-
-    go : (b : Bool) → (q == p) ≡ b → b ≡ false
-    go true e = absurd (apart (same e))
-    go false e = refl
 
 -- ---- how a step changes the list
 
@@ -124,7 +113,7 @@ module _ (s : SetUp) (past : List Entry) (e : Entry) (x : Work) (b : Steps s pas
     where
       whom_other : (l : Longer s.number v x) → (l.whom == p) ≡ false
       whom_other l = elim (l.from) [
-        | inl own ↦ apart_no l.whom p (λ same. apart (sym same ∙ own))
+        | inl own ↦ ne_eqb l.whom p (λ same. apart (sym same ∙ own))
         | inr on ↦ (let y : option_is (Some l.whom) p ≡ false = subst (λ (o : Option ℕ). option_is o p ≡ false) on off in y)
       ]
 
@@ -249,7 +238,7 @@ free_of s past run w m = invariant s (λ p x. FreeOf s x) (λ p e is x n was. wa
             of_longer l true e = first_held l.whom l.told v.heard (target_of s.number v) e ∙ not_held (is_held (Some l.told)) refl
               where
                 same : l.whom ≡ target_of s.number v
-                same = eqb_true l.whom (target_of s.number v) e
+                same = eqb-true l.whom (target_of s.number v) e
 
                 not_held : (c : Bool) → is_held (Some l.told) ≡ c → c ≡ false
                 not_held false h = refl

@@ -1,13 +1,12 @@
 -- The lines that are kept of a log say what all lines say that were ever added to it.
-use Rattle.std.proofs.Common.{◌≡◌, ◌≢◌, ◌⊎◌, inl, inr, ℕ, true, false, List, [], ◌∷◌, ◌++◌, Option, Some, None, refl, sym, ap, ◌∙◌, true≢false}
-use Rattle.std.specs.Str.{bytes_eq}
+use Rattle.std.proofs.Common.{◌≡◌, ◌≢◌, ◌⊎◌, inl, inr, ℕ, List, [], ◌∷◌, ◌++◌, Option, Some, None, refl, sym, ap, ◌∙◌}
 use Rattle.std.proofs.lemmas.Bool.{cases_Bool}
-use Rattle.std.proofs.lemmas.Slice.Eq.{bytes_eq-Decides}
 use Rattle.log_lines.specs.declared.entry.LogKind.{LogKind}
 use Rattle.log_lines.specs.declared.entry.LogKind.TheVariants as kinds
 use Rattle.log_lines.specs.Newest.{newest, ReadAlike}
 use Rattle.log_lines.proofs.NewestLemmas.{alike_by_members}
 use Rattle.annex_base.proofs.Lists.{Member-append_cases, Member-append_left, Member-append_right}
+use Rattle.annex_base.proofs.Conditions.{bytes_eq_tells}
 use Rattle.log_lines.proofs.CompactLemmas.{compacted_alike, alike_both}
 use Rattle.union_merge.specs.LineSet.{union}
 use Rattle.union_merge.specs.Branch.{Files, file_at, or_none, lines_at, with_file, merged_file}
@@ -29,13 +28,6 @@ use Rattle.run_model.specs.Logs.{added_by, ever, compact_file, branch_after, bra
 
 abbrev Lines : Type 0
 Lines = List (List ℕ)
-
--- two texts are the same or not, and the test tells which
-pub bytes_eq_tells : (x y : List ℕ) → ((bytes_eq x y ≡ true) × (x ≡ y)) ⊎ ((bytes_eq x y ≡ false) × (x ≢ y))
-bytes_eq_tells x y = elim (cases_Bool (bytes_eq x y)) [
-  | inl is ↦ inl (is, (bytes_eq-Decides x y).0 is)
-  | inr other ↦ inr (other, λ same. true≢false (sym ((bytes_eq-Decides x y).1 same) ∙ other))
-]
 
 -- ---- a path tells the kind of its log
 

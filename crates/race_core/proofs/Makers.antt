@@ -1,7 +1,8 @@
 -- Who made an own entry: nobody, but that ends are closed; a session; or a job. And who takes a frame.
 use Rattle.std.proofs.Common.{◌≡◌, ℕ, Bool, true, false, List, [], Option, Some, None, ◌⊎◌, inl, inr, refl, sym, ap, ◌∙◌, subst}
 use Rattle.std.specs.Prelude.{◌==◌, ◌&&◌, if◌then◌else◌}
-use Rattle.std.proofs.lemmas.Bool.{true≢false}
+use Rattle.std.proofs.lemmas.Bool.{true≢false, and_parts}
+use Rattle.std.proofs.lemmas.Option.{same_Some}
 use Rattle.annex_base.specs.Lists.{Member}
 use Rattle.run_data.specs.declared.entry.FrameView.{FrameView}
 use Rattle.node_model.specs.Ends.{same_bool, may_take, takes_at, server_end}
@@ -16,7 +17,6 @@ use Rattle.node_model.specs.Jobs.{Work, job_end, partner}
 use Rattle.node_model.specs.OwedStep.{owed_step}
 use Rattle.node_model.specs.Look.{Made}
 use Rattle.run_model.specs.Run.{ComesAnyTime, IsStep, OwnPart}
-use Rattle.race_core.proofs.Plain.{and_true, some_inj}
 use Rattle.race_core.proofs.Cases.{some_was}
 use Rattle.race_core.proofs.SessionFacts.{session_found}
 use Rattle.race_core.proofs.StepFacts.{pays_found}
@@ -62,8 +62,8 @@ who s past words e own = elim (own.does) [
 -- what a session takes comes up
 pub session_takes_up : (s : SetUp) (past : List Entry) (e : Entry) (p q : ℕ) → TakesHere s past (server_end p q) e ⊎ GivesHere s past (server_end p q) e → (f : FrameView) → e.taken ≡ Some f → f.up ≡ true
 session_takes_up s past e p q (inl y) f took =
-    let same : f ≡ y.f = some_inj f y.f (sym took ∙ y.taken_is) in
-    ap (λ (g : FrameView). g.up) same ∙ up_only y.f.up (and_true ((y.f.peer == p) && (y.f.slot == q)) (same_bool false (if y.f.up then false else true)) y.of_end).1
+    let same : f ≡ y.f = same_Some f y.f (sym took ∙ y.taken_is) in
+    ap (λ (g : FrameView). g.up) same ∙ up_only y.f.up (and_parts ((y.f.peer == p) && (y.f.slot == q)) (same_bool false (if y.f.up then false else true)) y.of_end).1
   where
     up_only : (b : Bool) → same_bool false (if b then false else true) ≡ true → b ≡ true
     up_only true e = refl
@@ -91,7 +91,7 @@ pub record TakenBy (s : SetUp) (past : List Entry) (e : Entry) (f : FrameView) :
 pub stepped_takes : (s : SetUp) (past : List Entry) (e : Entry) (x : Stepped s past e) (f : FrameView) → e.taken ≡ Some f → (k : JobTakes (turn_at s past e x) x.made) × (k.f ≡ f)
 stepped_takes s past e x f took = elim ((stepped_found s past e x).frame) [
   | inl none ↦ absurd (let bad : None ≡ Some f = sym none ∙ made_took in cc)
-  | inr k ↦ (k, some_inj k.f f (sym k.taken_is ∙ made_took))
+  | inr k ↦ (k, same_Some k.f f (sym k.taken_is ∙ made_took))
 ]
   where
     made_took : x.made.taken ≡ Some f

@@ -1,15 +1,15 @@
 -- The merge of what several repositories added has each one's entries in its order, and all in order of time, count and number.
 use Rattle.std.proofs.Common.{◌≡◌, ◌≢◌, ℕ, zero, suc, ◌+◌, ◌<◌, ◌≤◌, Bool, true, false, cond, ◌⊎◌, inl, inr, List, [], ◌∷◌, Some, refl, sym, ap, ◌∙◌, arith}
 use Rattle.std.specs.Prelude.{◌&&◌, ◌||◌, filter, ◌==◌, nat_lt}
+use Rattle.std.proofs.lemmas.Bool.{and_parts, and_from, eqb-true, or_left, or_right, or_cases, ltb-true, ne_eqb}
 use Rattle.annex_base.specs.Lists.{Each}
 use Rattle.annex_base.specs.declared.kinds.EntryStamp.{EntryStamp}
+use Rattle.annex_base.proofs.Conditions.{if_either, eqb_refl}
+use Rattle.annex_base.proofs.Lists.{Each-weaker}
 use Rattle.run_data.specs.declared.entry.Entry.{Entry}
 use Rattle.run_model.specs.Past.{is_of}
 use Rattle.run_model.specs.Run.{repo_number}
 use Rattle.race_core.specs.Merged.{IsMerge, Rising, earlier, insert, merge, merge_all, new_of, stamp_of, stands_before}
-use Rattle.race_core.proofs.Cases.{if_found}
-use Rattle.race_core.proofs.Lists.{Each-weaker, and_true, both, eqb_refl, eqb_true, or_left, or_right, or_true}
-use Rattle.race_core.proofs.Plain.{lt_true}
 
 -- ---- stamps
 
@@ -24,24 +24,24 @@ eq_is : (a b : ℕ) → a ≡ b → (a == b) ≡ true
 eq_is a b h = grind arith
 
 pub was_earlier : (a b : EntryStamp) → earlier a b ≡ true → Earlier a b
-was_earlier a b h = elim (or_true _ _ h) [
-  | inl l ↦ inl (lt_true a.time b.time l)
-  | inr k ↦ let t = and_true _ _ k in inr (
-    eqb_true a.time b.time t.0,
-    elim (or_true _ _ t.1) [
-      | inl l ↦ inl (lt_true a.count b.count l)
-      | inr m ↦ let u = and_true _ _ m in inr (eqb_true a.count b.count u.0, lt_true a.repo b.repo u.1)
+was_earlier a b h = elim (or_cases _ _ h) [
+  | inl l ↦ inl (ltb-true a.time b.time l)
+  | inr k ↦ let t = and_parts _ _ k in inr (
+    eqb-true a.time b.time t.0,
+    elim (or_cases _ _ t.1) [
+      | inl l ↦ inl (ltb-true a.count b.count l)
+      | inr m ↦ let u = and_parts _ _ m in inr (eqb-true a.count b.count u.0, ltb-true a.repo b.repo u.1)
     ],
   )
 ]
 
 pub is_earlier : (a b : EntryStamp) → Earlier a b → earlier a b ≡ true
 is_earlier a b (inl l) = or_left _ _ (lt_is a.time b.time l)
-is_earlier a b (inr h) = or_right _ _ (both _ _ (eq_is a.time b.time h.0) (counts h.1))
+is_earlier a b (inr h) = or_right _ _ (and_from _ _ (eq_is a.time b.time h.0) (counts h.1))
   where
     counts : (a.count < b.count) ⊎ ((a.count ≡ b.count) × (a.repo < b.repo)) → (nat_lt a.count b.count || ((a.count == b.count) && nat_lt a.repo b.repo)) ≡ true
     counts (inl l) = or_left _ _ (lt_is a.count b.count l)
-    counts (inr k) = or_right _ _ (both _ _ (eq_is a.count b.count k.0) (lt_is a.repo b.repo k.1))
+    counts (inr k) = or_right _ _ (and_from _ _ (eq_is a.count b.count k.0) (lt_is a.repo b.repo k.1))
 
 trans : (a b c : EntryStamp) → Earlier a b → Earlier b c → Earlier a c
 trans a b c (inl h) (inl k) = inl (omega arith)
@@ -82,8 +82,8 @@ or_earlier a b same other = elim (cases a.count b.count) [
     cases m n = go (nat_lt m n) (nat_lt n m) refl refl
       where
         go : (b c : Bool) → nat_lt m n ≡ b → nat_lt n m ≡ c → (m < n) ⊎ ((n < m) ⊎ (m ≡ n))
-        go true c h k = inl (lt_true m n h)
-        go false true h k = inr (inl (lt_true n m k))
+        go true c h k = inl (ltb-true m n h)
+        go false true h k = inr (inl (ltb-true n m k))
         go false false h k = inr (inr (grind arith))
 
 -- ---- an entry is put in
@@ -94,11 +94,11 @@ Apart e f = (stands_before e f ≡ true) ⊎ (stands_before f e ≡ true)
 
 insert_each : (P : Entry → Type 0) (e : Entry) (fs : List Entry) → P e → Each P fs → Each P (insert e fs)
 insert_each P e [] p h = (p, tt)
-insert_each P e (f ∷ fs) p h = if_found (λ xs. Each P xs) (stands_before e f) (e ∷ f ∷ fs) (f ∷ insert e fs) (λ is. (p, h)) (λ is. (h.0, insert_each P e fs p h.1))
+insert_each P e (f ∷ fs) p h = if_either (λ xs. Each P xs) (stands_before e f) (e ∷ f ∷ fs) (f ∷ insert e fs) (λ is. (p, h)) (λ is. (h.0, insert_each P e fs p h.1))
 
 insert_rising : (e : Entry) (fs : List Entry) → Rising fs → Each (Apart e) fs → Rising (insert e fs)
 insert_rising e [] h k = (tt, tt)
-insert_rising e (f ∷ fs) h k = if_found Rising (stands_before e f) (e ∷ f ∷ fs) (f ∷ insert e fs)
+insert_rising e (f ∷ fs) h k = if_either Rising (stands_before e f) (e ∷ f ∷ fs) (f ∷ insert e fs)
     (λ is. ((is, Each-weaker (λ g. stands_before f g ≡ true) (λ g. stands_before e g ≡ true) (λ g l. earlier_trans (stamp_of e) (stamp_of f) (stamp_of g) is l) fs h.0), h))
     (λ is. (insert_each (λ g. stands_before f g ≡ true) e fs (after is k.0) h.0, insert_rising e fs h.1 k.1))
   where
@@ -109,7 +109,7 @@ insert_rising e (f ∷ fs) h k = if_found Rising (stands_before e f) (e ∷ f �
 -- it is one of r, and stands before the others of r
 insert_own : (r : ℕ) (e : Entry) (fs : List Entry) → is_of r e ≡ true → Each (λ f. is_of r f ≡ true → stands_before e f ≡ true) fs → filter (is_of r) (insert e fs) ≡ e ∷ filter (is_of r) fs
 insert_own r e [] is h = rw is refl
-insert_own r e (f ∷ fs) is h = if_found (λ xs. filter (is_of r) xs ≡ e ∷ filter (is_of r) (f ∷ fs)) (stands_before e f) (e ∷ f ∷ fs) (f ∷ insert e fs)
+insert_own r e (f ∷ fs) is h = if_either (λ xs. filter (is_of r) xs ≡ e ∷ filter (is_of r) (f ∷ fs)) (stands_before e f) (e ∷ f ∷ fs) (f ∷ insert e fs)
     (λ l. rw is refl)
     (λ l. go l (insert_own r e fs is h.1) (is_of r f) refl)
   where
@@ -120,7 +120,7 @@ insert_own r e (f ∷ fs) is h = if_found (λ xs. filter (is_of r) xs ≡ e ∷ 
 -- or of another
 insert_other : (r : ℕ) (e : Entry) (fs : List Entry) → is_of r e ≡ false → filter (is_of r) (insert e fs) ≡ filter (is_of r) fs
 insert_other r e [] is = rw is refl
-insert_other r e (f ∷ fs) is = if_found (λ xs. filter (is_of r) xs ≡ filter (is_of r) (f ∷ fs)) (stands_before e f) (e ∷ f ∷ fs) (f ∷ insert e fs)
+insert_other r e (f ∷ fs) is = if_either (λ xs. filter (is_of r) xs ≡ filter (is_of r) (f ∷ fs)) (stands_before e f) (e ∷ f ∷ fs) (f ∷ insert e fs)
     (λ l. rw is refl)
     (λ l. ap (λ xs. cond (is_of r f) (f ∷ xs) xs) (insert_other r e fs is))
 
@@ -139,9 +139,6 @@ record Merges (t n : ℕ) (ess : List (List Entry)) (all : List Entry) : Type 0 
 is_same : (r q : ℕ) (e : Entry) → e.repo ≡ Some q → is_of r e ≡ (q == r)
 is_same r q e h = rw h refl
 
-not_same : (q r : ℕ) → q ≢ r → (q == r) ≡ false
-not_same q r h = grind arith
-
 none_own : (r : ℕ) (fs : List Entry) → Each (λ f. is_of r f ≡ false) fs → filter (is_of r) fs ≡ []
 none_own r [] h = refl
 none_own r (f ∷ fs) h = rw h.0 (none_own r fs h.1)
@@ -152,7 +149,7 @@ module _ (t n : ℕ) (fs : List Entry) (made : Each (λ e. (r : ℕ) × (e.repo 
   merge_each P (e ∷ es) h k = insert_each P e (merge es fs) h.0 (merge_each P es h.1 k)
 
   others : Each (λ f. is_of n f ≡ false) fs
-  others = Each-weaker _ _ (λ f m. is_same n m.0 f m.1 ∙ not_same m.0 n (λ same. let l = m.2 in omega (arith, l, same))) fs made
+  others = Each-weaker _ _ (λ f m. is_same n m.0 f m.1 ∙ ne_eqb m.0 n (λ same. let l = m.2 in omega (arith, l, same))) fs made
 
   apart : (e : Entry) → e.repo ≡ Some n → e.time ≡ t → Each (Apart e) fs
   apart e is at = Each-weaker _ _ (λ f m. or_earlier (stamp_of e) (stamp_of f) (at ∙ sym m.3)
@@ -170,7 +167,7 @@ module _ (t n : ℕ) (fs : List Entry) (made : Each (λ e. (r : ℕ) × (e.repo 
 
   merge_other : (r : ℕ) (es : List Entry) → n ≢ r → Each (λ e. (e.repo ≡ Some n) × (e.time ≡ t)) es → filter (is_of r) (merge es fs) ≡ filter (is_of r) fs
   merge_other r [] other h = refl
-  merge_other r (e ∷ es) other h = insert_other r e (merge es fs) (is_same r n e h.0.0 ∙ not_same n r other) ∙ merge_other r es other h.1
+  merge_other r (e ∷ es) other h = insert_other r e (merge es fs) (is_same r n e h.0.0 ∙ ne_eqb n r other) ∙ merge_other r es other h.1
 
 merges : (t n : ℕ) (ess : List (List Entry)) → IsNews t n ess → Merges t n ess (merge_all ess)
 merges t n [] h = record { rising = tt; made = tt; own = λ k r is. refl }

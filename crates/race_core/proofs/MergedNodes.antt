@@ -2,8 +2,10 @@
 use Rattle.std.proofs.Common.{◌≡◌, ℕ, ◌+◌, ◌<◌, ◌≤◌, Bool, true, false, ◌⊎◌, inl, inr, List, [], ◌∷◌, ◌++◌, length, refl, sym, ap, ◌∙◌, subst, arith}
 use Rattle.std.proofs.lemmas.List.{reverse-append}
 use Rattle.std.specs.Prelude.{◌&&◌, ◌==◌, filter, if◌then◌else◌, nat_lt, reverse}
+use Rattle.std.proofs.lemmas.Bool.{eqb-true}
 use Rattle.annex_base.specs.Lists.{Each}
 use Rattle.annex_base.specs.declared.kinds.EntryStamp.{EntryStamp}
+use Rattle.annex_base.proofs.Conditions.{if_either}
 use Rattle.annex_key.specs.Tree.{paths_of}
 use Rattle.run_data.specs.declared.entry.Entry.{Entry}
 use Rattle.run_data.specs.declared.entry.EntryKind.{EntryKind}
@@ -17,11 +19,9 @@ use Rattle.race_core.proofs.OwnPasts.{mine}
 use Rattle.node_model.specs.SetUp.{SetUp}
 use Rattle.run_model.specs.Run.{ComesAfter, IsRun, Ordered, paths_at, paths_begun, set_up, tree_at}
 use Rattle.race_core.specs.Merged.{Came, Follow, GivenIn, IsNext, Kept, Letter, MayMerge, NodeKeeps, earlier, history, last_count, merged, new_of, paths_with, set_up_with}
-use Rattle.race_core.proofs.Cases.{if_found}
 use Rattle.race_core.proofs.HistoriesGrow.{kept_paths}
 use Rattle.race_core.proofs.JobNumbers.{begins_next}
 use Rattle.race_core.proofs.OwnParts.{begun_own}
-use Rattle.race_core.proofs.Lists.{eqb_true}
 use Rattle.race_core.proofs.MergedLists.{is_earlier}
 use Rattle.race_core.proofs.MergedOrder.{of_time}
 use Rattle.race_core.proofs.MergedRuns.{always_of, filter_reverse, merged_runs_are_runs}
@@ -100,8 +100,8 @@ paths_same run r paths got old was before (e ∷ es) h k j l = go e.kind refl l 
 
     go : (kind : EntryKind) → e.kind ≡ kind → j ≤ (if is_of r e && is_begin kind then begun (es ++ old) r + 1 else begun (es ++ old) r) → (j ≤ begun (es ++ old) r → rest ≡ paths j)
         → paths_begun run.tree (length run.entries) j rest kind ≡ paths j
-    go (Begin job what) is l ih = if_found (λ x. x ≡ paths j) (job == j) (paths_of (tree_at run.tree (length run.entries)) what.key) rest
-        (λ at. sym (h.0 job what is) ∙ ap paths (eqb_true job j at))
+    go (Begin job what) is l ih = if_either (λ x. x ≡ paths j) (job == j) (paths_of (tree_at run.tree (length run.entries)) what.key) rest
+        (λ at. sym (h.0 job what is) ∙ ap paths (eqb-true job j at))
         (λ other. ih (let n = begins job what is in let m = one_more (is_of r e && true) (begun (es ++ old) r) l in grind arith))
     go kind is l ih = ih (same (is_of r e && false) (begun (es ++ old) r) (and_no (is_of r e)) l)
 

@@ -3,13 +3,14 @@ use Rattle.std.proofs.Common.{◌≡◌, ℕ, ◌<◌, ◌≤◌, ◌^◌, Bool,
 use Rattle.std.proofs.lemmas.List.{reverse-append, reverse-reverse}
 use Rattle.std.specs.Prelude.{filter, reverse, nat_lt}
 use Rattle.annex_base.specs.Lists.{Each}
+use Rattle.annex_base.proofs.Lists.{Each-append, Each-weaker, Each-reverse}
+use Rattle.annex_base.proofs.Conditions.{eqb_refl}
 use Rattle.run_data.specs.declared.entry.Entry.{Entry}
 use Rattle.run_data.specs.declared.entry.EntryKind.{EntryKind}
 use Rattle.run_data.specs.declared.entry.EntryKind.TheVariants.{Wait}
 use Rattle.run_model.specs.Past.{Always, Occurs, is_of, now}
 use Rattle.run_model.specs.Run.{ComesAfter, IsSmall, Ordered, TimeIs}
 use Rattle.race_core.specs.Merged.{Follow, Rising, stamp_of, stands_before}
-use Rattle.race_core.proofs.Lists.{Each-append, Each-weaker, eqb_refl}
 use Rattle.race_core.proofs.FromStep.{in_order}
 use Rattle.race_core.proofs.MergedLists.{earlier_trans, is_earlier, was_earlier}
 
@@ -17,10 +18,6 @@ use Rattle.race_core.proofs.MergedLists.{earlier_trans, is_earlier, was_earlier}
 
 pub reverse_cons : {X : Type 0} (x : X) (xs : List X) → reverse (x ∷ xs) ≡ reverse xs ++ x ∷ []
 reverse_cons x xs = reverse-append (x ∷ []) xs
-
-pub reverse_each : {X : Type 0} (P : X → Type 0) (xs : List X) → Each P xs → Each P (reverse xs)
-reverse_each P [] h = tt
-reverse_each P (x ∷ xs) h = subst (Each P) (sym (reverse_cons x xs)) (Each-append P (reverse xs) (x ∷ []) (reverse_each P xs h.1) (h.0, tt))
 
 -- what is so of the entries of each repository is so of all
 pub each_by_own : (P : Entry → Type 0) (es : List Entry) → ((r : ℕ) → Each P (filter (is_of r) es)) → Each (λ e. (r : ℕ) × (e.repo ≡ Some r)) es → Each P es
@@ -53,11 +50,11 @@ rising_last (f ∷ es) e h k = (Each-append (λ g. stands_before f g ≡ true) e
 
 pub rising_falls : (es : List Entry) → Rising es → Falling (reverse es)
 rising_falls [] h = tt
-rising_falls (e ∷ es) h = subst Falling (sym (reverse_cons e es)) (falling_last (reverse es) e (rising_falls es h.1) (reverse_each (λ f. stands_before e f ≡ true) es h.0))
+rising_falls (e ∷ es) h = subst Falling (sym (reverse_cons e es)) (falling_last (reverse es) e (rising_falls es h.1) (Each-reverse (λ f. stands_before e f ≡ true) es h.0))
 
 falling_rises : (es : List Entry) → Falling es → Rising (reverse es)
 falling_rises [] h = tt
-falling_rises (e ∷ es) h = subst Rising (sym (reverse_cons e es)) (rising_last (reverse es) e (falling_rises es h.1) (reverse_each (λ f. stands_before f e ≡ true) es h.0))
+falling_rises (e ∷ es) h = subst Rising (sym (reverse_cons e es)) (rising_last (reverse es) e (falling_rises es h.1) (Each-reverse (λ f. stands_before f e ≡ true) es h.0))
 
 -- ---- an entry in order
 

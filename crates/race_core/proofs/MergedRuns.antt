@@ -4,8 +4,11 @@ use Rattle.std.proofs.lemmas.List.{length-reverse, reverse-append, reverse-rever
 use Rattle.std.proofs.lemmas.List.Elements.{filter-append}
 use Rattle.std.specs.Prelude.{◌&&◌, filter, find, map, nat_le, nat_lt, reverse, slice_get, if◌then◌else◌, ◌==◌}
 use Rattle.std.specs.List.{fold}
+use Rattle.std.proofs.lemmas.Option.{same_Some}
 use Rattle.annex_base.specs.Lists.{Each}
 use Rattle.annex_base.specs.declared.kinds.Word.{Word}
+use Rattle.annex_base.proofs.Lists.{Each-both, Each-right, Each-reverse, slice_get-left}
+use Rattle.annex_base.proofs.Conditions.{eqb_refl}
 use Rattle.annex_key.specs.Tree.{Entries, paths_of, with_key}
 use Rattle.run_data.specs.declared.entry.Entry.{Entry}
 use Rattle.run_data.specs.declared.entry.EntryKind.{EntryKind}
@@ -25,13 +28,11 @@ use Rattle.run_model.specs.Run.{FramesPart, IsRun, MayBe, OnlyWaits, Ordered, Ow
 use Rattle.race_core.specs.Merged.{Came, IsMerge, KeptStep, Letter, MayMerge, Rising, TakesNext, earlier, history, letter_of, letters, merge_all, merged, new_of, paths_with, set_up_with, stamp_of, stands_before, word_got, word_in, word_read}
 use Rattle.race_core.proofs.OwnState.{state_own}
 use Rattle.race_core.proofs.OwnParts.{part_whole}
-use Rattle.race_core.proofs.Lists.{Each-both, Each-right, eqb_refl}
-use Rattle.race_core.proofs.Flights.{always_before, get_append, get_none, map_member, occurs_always, some_inj}
+use Rattle.race_core.proofs.Flights.{always_before, get_append, get_none, map_member, occurs_always}
 use Rattle.race_core.proofs.Told.{taker_way, some_option}
 use Rattle.race_core.proofs.OwnWhole.{mine_occurs}
 use Rattle.race_core.proofs.MergedLists.{IsNews, is_merge, never_earlier, earlier_trans}
-use Rattle.race_core.proofs.MergedOrder.{IsNew, each_by_own, follow_new, follow_rises, new_ordered, occurs_before, reverse_cons, reverse_each, rising_falls}
-use Rattle.race_core.proofs.Plain.{get_left}
+use Rattle.race_core.proofs.MergedOrder.{IsNew, each_by_own, follow_new, follow_rises, new_ordered, occurs_before, reverse_cons, rising_falls}
 
 -- ---- lists and pasts
 
@@ -57,7 +58,7 @@ filter_reverse p (x ∷ xs) = ap (filter p) (reverse_cons x xs) ∙ filter-appen
 
 get_map : {X Y : Type 0} (f : X → Y) (xs : List X) (k : ℕ) (y : Y) → slice_get (map f xs) k ≡ Some y → (x : X) × (slice_get xs k ≡ Some x) × (f x ≡ y)
 get_map f [] k y h = absurd (get_none k y h)
-get_map f (x ∷ xs) zero y h = (x, refl, some_inj (f x) y h)
+get_map f (x ∷ xs) zero y h = (x, refl, same_Some (f x) y h)
 get_map f (x ∷ xs) (suc k) y h = get_map f xs k y h
 
 -- ---- the set-up
@@ -185,7 +186,7 @@ always_more P Q f [] base h k = k
 always_more P Q f (e ∷ es) base h k = (f (es ++ base) e h.0, always_more P Q f es base h.1 k)
 
 reversed_each : (P : Entry → Type 0) (es : List Entry) → Each P (reverse es) → Each P es
-reversed_each P es h = subst (Each P) (reverse-reverse es) (reverse_each P (reverse es) h)
+reversed_each P es h = subst (Each P) (reverse-reverse es) (Each-reverse P (reverse es) h)
 
 module _ (run : Run) (news : List (List Entry)) (got : ℕ → Way → List Letter) (may : MayMerge run news got) where
   new_repo : (r : ℕ) → r < length run.repos → Each (λ e. e.repo ≡ Some r) (new_of news r)
@@ -193,7 +194,7 @@ module _ (run : Run) (news : List (List Entry)) (got : ℕ → Way → List Lett
       (reversed_each _ (filter (is_of r) run.entries ++ new_of news r) (always_each _ _ (λ p e k. k.own) (history run news r) (may.kept r l)))
 
   new_own : (r : ℕ) → r < length run.repos → Each (IsNew (reverse run.entries) (length run.repos)) (new_of news r)
-  new_own r l = reversed_each _ (new_of news r) (follow_new (reverse run.entries) (length run.repos) r (reverse (new_of news r)) l (may.follow r l) (reverse_each _ (new_of news r) (new_repo r l)))
+  new_own r l = reversed_each _ (new_of news r) (follow_new (reverse run.entries) (length run.repos) r (reverse (new_of news r)) l (may.follow r l) (Each-reverse _ (new_of news r) (new_repo r l)))
 
   new_any : (r : ℕ) → Each (IsNew (reverse run.entries) (length run.repos)) (new_of news r)
   new_any r = go (nat_lt r (length run.repos)) refl
@@ -234,19 +235,19 @@ module _ (run : Run) (news : List (List Entry)) (got : ℕ → Way → List Lett
   new_all = each_by_own _ all (λ r. subst (Each _) (sym (merge.own r)) (new_any run news got may r)) merge.made
 
   ordered : Always Ordered past
-  ordered = new_ordered base (length run.repos) (reverse all) (always_of (set_up run) Ordered (λ p e x. x.order) base old.steps) (reverse_each _ all new_all) (rising_falls all merge.rising)
+  ordered = new_ordered base (length run.repos) (reverse all) (always_of (set_up run) Ordered (λ p e x. x.order) base old.steps) (Each-reverse _ all new_all) (rising_falls all merge.rising)
 
   -- ---- an entry of a repository
 
   known_all : Always (λ p e. (r : ℕ) → e.repo ≡ Some r → r < length run.repos) past
-  known_all = always_more _ (IsNew base (length run.repos)) (λ p e x r is. subst (λ q. q < length run.repos) (same (sym x.is ∙ is)) x.known) (reverse all) base (reverse_each _ all new_all)
+  known_all = always_more _ (IsNew base (length run.repos)) (λ p e x r is. subst (λ q. q < length run.repos) (same (sym x.is ∙ is)) x.known) (reverse all) base (Each-reverse _ all new_all)
       (always_of (set_up run) _ (λ p e x r is. let m : MayBe (set_up run) p e (Some r) = subst (λ (o : Option ℕ). MayBe (set_up run) p e o) is x.may in m.1.known) base old.steps)
     where
       same : {q r : ℕ} → Some q ≡ Some r → q ≡ r
       same h = cc
 
   waits_all : Always (λ p e. e.repo ≡ None → OnlyWaits e) past
-  waits_all = always_more _ (IsNew base (length run.repos)) (λ p e x is. absurd (never (sym x.is ∙ is))) (reverse all) base (reverse_each _ all new_all)
+  waits_all = always_more _ (IsNew base (length run.repos)) (λ p e x is. absurd (never (sym x.is ∙ is))) (reverse all) base (Each-reverse _ all new_all)
       (always_of (set_up run) _ (λ p e x is. subst (λ (o : Option ℕ). MayBe (set_up run) p e o) is x.may) base old.steps)
     where
       never : {q : ℕ} → Some q ≡ None → ⊥
@@ -273,7 +274,7 @@ module _ (run : Run) (news : List (List Entry)) (got : ℕ → Way → List Lett
       let c : Came (got r w) (history run news (sender_of w)) w = may.came r (sender_of w) w (known e before o r is) (taker_way r f) refl in
       let there : letters past w ≡ got r w ++ c.rest = letters_own w past ∙ ap (λ p. letters p w) (mine_is (sender_of w)) ∙ c.is in
       let in_all : slice_get (letters past w) (taken (mine r before) w) ≡ Some t.letter =
-      subst (λ xs. slice_get xs (taken (mine r before) w) ≡ Some t.letter) (sym there) (get_left (got r w) c.rest (taken (mine r before) w) t.letter t.next) in
+      subst (λ xs. slice_get xs (taken (mine r before) w) ≡ Some t.letter) (sym there) (slice_get-left (got r w) c.rest (taken (mine r before) w) t.letter t.next) in
       let x = get_map letter_of (sent past w) (taken (mine r before) w) t.letter in_all in
       record {
         reads = record {

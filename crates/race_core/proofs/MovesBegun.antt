@@ -1,7 +1,9 @@
 -- A move's drop begins as the entries tell, over a repository's own past: by the first step of a get, or by an answer to VALID or to PUT.
 use Rattle.std.proofs.Common.{◌≡◌, ◌≢◌, ℕ, true, false, List, [], ◌∷◌, Option, Some, None, ◌⊎◌, inl, inr, refl, sym, ap, ◌∙◌, subst}
 use Rattle.std.specs.Prelude.{◌==◌, ◌&&◌, ◌||◌, not, option_map}
+use Rattle.std.proofs.lemmas.Bool.{and_from, or_right}
 use Rattle.annex_base.specs.Lists.{Member}
+use Rattle.annex_base.proofs.Conditions.{eqb_refl}
 use Rattle.run_data.specs.declared.entry.By.{By}
 use Rattle.run_data.specs.declared.entry.Entry.{Entry}
 use Rattle.run_data.specs.declared.entry.EntryKind.{EntryKind}
@@ -24,7 +26,6 @@ use Rattle.node_model.specs.Jobs.{Drops, Phase, PutsAnswer, PutsOffer, Work, cla
 use Rattle.run_model.specs.States.{rows_at, works}
 use Rattle.node_model.specs.Found.{JobKind}
 use Rattle.run_model.specs.Run.{OwnPast}
-use Rattle.race_core.proofs.Plain.{both_true, eqb_refl, or_right}
 use Rattle.race_core.proofs.PhaseFacts.{readies_place}
 use Rattle.race_core.proofs.JobSteps.{Stepped, turn_at, Steps}
 use Rattle.race_core.proofs.WorkFits.{step_kind, step_number, step_runs}
@@ -84,7 +85,7 @@ module _ (s : SetUp) where
       let said : has_it (message_in f.body) asked ≡ true =
       subst (λ q. has_it q asked ≡ true) (sym (said_is f.body has.0 has.1)) (has_said x.w.phase has.0 asked has.2 (λ peer start is. last_valid s past e h x f at.1 answer peer start is)) in
       let down : f.up ≡ false = (hears s past e x f at.1).1 in
-      let heard : hears_has_it past s.number e.taken ≡ true = subst (λ o. hears_has_it past s.number o ≡ true) (sym at.1) (both_true (not f.up) (has_it (message_in f.body) asked) (ap not down) said) in
+      let heard : hears_has_it past s.number e.taken ≡ true = subst (λ o. hears_has_it past s.number o ≡ true) (sym at.1) (and_from (not f.up) (has_it (message_in f.body) asked) (ap not down) said) in
       or_right (is_quiet e.taken e.sent && not (has_stepped past s.number x.w.number)) (hears_has_it past s.number e.taken) heard
 
   kind_begins : (past : List Entry) (e : Entry) → OwnPast s (e ∷ past) → (x : Stepped s past e) → Member x.w (works past s.number) → (kind : EntryKind) → JobKind (turn_at s past e x) x.made kind

@@ -2,7 +2,9 @@
 use Rattle.std.proofs.Common.{◌≡◌, ℕ, ◌+◌, ◌<◌, ◌≤◌, Bool, true, false, List, [], ◌∷◌, Option, Some, None, ◌⊎◌, inl, inr, refl, sym, ap, ◌∙◌, subst, arith}
 use Rattle.std.proofs.lemmas.Bool.Decides.{nat_tests}
 use Rattle.std.specs.Prelude.{if◌then◌else◌, ◌==◌, ◌&&◌, not, option_map}
+use Rattle.std.proofs.lemmas.Bool.{or_from, and_right}
 use Rattle.annex_base.specs.Lists.{Member}
+use Rattle.annex_base.proofs.Conditions.{if_either}
 use Rattle.run_data.specs.declared.entry.Entry.{Entry}
 use Rattle.run_data.specs.declared.entry.EntryKind.{EntryKind}
 use Rattle.run_data.specs.declared.entry.EntryKind.TheVariants.{Begin, Gain, Share, Bar, Order, Gone, Talk, Fault, End as ends_job}
@@ -35,14 +37,13 @@ use Rattle.node_model.specs.TransferStep.{takes_put}
 use Rattle.node_model.specs.Found.{JobKind}
 use Rattle.node_model.specs.Turns.{by_partner, takes, takes_answer, takes_frame}
 use Rattle.run_model.specs.Run.{OwnPast, OwnRun}
-use Rattle.race_core.proofs.Cases.{if_found}
 use Rattle.race_core.proofs.JobSteps.{Origin, Steps, invariant, turn_at}
 use Rattle.race_core.proofs.JobNumbers.{begins_next}
 use Rattle.race_core.proofs.WorkNumbers.{number_begun}
 use Rattle.race_core.proofs.PhaseFacts.{GoodTo, is_fresh, readies_place}
 use Rattle.race_core.proofs.TalkFacts.{Fits}
 use Rattle.race_core.proofs.WorkFits.{step_kind, step_number, step_runs, steps_good, works_fit}
-use Rattle.race_core.proofs.Untouched.{begun_before, begins_later, fresh_is, not_yet, off_or}
+use Rattle.race_core.proofs.Untouched.{begun_before, begins_later, fresh_is, not_yet}
 use Rattle.race_core.proofs.ClientCounts.{answers_here}
 use Rattle.race_core.proofs.ClientLeaves.{Taking}
 use Rattle.race_core.proofs.ClientTurns.{made_entry, moved, rows_of, talker, talker_slot}
@@ -52,7 +53,6 @@ use Rattle.race_core.proofs.FreshSteps.{MovesLate, puts_was}
 use Rattle.race_core.proofs.Makers.{taken_of}
 use Rattle.race_core.proofs.BySteps.{earlier}
 use Rattle.race_core.proofs.Decisions.{more_off}
-use Rattle.race_core.proofs.Plain.{and_no}
 
 -- ---- an answer by which the peer has the content ends a copy
 
@@ -78,7 +78,7 @@ wrong_dead t f peer x part is =
     shut = subst (λ (a : EndName). (end_after a (t.ends a) e).opened ≡ false) (sym same) (rw ((answers_here t.w peer f (end_with t peer) Closing x.of_end).sends_here) refl)
 
 transferred_dead : (w : Work) (o : Outcome) → (transferred w o).part ≡ Puts → is_live (transferred w o).phase ≡ false
-transferred_dead w o = if_found (λ (x : Work). x.part ≡ Puts → is_live x.phase ≡ false) (Jobs.is_move w.what.kind) (record w { part = Drops; phase = Fresh; fills = false }) (record w { phase = Ends o; fills = false })
+transferred_dead w o = if_either (λ (x : Work). x.part ≡ Puts → is_live x.phase ≡ false) (Jobs.is_move w.what.kind) (record w { part = Drops; phase = Fresh; fills = false }) (record w { phase = Ends o; fills = false })
     (λ h part. absurd (let both : Drops ≡ Puts = part in cc)) (λ h part. refl)
 
 heard_dead : (t : Turn) (f : FrameView) (peer : ℕ) → Taking t f peer → (m : Message) (phase : Phase) → t.w.phase ≡ phase → line_in f.body ≡ Some m
@@ -135,10 +135,10 @@ still_starts p r j e (Talk job) still off = rw still refl
 still_starts p r j e kind still off = refl
 
 in_more : (p : List Entry) (r j : ℕ) (e : Entry) → in_drop p r j ≡ false → starts_drop p r j e e.kind ≡ false → in_drop (e ∷ p) r j ≡ false
-in_more p r j e was starts = off_or (in_drop p r j) (is_of r e && starts_drop p r j e e.kind) was (and_no (is_of r e) (starts_drop p r j e e.kind) starts)
+in_more p r j e was starts = or_from (in_drop p r j) (is_of r e && starts_drop p r j e e.kind) was (and_right (is_of r e) (starts_drop p r j e e.kind) starts)
 
 in_other : (p : List Entry) (r j : ℕ) (e : Entry) → is_of r e ≡ false → in_drop p r j ≡ false → in_drop (e ∷ p) r j ≡ false
-in_other p r j e other was = off_or (in_drop p r j) (is_of r e && starts_drop p r j e e.kind) was (rw other refl)
+in_other p r j e other was = or_from (in_drop p r j) (is_of r e && starts_drop p r j e e.kind) was (rw other refl)
 
 less_off : (a b : ℕ) → a < b → (a == b) ≡ false
 less_off a b h = grind (arith, nat_tests)
@@ -228,7 +228,7 @@ module _ (s : SetUp) (p : List Entry) (e : Entry) (h : OwnPast s (e ∷ p)) (is 
   quiet_not part live = go (is_fresh v.phase) refl
     where
       go : (c : Bool) → is_fresh v.phase ≡ c → (is_quiet e.taken e.sent && not (has_stepped p s.number v.number)) ≡ false
-      go false at = and_no (is_quiet e.taken e.sent) (not (has_stepped p s.number v.number)) (ap not (stepped_on s p before.run v runs at))
+      go false at = and_right (is_quiet e.taken e.sent) (not (has_stepped p s.number v.number)) (ap not (stepped_on s p before.run v runs at))
       go true at = sent e.sent refl
         where
           sent : (fs : List FrameView) → e.sent ≡ fs → (is_quiet e.taken e.sent && not (has_stepped p s.number v.number)) ≡ false
@@ -244,13 +244,13 @@ module _ (s : SetUp) (p : List Entry) (e : Entry) (h : OwnPast s (e ∷ p)) (is 
     where
       go : (o : Option FrameView) → e.taken ≡ o → hears_has_it p s.number o ≡ false
       go None took = refl
-      go (Some f) took = and_no (not f.up) _ (takes_none part live f took (option_map said_of (last_request p (up_of (way_of s.number f)))))
+      go (Some f) took = and_right (not f.up) _ (takes_none part live f took (option_map said_of (last_request p (up_of (way_of s.number f)))))
 
   starts_not : x.part ≡ Puts → is_live x.phase ≡ true → starts_drop p s.number v.number e e.kind ≡ false
   starts_not part live = go e.kind (step_kind s p e x b)
     where
       go : (kind : EntryKind) → JobKind t b.by.made kind → starts_drop p s.number v.number e kind ≡ false
-      go (Talk (Some j)) k = and_no (option_is (Some j) v.number) _ (off_or (is_quiet e.taken e.sent && not (has_stepped p s.number v.number)) (hears_has_it p s.number e.taken) (quiet_not part live) (heard_not part live))
+      go (Talk (Some j)) k = and_right (option_is (Some j) v.number) _ (or_from (is_quiet e.taken e.sent && not (has_stepped p s.number v.number)) (hears_has_it p s.number e.taken) (quiet_not part live) (heard_not part live))
       go (Gain by size key) k = absurd (word_unfit k.peer k.start size (subst (λ q. Fits q (Jobs.GetsWord k.peer k.start size)) v_part (subst (Fits v.part) k.phase_is (works_fit s p before.run v runs))))
       go (Share hold end by key) k = refl
       go (Bar j need key) k = refl
@@ -270,7 +270,7 @@ puts_under s past h w m = invariant s (λ p x. OwnPast s p → Under s p x) (λ 
     own p e r is was x (inl b) h part live =
         let first : first_part b.what.kind ≡ Puts = sym (ap (λ (y : Work). y.part) b.work_is) ∙ part in
         in_more p s.number x.number e (unbegun_in s p r.1 x.number (begins_later s p e r is x b))
-        (subst (λ k. starts_drop p s.number x.number e k ≡ false) (sym b.kind_is) (and_no (b.job == x.number) (is_drop b.what.kind) (begins_none b.what.kind first)))
+        (subst (λ k. starts_drop p s.number x.number e k ≡ false) (sym b.kind_is) (and_right (b.job == x.number) (is_drop b.what.kind) (begins_none b.what.kind first)))
     own p e r is was x (inr (inl b)) h part live =
         let mine = r.0 is in
         let below : x.number ≤ begun p s.number = number_begun s p r.1 x b.ran in

@@ -1,6 +1,7 @@
 -- What the drop of each removal read of the logs, local and remote: its need, and the key of its job.
 use Rattle.std.proofs.Common.{◌≡◌, ℕ, ◌≤◌, List, [], ◌∷◌, Some, inl, inr, refl, sym, ap, ◌∙◌, subst, arith}
 use Rattle.std.specs.Prelude.{slice_get}
+use Rattle.std.proofs.lemmas.Option.{same_Some}
 use Rattle.annex_base.specs.Lists.{Member}
 use Rattle.drop_proof.specs.declared.rule.Need.{Need}
 use Rattle.run_data.specs.declared.entry.By.TheVariants.{Job as by_job}
@@ -14,7 +15,6 @@ use Rattle.race_core.specs.Places.{count_at, removal_at, removals_at}
 use Rattle.race_core.specs.Readings.{Judge, judge_at, key_read}
 use Rattle.race_core.specs.Removals.{IsAt, IsReadBefore, IsRemovalBefore}
 use Rattle.race_core.proofs.Changes.{Obeys, Removes, removal_was, repo_of}
-use Rattle.race_core.proofs.Flights.{some_inj}
 use Rattle.race_core.proofs.Dropped.{dropped, judged_by}
 use Rattle.race_core.proofs.AtPlaces.{enough_least}
 use Rattle.race_core.proofs.ClaimSources.{least_of_all, least_removal, removal_counts}
@@ -32,7 +32,7 @@ pub key_judged : (run : Run) (key : List ℕ) (place : ℕ) (e : Entry) (x : Rem
 key_judged run key place e x judge h at is judge_is = elim (removal_was run.repos e (past_at run place) key x is) [ inl t ↦ by_own t | inr t ↦ by_order t ]
   where
     is_read : (y : Judge) → judge_at run place e ≡ Some y → key_read y ≡ key → key_read judge ≡ key
-    is_read y y_is k = subst (λ z. key_read z ≡ key) (some_inj y judge (sym y_is ∙ judge_is)) k
+    is_read y y_is k = subst (λ z. key_read z ≡ key) (same_Some y judge (sym y_is ∙ judge_is)) k
 
     by_own : Removes run.repos e (past_at run place) key x → key_read judge ≡ key
     by_own t =
@@ -42,7 +42,7 @@ key_judged run key place e x judge h at is judge_is = elim (removal_was run.repo
     by_order : Obeys run.repos e (past_at run place) key x → key_read judge ≡ key
     by_order t =
         let o = order_obeyed run place t.r t.a t.slot key h (record { entry = e; entry_is = at; repo_is = t.repo_is; kind_is = t.kind_is }) in
-        let same : o.taken.entry ≡ e = some_inj o.taken.entry e (sym o.taken.entry_is ∙ at) in
+        let same : o.taken.entry ≡ e = same_Some o.taken.entry e (sym o.taken.entry_is ∙ at) in
         is_read (record { repo = t.a; job = o.j; past = past_at run o.at }) (subst (λ y. judge_at run place y ≡ Some (record { repo = t.a; job = o.j; past = past_at run o.at })) same o.judge_is)
         (orderer_read run o.at t.a o.j t.r o.deadline o.need key h o.order)
 

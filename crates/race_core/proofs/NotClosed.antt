@@ -4,6 +4,7 @@ use Rattle.std.proofs.Common.{◌≡◌, ℕ, ◌+◌, Bool, true, false, List, 
 use Rattle.std.specs.Prelude.{if◌then◌else◌, ◌==◌, nat_lt}
 use Rattle.std.specs.List.{list_all}
 use Rattle.annex_base.specs.declared.kinds.Call.{Call}
+use Rattle.annex_base.proofs.Conditions.{if_either}
 use Rattle.annex_base.specs.declared.kinds.Call.TheVariants as calls
 use Rattle.drop_proof.specs.declared.rule.Side.{Side}
 use Rattle.drop_proof.specs.declared.rule.Side.TheVariants.{Local, Remote}
@@ -20,7 +21,7 @@ use Rattle.node_model.specs.Rows.{is_lost_ordered}
 use Rattle.node_model.specs.Evidence.{Standing, Asked}
 use Rattle.p2p_wire.specs.declared.message.Message.TheVariants.{Get, GetTimestamp}
 use Rattle.node_model.specs.Jobs.{Drops, Fresh, Gets, Next, Part, Phase, Puts, is_move, partner, side_of}
-use Rattle.node_model.specs.Calls.{to_hold}
+use Rattle.node_model.specs.Calls.{to_hold, to_resume}
 use Rattle.node_model.specs.Look.{Made}
 use Rattle.node_model.specs.Knows.{enough_by, next_by}
 use Rattle.node_model.specs.JobStep.{Turn, attempts, bar_there, by_me, clock_of, end_with, ends, farewells, is_there, key_of, me, quietly, says_to, sends_to, talk}
@@ -28,7 +29,6 @@ use Rattle.node_model.specs.DropStep.{asks_copy, asks_lock, asks_target, bars, e
 use Rattle.node_model.specs.Requests.{asks, goes_to}
 use Rattle.node_model.specs.TransferStep.{first_get, first_put, next_get, next_source}
 use Rattle.node_model.specs.Turns.{by_partner, first_step, goes, has_room, judges, needs, next_step}
-use Rattle.race_core.proofs.Cases.{if_found}
 use Rattle.race_core.proofs.ClientSteps.{attempts_even}
 
 abbrev NotOf : Outcome → Type 0
@@ -50,19 +50,19 @@ ends_not t o good = attempts_not t _ None (record { kind = ends_job t.w.number o
 
 target_not : (t : Turn) (version : ℕ) (taken : Option FrameView) (end : Option ℕ) → Not (asks_target t version taken end)
 target_not t version taken None = tt
-target_not t version taken (Some end) = if_found Not (nat_lt version 3) (quietly (talk t) taken) (says_to t (talk t) taken (target t) GetTimestamp) (λ e. tt) (λ e. tt)
+target_not t version taken (Some end) = if_either Not (nat_lt version 3) (quietly (talk t) taken) (says_to t (talk t) taken (target t) GetTimestamp) (λ e. tt) (λ e. tt)
 
 copy_not : (t : Turn) (version : ℕ) (taken : Option FrameView) (peer : ℕ) (side : Side) → Not (asks_copy t version taken peer side)
 copy_not t version taken peer Local = tt
-copy_not t version taken peer Remote = if_found Not (target t == peer) (asks_target t version taken (first_end t)) (asks_lock t taken peer) (λ e. target_not t version taken (first_end t)) (λ e. tt)
+copy_not t version taken peer Remote = if_either Not (target t == peer) (asks_target t version taken (first_end t)) (asks_lock t taken peer) (λ e. target_not t version taken (first_end t)) (λ e. tt)
 
 asks_not : (t : Turn) (version : ℕ) (taken : Option FrameView) (peer : ℕ) (part : Part) → Not (asks t version taken peer part)
-asks_not t version taken peer Gets = attempts_not t (calls.PartSize ∷ []) taken (says_to t (talk t) taken peer (Get t.look.part [] (key_of t))) tt
+asks_not t version taken peer Gets = attempts_not t (to_resume t.look.part) taken (says_to t (talk t) taken peer (Get t.look.part [] (key_of t))) tt
 asks_not t version taken peer Puts = tt
 asks_not t version taken peer Drops = copy_not t version taken peer (side_of t.w)
 
 goes_not : (t : Turn) (peer : ℕ) → Not (goes_to t peer)
-goes_not t peer = if_found Not (end_with t peer).opened (asks t t.w.version None peer t.w.part) (sends_to t (talk t) None peer (Opening ∷ [])) (λ e. asks_not t t.w.version None peer t.w.part) (λ e. tt)
+goes_not t peer = if_either Not (end_with t peer).opened (asks t t.w.version None peer t.w.part) (sends_to t (talk t) None peer (Opening ∷ [])) (λ e. asks_not t t.w.version None peer t.w.part) (λ e. tt)
 
 expired_not : (t : Turn) (clk : ℕ) (end : Option ℕ) → Not (ends t None (expired clk end))
 expired_not t clk None = ends_not t (expired clk None) tt
@@ -71,7 +71,7 @@ expired_not t clk (Some end) = ends_not t (expired clk (Some end)) tt
 judges_not : (t : Turn) (enough : Bool) (next : Option ℕ) (side : Side) → Not (judges t enough next side)
 judges_not t false (Some peer) side = goes_not t peer
 judges_not t false None side = ends_not t (lacking t) tt
-judges_not t true next Local = if_found Not (in_time (clock_of t) (first_end t)) (attempts t (calls.Remove ∷ []) None (quietly _ None)) (ends t None (expired (clock_of t) (first_end t)))
+judges_not t true next Local = if_either Not (in_time (clock_of t) (first_end t)) (attempts t (calls.Remove ∷ []) None (quietly _ None)) (ends t None (expired (clock_of t) (first_end t)))
     (λ e. attempts_not t (calls.Remove ∷ []) None (quietly _ None) tt) (λ e. expired_not t (clock_of t) (first_end t))
 judges_not t true next Remote = goes_not t (target t)
 
@@ -85,7 +85,7 @@ next_not t Gets = source_not t (next_source t)
 next_not t Puts = source_not t (next_source t)
 
 get_not : (t : Turn) (here filled : Bool) (source : Option ℕ) → Not (first_get t here filled source)
-get_not t true filled source = if_found Not (is_move t.w.what.kind) (quietly (talk t) None) (ends t None (Got None None)) (λ e. tt) (λ e. ends_not t (Got None None) tt)
+get_not t true filled source = if_either Not (is_move t.w.what.kind) (quietly (talk t) None) (ends t None (Got None None)) (λ e. tt) (λ e. ends_not t (Got None None) tt)
 get_not t false true source = ends_not t (TransferRefused failures.Busy) tt
 get_not t false false None = tt
 get_not t false false (Some peer) = goes_not t peer

@@ -2,6 +2,7 @@
 -- that begins has read nothing before.
 use Rattle.std.proofs.Common.{◌≡◌, ◌≢◌, ℕ, ◌+◌, ◌<◌, ◌≤◌, Bool, true, false, List, [], ◌∷◌, Option, Some, None, ◌⊎◌, inl, inr, refl, sym, ap, ◌∙◌, subst, arith}
 use Rattle.std.specs.Prelude.{if◌then◌else◌, ◌&&◌, ◌||◌, ◌==◌}
+use Rattle.std.proofs.lemmas.Bool.{ne_eqb}
 use Rattle.annex_base.specs.Lists.{Member}
 use Rattle.run_data.specs.declared.entry.Entry.{Entry}
 use Rattle.run_data.specs.declared.entry.EntryKind.{EntryKind}
@@ -19,7 +20,6 @@ use Rattle.node_model.specs.Jobs.{Drops, Gets, Part, Phase, Puts, Work, is_move,
 use Rattle.run_model.specs.States.{rows_at, works}
 use Rattle.node_model.specs.AnyTime.{IsPeer}
 use Rattle.run_model.specs.Run.{OwnRun}
-use Rattle.race_core.proofs.Plain.{eqb_true}
 use Rattle.race_core.proofs.JobNumbers.{begins_next}
 use Rattle.race_core.proofs.JobKept.{kind_kept}
 use Rattle.race_core.proofs.JobSteps.{Origin, Steps, invariant, stepped_found, turn_at}
@@ -34,15 +34,8 @@ use Rattle.race_core.proofs.TransferStuck.{kind_stuck}
 
 -- ---- a job whose step an entry is not
 
-eqb_false : (a b : ℕ) → a ≢ b → (a == b) ≡ false
-eqb_false a b apart = go (a == b) refl
-  where
-    go : (c : Bool) → (a == b) ≡ c → c ≡ false
-    go true is = absurd (apart (eqb_true a b is))
-    go false is = refl
-
 still_starts : (past : List Entry) (r j : ℕ) (e : Entry) (kind : EntryKind) → ((job : ℕ) (what : Job) → kind ≡ Begin job what → job ≢ j) → is_step j kind ≡ false → starts_drop past r j e kind ≡ false
-still_starts past r j e (Begin job what) apart still = rw (eqb_false job j (apart job what refl)) refl
+still_starts past r j e (Begin job what) apart still = rw (ne_eqb job j (apart job what refl)) refl
 still_starts past r j e (Gain source size key) apart still = still
 still_starts past r j e (Talk job) apart still = rw still refl
 still_starts past r j e kind apart still = refl

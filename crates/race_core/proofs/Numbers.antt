@@ -1,9 +1,11 @@
 -- The evidence of a run's removals as a number: of distinct repositories, none of them the one that loses the content; and how many copies
 -- and claims a removal leaves.
-use Rattle.std.proofs.Common.{◌≡◌, ℕ, ◌+◌, ◌<◌, ◌≤◌, true, not, ◌||◌, List, [], ◌∷◌, length, Some, ◌⊎◌, inl, inr, refl, sym, subst, arith}
+use Rattle.std.proofs.Common.{◌≡◌, ℕ, ◌+◌, ◌<◌, ◌≤◌, true, not, ◌||◌, List, length, Some, ◌⊎◌, inl, inr, refl, sym, subst, arith}
 use Rattle.std.specs.Prelude.{◌≢◌, AllPairs, ◌==◌, count_by, max, slice_get}
 use Rattle.std.specs.List.{range_with_len}
+use Rattle.std.proofs.lemmas.Bool.{or_left, or_right}
 use Rattle.annex_base.specs.Lists.{Each, Member}
+use Rattle.annex_base.proofs.Lists.{Each-member, Each-weaker, Each-from_members}
 use Rattle.drop_proof.specs.declared.evidence.Evidence.{Evidence}
 use Rattle.drop_proof.specs.declared.evidence.Kind.{Kind}
 use Rattle.drop_proof.specs.declared.evidence.Kind.TheVariants.{Locked, Trusted, Recent}
@@ -17,17 +19,11 @@ use Rattle.node_model.specs.Evidence.{is_locked, is_trusted}
 use Rattle.run_model.specs.Safety.{Removal, past_at}
 use Rattle.run_model.specs.Run.{IsRun}
 use Rattle.race_core.specs.Places.{claim_at, count_at, removal_at}
-use Rattle.race_core.proofs.Lists.{Each-at, Each-weaker, or_left, or_right}
 use Rattle.race_core.proofs.Changes.{same_repo}
 use Rattle.race_core.proofs.Gather.{MatchSide, evidence_each, never_target, range_member}
 use Rattle.race_core.proofs.Distinct.{Apart, all_full, apart_pairs, candidates_below, enough_items, evidence_apart, full_within, not_same, repos_in}
 use Rattle.race_core.proofs.Dropped.{judged_by}
 use Rattle.race_core.proofs.AtPlaces.{locked_left, trusted_left}
-
--- a fact of each member
-each_of : {X : Type 0} (P : X → Type 0) (xs : List X) → ((x : X) → Member x xs → P x) → Each P xs
-each_of P [] f = tt
-each_of P (x ∷ xs) f = (f x (inl refl), each_of P xs (λ y m. f y (inr m)))
 
 in_range : (side : Side) (a n : ℕ) → a < n → MatchSide side (Unit {0}) (a < n)
 in_range Local a n lt = tt
@@ -76,7 +72,7 @@ module _ (run : Run) (key : List ℕ) (place : ℕ) (e : Entry) (x : Removal) (h
 
   left : count_by is_full x.items ≤ count_at run key (place + 1)
   left = full_within (λ r. present (past_at run (place + 1)) r key || claim_at run key (place + 1) r) x.items (range_with_len 0 (length run.repos)) apart among
-      (each_of (λ i. is_full i ≡ true → (present (past_at run (place + 1)) i.repo key || claim_at run key (place + 1) i.repo) ≡ true) x.items counted)
+      (Each-from_members (λ i. is_full i ≡ true → (present (past_at run (place + 1)) i.repo key || claim_at run key (place + 1) i.repo) ≡ true) x.items counted)
 
   enough : max x.need.n x.need.m ≤ length x.items
   enough = let w = judged_by run key place e x h at is in enough_items x.side x.need x.items w.2.enough
@@ -89,11 +85,11 @@ items_distinct run key place e x h at is = apart_pairs x.items (apart run key pl
 -- none of them the one that loses the content
 pub never_the_target : (run : Run) (key : List ℕ) (place r : ℕ) (e : Entry) (x : Removal) (item : Evidence) → IsRun run → slice_get run.entries place ≡ Some e → removal_at run key place e ≡ Some x
     → is_of r e ≡ true → Member item x.items → item.repo ≢ r
-never_the_target run key place r e x item h at is own m = Each-at (λ (i : Evidence). i.repo ≢ r) item x.items (others run key place e x h at is r own) m
+never_the_target run key place r e x item h at is own m = Each-member (λ (i : Evidence). i.repo ≢ r) x.items item (others run key place e x h at is r own) m
 
 pub of_the_run : (run : Run) (key : List ℕ) (place : ℕ) (e : Entry) (x : Removal) (item : Evidence) → IsRun run → slice_get run.entries place ≡ Some e → removal_at run key place e ≡ Some x
     → Member item x.items → item.repo < length run.repos
-of_the_run run key place e x item h at is m = Each-at (λ (i : Evidence). i.repo < length run.repos) item x.items (below run key place e x h at is) m
+of_the_run run key place e x item h at is m = Each-member (λ (i : Evidence). i.repo < length run.repos) x.items item (below run key place e x h at is) m
 
 -- a removal leaves at least as many copies and claims as its drop had locked and trusted items
 pub evidence_left : (run : Run) (key : List ℕ) (place : ℕ) (e : Entry) (x : Removal) → IsRun run → slice_get run.entries place ≡ Some e → removal_at run key place e ≡ Some x
@@ -104,4 +100,4 @@ evidence_left run key place e x h at is = left run key place e x h at is
 pub need_left : (run : Run) (key : List ℕ) (place : ℕ) (e : Entry) (x : Removal) → IsRun run → slice_get run.entries place ≡ Some e → removal_at run key place e ≡ Some x
     → ((item : Evidence) → Member item x.items → is_full item ≡ true) → max x.need.n x.need.m ≤ count_at run key (place + 1)
 need_left run key place e x h at is full =
-    omega (arith, left run key place e x h at is, enough run key place e x h at is, all_full x.items (each_of (λ i. is_full i ≡ true) x.items full))
+    omega (arith, left run key place e x h at is, enough run key place e x h at is, all_full x.items (Each-from_members (λ i. is_full i ≡ true) x.items full))

@@ -10,12 +10,10 @@ use Rattle.std.proofs.lemmas.Bool.{lt-ltb}
 use Rattle.std.proofs.lemmas.Bool.Decides.{nat_tests}
 use Rattle.std.proofs.lemmas.Fmt.{digits_value-decimal}
 use Rattle.std.proofs.lemmas.List.{drop_at, take_at}
-use Rattle.std.proofs.lemmas.Str.Parse.{IsNumeralModel, digit_from_value, numerals_by_value, tells_digits}
+use Rattle.std.proofs.lemmas.Str.Parse.{digit_from_value}
+use Rattle.annex_base.proofs.DecimalLemmas.{numerals}
 use Rattle.p2p_wire.specs.declared.message.Message.TheVariants.{Timestamp}
 use Rattle.p2p_wire.specs.Messages.{after_space, is_space, message_of, number_in, rest_in, text_of, word_in}
-
-pub numerals : IsNumeralModel (AllDigits 10) (digits_value 10)
-numerals = numerals_by_value (AllDigits 10) tells_digits
 
 space_apart : (c : ℕ) → digit_value c < 10 → is_space c ≡ false
 space_apart c small = let in_range = digit_from_value c small in grind (arith, nat_tests)

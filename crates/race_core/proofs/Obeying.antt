@@ -1,8 +1,9 @@
 -- An order that is obeyed: its sender's evidence was enough and is in time, and its job isn't done.
 use Rattle.std.proofs.Common.{◌≡◌, ℕ, zero, suc, ◌+◌, ◌-◌, ◌*◌, ◌/◌, ◌<◌, ◌≤◌, Bool, true, false, cond, List, [], ◌∷◌, length, take, Option, Some, None, inl, inr, refl, sym, ap, ◌∙◌, subst, arith}
 use Rattle.std.specs.Prelude.{filter, if◌then◌else◌}
-use Rattle.std.proofs.lemmas.Bool.{true≢false}
+use Rattle.std.proofs.lemmas.Bool.{true≢false, cases_Bool}
 use Rattle.annex_base.specs.Lists.{Each, Member}
+use Rattle.annex_base.proofs.Conditions.{eqb_refl}
 use Rattle.drop_proof.specs.declared.rule.Need.{Need}
 use Rattle.drop_proof.specs.declared.rule.Side.TheVariants.{Remote}
 use Rattle.drop_proof.specs.Judging.{is_enough, least_end}
@@ -20,7 +21,6 @@ use Rattle.run_model.specs.Frames.{Flying, MayTake, Way, is_job, on_way, request
 use Rattle.run_model.specs.Drops.{done, evidence}
 use Rattle.race_core.specs.Lawful.{FoundRemote, IsFresh}
 use Rattle.race_core.proofs.Own.{MayObey, MayOrder, Meets, MessagePast, SaidByClock}
-use Rattle.race_core.proofs.Lists.{eqb_refl, true_or_false}
 use Rattle.race_core.proofs.Flights.{always_before, occurs_always, occurs_earlier, sending}
 use Rattle.race_core.proofs.Turns.{OneEach, next_of, of_flying, place_of, taken_of}
 use Rattle.race_core.proofs.Known.{evidence_known}
@@ -173,7 +173,7 @@ taken_count repos past w run = let t = taken_of is_answer past w (prefixes repos
     subst (λ n. n ≤ length (answers past w)) (sym t.count) (filter_take (of_flying is_answer) (taken past w) (sent past w))
 
 pub ordered_open : (repos : List RepoView) (past : List Entry) (e : Entry) (r a : ℕ) (key : List ℕ) (k : Takes repos past e r a key) → (t : MayTake past (way_of r k.f) k.f) → (o : Ordered repos past r a key k.f k.deadline t.it) → done past a o.j ≡ false
-ordered_open repos past e r a key k t o = elim (true_or_false (done past a o.j)) [ inl h ↦ absurd (ended (done_occurs past a o.j h)) | inr h ↦ h ]
+ordered_open repos past e r a key k t o = elim (cases_Bool (done past a o.j)) [ inl h ↦ absurd (ended (done_occurs past a o.j h)) | inr h ↦ h ]
   where
     w : Way
     w = way_of r k.f

@@ -1,8 +1,11 @@
 -- Entries that stand in a past: their order, and what each of them says.
 use Rattle.std.proofs.Common.{◌≡◌, ℕ, ◌+◌, ◌<◌, ◌≤◌, Bool, true, false, not, cond, ◌&&◌, List, [], ◌∷◌, length, Some, ◌⊎◌, inl, inr, refl, sym, ap, ◌∙◌, subst, arith, length-append}
 use Rattle.std.specs.Prelude.{filter, map, if◌then◌else◌, ◌==◌}
-use Rattle.std.proofs.lemmas.Bool.{true≢false}
+use Rattle.std.proofs.lemmas.Bool.{true≢false, and_parts, or_left, or_right, or_cases, not-true}
+use Rattle.std.proofs.lemmas.Option.{same_Some}
 use Rattle.annex_base.specs.Lists.{Member}
+use Rattle.annex_base.proofs.Conditions.{eqb_refl}
+use Rattle.annex_base.proofs.Lists.{Member-append_cases}
 use Rattle.run_data.specs.declared.entry.Entry.{Entry}
 use Rattle.run_data.specs.declared.entry.EntryKind.TheVariants.{End}
 use Rattle.run_data.specs.declared.entry.FrameView.{FrameView}
@@ -16,8 +19,6 @@ use Rattle.race_core.proofs.Ways.{answers, down_of}
 use Rattle.node_model.specs.Slots.{job_of}
 use Rattle.run_model.specs.Drops.{Vouch, done, done_kind, vouch, vouches}
 use Rattle.race_core.proofs.Own.{MessagePast, uses}
-use Rattle.race_core.proofs.Lists.{and_true, eqb_refl, or_left, or_right, or_true, Member-append}
-use Rattle.race_core.proofs.Flights.{some_inj}
 use Rattle.race_core.proofs.Turns.{sent_if-prefix, sent_if-step}
 use Rattle.race_core.proofs.Evident.{done_end}
 use Rattle.race_core.proofs.Told.{own_at}
@@ -61,7 +62,7 @@ occurs_same past x y p q r o u is js same = elim (occurs_order past x y p q o u)
 pub same_job : (repos : List RepoView) (past : List Entry) (w : Way) (x y : Entry) (p q : List Entry) (a i j : ℕ) → MessagePast repos past → w.client ≡ a → Occurs past x p → Occurs past y q → is_of a x ≡ true → is_of a y ≡ true
     → job_of x.kind ≡ Some i → job_of y.kind ≡ Some j → uses w x ≡ true → uses w y ≡ true → i ≡ j
 same_job repos past w x y p q a i j run client o u is js xi yj ux uy = elim (occurs_order past x y p q o u) [
-  | inl s ↦ some_inj i j (sym xi ∙ ap (λ (z : Entry). job_of z.kind) s.0 ∙ yj)
+  | inl s ↦ same_Some i j (sym xi ∙ ap (λ (z : Entry). job_of z.kind) s.0 ∙ yj)
   | inr (inl s) ↦ (own_at repos past y q a run u js).one_job w client uy j i x p yj s is xi ux
   | inr (inr s) ↦ sym ((own_at repos past x p a run o is).one_job w client ux i j y q xi s js yj uy)
 ]
@@ -82,20 +83,16 @@ pub record Ended (past : List Entry) (a j : ℕ) : Type 0 where
   pub kind_is : entry.kind ≡ End j outcome
   pub not_lost : is_lost_ordered outcome ≡ false
 
-not_false : (b : Bool) → not b ≡ true → b ≡ false
-not_false true h = cc
-not_false false h = refl
-
 end_kind : (j : ℕ) (outcome : Outcome) → done_kind j (End j outcome) ≡ true → is_lost_ordered outcome ≡ false
-end_kind j outcome h = not_false (is_lost_ordered outcome) (and_true (j == j) (not (is_lost_ordered outcome)) h).1
+end_kind j outcome h = not-true (is_lost_ordered outcome) (and_parts (j == j) (not (is_lost_ordered outcome)) h).1
 
 pub done_occurs : (past : List Entry) (a j : ℕ) → done past a j ≡ true → Ended past a j
 done_occurs [] a j h = cc
-done_occurs (e ∷ past) a j h = go (λ k. done_occurs past a j k) (or_true (is_of a e && done_kind j e.kind) (done past a j) h)
+done_occurs (e ∷ past) a j h = go (λ k. done_occurs past a j k) (or_cases (is_of a e && done_kind j e.kind) (done past a j) h)
   where
     go : (done past a j ≡ true → Ended past a j) → ((is_of a e && done_kind j e.kind) ≡ true) ⊎ (done past a j ≡ true) → Ended (e ∷ past) a j
     go ih (inl s) =
-        let w = and_true (is_of a e) (done_kind j e.kind) s in
+        let w = and_parts (is_of a e) (done_kind j e.kind) s in
         let t = done_end j e.kind w.1 in
         record { entry = e; before = past; occurs = inl (refl, refl); repo_is = w.0; outcome = t.0; kind_is = t.1; not_lost = end_kind j t.0 (subst (λ k. done_kind j k ≡ true) t.1 w.1) }
     go ih (inr s) = let t = ih s in record { entry = t.entry; before = t.before; occurs = inr t.occurs; repo_is = t.repo_is; outcome = t.outcome; kind_is = t.kind_is; not_lost = t.not_lost }
@@ -104,7 +101,7 @@ done_occurs (e ∷ past) a j h = go (λ k. done_occurs past a j k) (or_true (is_
 
 pub vouches_occur : (past : List Entry) (r a j : ℕ) (v : Vouch) → Member v (vouches past r a j) → (x : Entry) × (p : List Entry) × (Occurs past x p) × Member v (vouch p x r a j)
 vouches_occur [] r a j v m = absurd m
-vouches_occur (e ∷ past) r a j v m = elim (Member-append v (vouch past e r a j) (vouches past r a j) m) [
+vouches_occur (e ∷ past) r a j v m = elim (Member-append_cases (vouch past e r a j) (vouches past r a j) v m) [
   | inl k ↦ (e, past, inl (refl, refl), k)
   | inr k ↦ let t = vouches_occur past r a j v k in (t.0, t.1, inr t.2, t.3)
 ]

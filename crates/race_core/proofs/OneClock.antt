@@ -2,7 +2,7 @@
 use Rattle.std.proofs.Common.{◌≡◌, ℕ, Bool, true, false, List, [], ◌∷◌, inl, inr, sym, ap, ◌∙◌, subst}
 use Rattle.std.specs.Prelude.{◌&&◌}
 use Rattle.std.specs.List.{list_any}
-use Rattle.std.proofs.lemmas.Bool.{true≢false}
+use Rattle.std.proofs.lemmas.Bool.{true≢false, and_parts, or_left, or_right}
 use Rattle.annex_base.specs.Lists.{Member}
 use Rattle.run_data.specs.declared.entry.Entry.{Entry}
 use Rattle.run_model.specs.Past.{Occurs, clock_set, is_of}
@@ -11,7 +11,6 @@ use Rattle.node_model.specs.SetUp.{SetUp}
 use Rattle.node_model.specs.Jobs.{Work}
 use Rattle.run_model.specs.States.{works}
 use Rattle.run_model.specs.Run.{OwnRun}
-use Rattle.race_core.proofs.Plain.{and_true, or_left, or_right}
 use Rattle.race_core.proofs.JobSteps.{Origin, invariant}
 use Rattle.race_core.proofs.ClockKept.{clock_kept, clock_other, origin_stands}
 use Rattle.race_core.proofs.WorkFits.{step_number, step_runs}
@@ -35,7 +34,7 @@ one_clock s past run w m = invariant s (λ p x. AskedByClock s p x.number) other
   where
     other : (p : List Entry) (e : Entry) → is_of s.number e ≡ false → (x : Work) → Member x (works p s.number) → AskedByClock s p x.number → AskedByClock s (e ∷ p) x.number
     other p e is x n was y before (inl o) asks =
-        let mine : is_of s.number e ≡ true = subst (λ (z : Entry). is_of s.number z ≡ true) o.0 (and_true (is_of s.number y) _ (and_true (is_job s.number x.number y) _ asks).0).0 in
+        let mine : is_of s.number e ≡ true = subst (λ (z : Entry). is_of s.number z ≡ true) o.0 (and_parts (is_of s.number y) _ (and_parts (is_job s.number x.number y) _ asks).0).0 in
         absurd (true≢false (sym mine ∙ is))
     other p e is x n was y before (inr o) asks = was y before o asks ∙ sym (clock_other s.repos p s.number e is)
 

@@ -1,8 +1,10 @@
 -- One drop for each removal: no job removes twice, and each order that is obeyed is one entry's, of one job, and is taken once.
 use Rattle.std.proofs.Common.{◌≡◌, ℕ, zero, suc, ◌+◌, ◌<◌, ◌≤◌, Bool, true, false, cond, ◌&&◌, List, [], ◌∷◌, ◌++◌, length, Some, None, ◌⊎◌, inl, inr, refl, sym, ap, ◌∙◌, subst, arith, add-one, length-append}
 use Rattle.std.specs.Prelude.{if◌then◌else◌, filter, map, slice_get}
-use Rattle.std.proofs.lemmas.Option.{slice_get_within}
+use Rattle.std.proofs.lemmas.Option.{slice_get_within, same_Some}
 use Rattle.annex_base.specs.Lists.{Member}
+use Rattle.annex_base.proofs.Lists.{slice_get-left}
+use Rattle.annex_base.proofs.Conditions.{bytes_eq-refl}
 use Rattle.run_data.specs.declared.entry.By.{By}
 use Rattle.run_data.specs.declared.entry.By.TheVariants.{Script, Job as by_job, Peer}
 use Rattle.run_data.specs.declared.entry.Entry.{Entry}
@@ -15,12 +17,11 @@ use Rattle.run_model.specs.Frames.{Flying, MayTake, Way, flying, is_on, on_way, 
 use Rattle.race_core.proofs.Ways.{way_from}
 use Rattle.run_model.specs.Safety.{past_at}
 use Rattle.run_model.specs.Run.{IsRun}
-use Rattle.race_core.proofs.Plain.{get_left}
 use Rattle.race_core.proofs.Own.{Meets, MessagePast}
 use Rattle.race_core.specs.Readings.{Judge}
 use Rattle.race_core.specs.Removals.{HasOrder, IsAt, Sends, Takes}
-use Rattle.race_core.proofs.Changes.{bar_was, bytes_refl, decided_keeps, repo_of, same_repo}
-use Rattle.race_core.proofs.Flights.{get_append, get_none, map_member, sending, some_inj}
+use Rattle.race_core.proofs.Changes.{bar_was, decided_keeps, repo_of, same_repo}
+use Rattle.race_core.proofs.Flights.{get_append, get_none, map_member, sending}
 use Rattle.race_core.proofs.Evident.{barred}
 use Rattle.race_core.proofs.Told.{on_own, sender_at, sender_way, taker_way, way_sent}
 use Rattle.race_core.proofs.Obeying
@@ -58,7 +59,7 @@ decided_later repos (e ∷ past) x p r j d run (inl o) h = decided_stays repos e
 decided_later repos (e ∷ past) x p r j d run (inr o) h = decided_stays repos e past r j d run.0 (decided_later repos past x p r j d run.1 o h)
 
 gone_off : (x : Entry) (p : List Entry) (r j : ℕ) (key : List ℕ) → is_of r x ≡ true → x.kind ≡ Gone (by_job j) key → bar (x ∷ p) r key ≡ None
-gone_off x p r j key is kind = rw (is, kind, bytes_refl key) refl
+gone_off x p r j key is kind = rw (is, kind, bytes_eq-refl key) refl
 
 -- after a removal by the job no bar of it stands on the key any more
 bar_off : (repos : List RepoView) (past : List Entry) (x : Entry) (p : List Entry) (r j : ℕ) (key : List ℕ) (d : Decision) → MessagePast repos past → Occurs past x p → is_of r x ≡ true → x.kind ≡ Gone (by_job j) key
@@ -82,7 +83,7 @@ gone_twice run a b r j key k h x y lt =
     let second = barred run.repos (past_at run b) r j k late stands in
     let occurs = at_occurs run b a x.entry lt x.entry_is in
     let still = decided_later run.repos (past_at run b) x.entry (past_at run a) r j first.d late occurs first.decided_is in
-    let same : first.d ≡ second.d = some_inj first.d second.d (sym still ∙ second.decided_is) in
+    let same : first.d ≡ second.d = same_Some first.d second.d (sym still ∙ second.decided_is) in
     let keys : k ≡ key = sym second.key_is ∙ ap (λ (z : Decision). z.key) (sym same) ∙ first.key_is in
     bar_off run.repos (past_at run b) x.entry (past_at run a) r j key first.d late occurs x.repo_is x.kind_is first.decided_is (subst (λ z. bar (past_at run b) r z ≡ Some j) keys stands)
 
@@ -159,7 +160,7 @@ sent_place (e ∷ past) w k it h = go (λ g. sent_place past w k it g) (is_of (s
         → slice_get (if b then sent past w ++ map (flying e past) (on_way w e) else sent past w) k ≡ Some it → (length (sent it.before w) ≤ k) × (k < length (sent (it.entry ∷ it.before) w))
     go ih false is g = ih g
     go ih true is g = elim (there_or_end (sent past w) k) [
-      | inl y ↦ (let same : y.0 ≡ it = some_inj y.0 it (sym (get_left (sent past w) (map (flying e past) (on_way w e)) k y.0 y.1) ∙ g) in ih (y.1 ∙ ap (λ z. Some z) same))
+      | inl y ↦ (let same : y.0 ≡ it = same_Some y.0 it (sym (slice_get-left (sent past w) (map (flying e past) (on_way w e)) k y.0 y.1) ∙ g) in ih (y.1 ∙ ap (λ z. Some z) same))
       | inr le ↦ elim (get_append (sent past w) (map (flying e past) (on_way w e)) k it g) [ inl s ↦ ih s | inr m ↦ new le m ]
     ]
 
@@ -238,7 +239,7 @@ one_on w past e g n alone is fewer reached = go (is_on w (taker_of w) g) refl
 sent_alone : (run : Run) (at a : ℕ) (w : Way) (n : ℕ) (e : Entry) (g : FrameView) → slice_get run.entries at ≡ Some e → e.sent ≡ g ∷ [] → sender_of w ≡ a → Sends run at w n
     → (way_from a g ≡ w) × (n ≡ length (sent (past_at run at) (way_from a g)) + 1)
 sent_alone run at a w n e g is alone from s =
-    let same : s.entry ≡ e = some_inj s.entry e (sym s.entry_is ∙ is) in
+    let same : s.entry ≡ e = same_Some s.entry e (sym s.entry_is ∙ is) in
     let own : is_of (sender_of w) e ≡ true = subst (λ (x : Entry). is_of (sender_of w) x ≡ true) same s.repo_is in
     let reached : n ≤ length (sent (e ∷ past_at run at) w) = subst (λ past. n ≤ length (sent past w)) (past_next run at e is) s.reached in
     let t = one_on w (past_at run at) e g n alone own s.fewer reached in
@@ -256,7 +257,7 @@ pub obeyed_once : (run : Run) (place other r q a b : ℕ) (key k : List ℕ) →
 obeyed_once run place other r q a b key k h x y at =
     let e = x.order.entry in
     let there : slice_get run.entries y.at ≡ Some e = subst (λ n. slice_get run.entries n ≡ Some e) at x.order.entry_is in
-    let same : y.order.entry ≡ e = some_inj y.order.entry e (sym y.order.entry_is ∙ there) in
+    let same : y.order.entry ≡ e = same_Some y.order.entry e (sym y.order.entry_is ∙ there) in
     let kinds : Order y.j q y.deadline y.need k ≡ Order x.j r x.deadline x.need key = sym y.order.kind_is ∙ ap (λ (z : Entry). z.kind) same ∙ x.order.kind_is in
     let target : q ≡ r = cc in
     let repo : b ≡ a = same_repo e b a (subst (λ (z : Entry). is_of b z ≡ true) same y.order.repo_is) x.order.repo_is in

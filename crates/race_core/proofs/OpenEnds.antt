@@ -3,8 +3,11 @@ use Rattle.std.proofs.Common.{◌≡◌, ℕ, ◌<◌, Bool, true, false, List, 
 use Rattle.std.specs.Prelude.{if◌then◌else◌, ◌==◌, ◌&&◌, ◌||◌, flat_map, map, not}
 use Rattle.std.proofs.lemmas.Bool.{true≢false}
 use Rattle.std.proofs.lemmas.Bool.Decides.{nat_tests}
+use Rattle.std.proofs.lemmas.List.{length-map}
+use Rattle.std.proofs.lemmas.List.Elements.{filter-append}
 use Rattle.annex_base.specs.Lists.{Each, Member}
 use Rattle.annex_base.specs.declared.kinds.Word.{Word}
+use Rattle.annex_base.proofs.Lists.{Each-filter, Each-member, Member-filter_from, Member-filter_parts, Member-append_left, Member-flat_map, Member-map}
 use Rattle.run_data.specs.declared.entry.Entry.{Entry}
 use Rattle.run_data.specs.declared.entry.EntryKind.{EntryKind}
 use Rattle.run_data.specs.declared.entry.EntryKind.TheVariants.{Begin, Crash, End as ends_job}
@@ -26,9 +29,8 @@ use Rattle.node_model.specs.AnyTime.{MayCome, all_ends, close_at, closes_all, en
 use Rattle.node_model.specs.JobStep.{farewells}
 use Rattle.node_model.specs.Found.{JobKind, JobTakes}
 use Rattle.run_model.specs.Run.{IsStep, OwnPart, OwnRun}
-use Rattle.race_core.proofs.Plain.{each_filter, each_member, filter_member, length_map, member_filter}
 use Rattle.race_core.proofs.StepFacts.{kind_found}
-use Rattle.race_core.proofs.ServerEnds.{BySessionAt, GivesHere, TakesHere, each_flat, end_of, filter_append, same_end, same_end-is, sent_same, takes_end, takes_other}
+use Rattle.race_core.proofs.ServerEnds.{BySessionAt, GivesHere, TakesHere, each_flat, end_of, same_end, same_end-is, sent_same, takes_end, takes_other}
 use Rattle.race_core.proofs.EndMoves.{NoOpening, OpensNone, all_opened, end_own, frame_none, frames_none, gave_one, own_induction, pieces_none, sends_all}
 use Rattle.race_core.proofs.EndEpochs.{IsClose, SpeaksAlone, client_sends, from_end}
 use Rattle.race_core.proofs.JobEnds.{SentWell}
@@ -64,7 +66,7 @@ free_in js = first (not (uses js 0)) (second (not (uses js 1)) (third (not (uses
 
 after_slots : (js : List Running) (kind : EntryKind) → Each (λ j. Member j.slot slots) js → Each (λ j. Member j.slot slots) (jobs_after js kind)
 after_slots js (Begin job what) a = (free_in js, a)
-after_slots js (ends_job job outcome) a = each_filter (λ (j : Running). Member j.slot slots) (λ (j : Running). not (j.number == job)) js a
+after_slots js (ends_job job outcome) a = Each-filter (λ (j : Running). Member j.slot slots) (λ (j : Running). not (j.number == job)) js a
 after_slots js (Crash clock) a = tt
 after_slots js kind a = a
 
@@ -90,7 +92,7 @@ kept_off j job apart = go (j.number == job) refl
 -- a job that the entry doesn't end runs on
 runs_on : (js : List Running) (j : Running) (kind : EntryKind) → Member j js → ((job : ℕ) (outcome : Outcome) → kind ≡ ends_job job outcome → j.number ≡ job → ⊥) → ((clock : ℕ) → kind ≡ Crash clock → ⊥) → Member j (jobs_after js kind)
 runs_on js j (Begin job what) m apart stands = inr m
-runs_on js j (ends_job job outcome) m apart stands = filter_member (λ (z : Running). not (z.number == job)) js j m (kept_off j job (apart job outcome refl))
+runs_on js j (ends_job job outcome) m apart stands = Member-filter_from (λ (z : Running). not (z.number == job)) js j m (kept_off j job (apart job outcome refl))
 runs_on js j (Crash clock) m apart stands = absurd (stands clock refl)
 runs_on js j kind m apart stands = m
 
@@ -120,7 +122,7 @@ closes_still s past a [] x = tt
 closes_still s past a (f ∷ fs) x = (x.0.2, closes_still s past a fs x.1)
 
 pub alone_still : (s : SetUp) (past : List Entry) (a : EndName) (e : Entry) → SpeaksAlone s past e → Still a e
-alone_still s past a e x = record { takes_none = rw x.takes_none refl; opens_none = each_filter (λ g. is_opening g.body ≡ false) (sends_at a) e.sent (closes_still s past a e.sent x.well) }
+alone_still s past a e x = record { takes_none = rw x.takes_none refl; opens_none = Each-filter (λ g. is_opening g.body ≡ false) (sends_at a) e.sent (closes_still s past a e.sent x.well) }
 
 server_apart : (p q : ℕ) (a : EndName) → a.client ≡ true → same_end (server_end p q) a ≡ false
 server_apart p q a client = rw client (go ((p == a.peer) && (q == a.slot)))
@@ -136,7 +138,7 @@ session_still s past a e client x = go x.3
     b = server_end x.0 x.1
 
     says_none : (c : End) (bodies : List FrameText) → NoOpening bodies → e.sent ≡ frames (server_end x.0 x.1) c bodies → OpensNone (sent_at a e.sent)
-    says_none c bodies n i = each_filter (λ g. is_opening g.body ≡ false) (sends_at a) e.sent (subst OpensNone (sym i) (frames_none (server_end x.0 x.1) c bodies n))
+    says_none c bodies n i = Each-filter (λ g. is_opening g.body ≡ false) (sends_at a) e.sent (subst OpensNone (sym i) (frames_none (server_end x.0 x.1) c bodies n))
 
     go : TakesHere s past (server_end x.0 x.1) e ⊎ GivesHere s past (server_end x.0 x.1) e → Still a e
     go (inl y) = record {
@@ -191,9 +193,9 @@ module _ (s : SetUp) (past : List Entry) (e : Entry) (x : Stepped s past e) wher
       go : OpensNone (sent_at a e.sent) ⊎ ((g : FrameView) × (Member g (sent_at a e.sent)) × (is_opening g.body ≡ true)) → ((end_at past s.number a).opened ≡ true) ⊎ (Member a.peer (others s) × (x.w.slot ≡ a.slot))
       go (inl none) = inl (took_opened a (all_opened d (sent_at a e.sent) none now))
       go (inr y) =
-          let m = member_filter (sends_at a) e.sent y.0 y.1 in
+          let m = Member-filter_parts (sends_at a) e.sent y.0 y.1 in
           let at : from_end y.0 ≡ a = same_end-is (from_end y.0) a m.1 in
-          let called = each_member (λ g. is_opening g.body ≡ true → Called (turn_at s past e x) g.peer) e.sent y.0 (stepped_calls s past e x) m.0 y.2 in
+          let called = Each-member (λ g. is_opening g.body ≡ true → Called (turn_at s past e x) g.peer) e.sent y.0 (stepped_calls s past e x) m.0 y.2 in
           inr (subst (λ (z : EndName). Member z.peer (others s)) at (called_other s past e run x y.0.peer called), sym (speaks s past e x y.0 m.0).0 ∙ ap (λ (z : EndName). z.slot) at)
 
   -- the end of the job shuts the ends of its slot
@@ -219,36 +221,17 @@ crash_sends s past words e own clock is = elim (own.does) [
     steps : IsStep s past words e → ⊥
     steps x = elim (kind_found s (state_of s past) x.look x.made (Crash clock) x.makes (sym (ap (λ (y : Entry). y.kind) x.is) ∙ is) (λ h. h)) [ inl y ↦ y.found | inr y ↦ y.found ]
 
-member_left : {X : Type 0} (xs ys : List X) (y : X) → Member y xs → Member y (xs ++ ys)
-member_left [] ys y m = absurd m
-member_left (x ∷ xs) ys y (inl m) = inl m
-member_left (x ∷ xs) ys y (inr m) = inr (member_left xs ys y m)
-
-pub member_right : {X : Type 0} (xs ys : List X) (y : X) → Member y ys → Member y (xs ++ ys)
-member_right [] ys y m = m
-member_right (x ∷ xs) ys y m = inr (member_right xs ys y m)
-
-pub member_flat : {X Y : Type 0} (f : X → List Y) (xs : List X) (x : X) (y : Y) → Member x xs → Member y (f x) → Member y (flat_map f xs)
-member_flat f [] x y m n = absurd m
-member_flat f (z ∷ zs) x y (inl m) n = member_left (f z) (flat_map f zs) y (subst (λ w. Member y (f w)) m n)
-member_flat f (z ∷ zs) x y (inr m) n = member_right (f z) (flat_map f zs) y (member_flat f zs x y m n)
-
-pub member_map : {X Y : Type 0} (f : X → Y) (xs : List X) (x : X) → Member x xs → Member (f x) (map f xs)
-member_map f [] x m = absurd m
-member_map f (y ∷ ys) x (inl m) = inl (ap f m)
-member_map f (y ∷ ys) x (inr m) = inr (member_map f ys x m)
-
 end_in : (s : SetUp) (a : EndName) → a.client ≡ true → Member a.peer (others s) → Member a.slot slots → Member a (all_ends s)
 end_in s a client peer slot =
     let b : EndName = record { peer = a.peer; slot = a.slot; client = true } in
     let same : b ≡ a = λ i. record { peer = a.peer; slot = a.slot; client = sym client i } in
     let at : ℕ → EndName = λ n. record { peer = a.peer; slot = n; client = true } in
     subst (λ z. Member z (all_ends s)) same
-    (member_flat (λ n. ends_with n true ++ ends_with n false) (others s) a.peer b peer (member_left (ends_with a.peer true) (ends_with a.peer false) b (member_map at slots a.slot slot)))
+    (Member-flat_map (λ n. ends_with n true ++ ends_with n false) (others s) a.peer b peer (Member-append_left (ends_with a.peer true) (ends_with a.peer false) b (Member-map at slots a.slot slot)))
 
 module _ (s : SetUp) (past : List Entry) (a : EndName) where
   closes_none : (xs : List EndName) → OpensNone (sent_at a (flat_map (close_at s (state_of s past)) xs))
-  closes_none xs = each_filter (λ g. is_opening g.body ≡ false) (sends_at a) (flat_map (close_at s (state_of s past)) xs) (each_flat (λ g. is_opening g.body ≡ false) (close_at s (state_of s past)) (λ z. go z (end_at past s.number z).opened) xs)
+  closes_none xs = Each-filter (λ g. is_opening g.body ≡ false) (sends_at a) (flat_map (close_at s (state_of s past)) xs) (each_flat (λ g. is_opening g.body ≡ false) (close_at s (state_of s past)) (λ z. go z (end_at past s.number z).opened) xs)
     where
       go : (z : EndName) (b : Bool) → OpensNone (if b then frames z (end_at past s.number z) (Closing ∷ []) else [])
       go z true = (refl, tt)
@@ -264,7 +247,7 @@ module _ (s : SetUp) (past : List Entry) (a : EndName) where
   all_closed o d (x ∷ xs) m = ap (λ (z : End). z.opened) split ∙ go (λ f n. all_closed o f xs n) m
     where
       split : sends_all d (sent_at a (flat_map (close_at s (state_of s past)) (x ∷ xs))) ≡ sends_all (sends_all d (sent_at a (close_at s (state_of s past) x))) (sent_at a (flat_map (close_at s (state_of s past)) xs))
-      split = ap (sends_all d) (filter_append (sends_at a) (close_at s (state_of s past) x) (flat_map (close_at s (state_of s past)) xs)) ∙ fold_append d (sent_at a (close_at s (state_of s past) x)) (sent_at a (flat_map (close_at s (state_of s past)) xs))
+      split = ap (sends_all d) (filter-append (sends_at a) (close_at s (state_of s past) x) (flat_map (close_at s (state_of s past)) xs)) ∙ fold_append d (sent_at a (close_at s (state_of s past) x)) (sent_at a (flat_map (close_at s (state_of s past)) xs))
 
       go : ((f : End) → Member a xs → (sends_all f (sent_at a (flat_map (close_at s (state_of s past)) xs))).opened ≡ false) → (a ≡ x) ⊎ Member a xs → (sends_all (sends_all d (sent_at a (close_at s (state_of s past) x))) (sent_at a (flat_map (close_at s (state_of s past)) xs))).opened ≡ false
       go more (inl i) = stays (sends_all d (sent_at a (close_at s (state_of s past) x))) (sent_at a (flat_map (close_at s (state_of s past)) xs)) (closes_none xs) (ap (λ z. (sends_all d (sent_at a (close_at s (state_of s past) z))).opened) (sym i) ∙ closes_it o d)
@@ -293,7 +276,7 @@ module _ (s : SetUp) (past : List Entry) (e : Entry) (words : ℕ → Option Wor
   no_crash : (end_at past s.number a).opened ≡ true → (clock : ℕ) → e.kind ≡ Crash clock → ⊥
   no_crash o clock kind =
       let x = old a client o in
-      let slot : Member a.slot slots = subst (λ n. Member n slots) x.slot (each_member (λ (j : Running). Member j.slot slots) (jobs past s.number) x.job (jobs_slots past s.number) x.runs) in
+      let slot : Member a.slot slots = subst (λ n. Member n slots) x.slot (Each-member (λ (j : Running). Member j.slot slots) (jobs past s.number) x.job (jobs_slots past s.number) x.runs) in
       absurd (true≢false (sym now ∙ crash_shuts s past words e own is clock kind a (end_in s a client x.peer slot) o))
 
   -- it ran before, and the entry doesn't end it
@@ -384,7 +367,7 @@ shut s past run job what peer few = go (end_at past s.number a).opened refl
     go true o =
         let x = open_runs s past run a refl o in
         let used : uses js x.job.slot ≡ true = used_slot js x.job (subst (Member x.job) (sym (jobs_are past s.number)) x.runs) in
-        let free : uses js (free_slot js) ≡ false = free_is js (subst (λ n. n < 4) (sym (length_map running (works past s.number))) few) in
+        let free : uses js (free_slot js) ≡ false = free_is js (subst (λ n. n < 4) (sym (length-map (works past s.number) running)) few) in
         absurd (true≢false (sym (subst (λ n. uses js n ≡ true) x.slot used) ∙ free))
 
 -- ---- whom a job speaks with
@@ -398,7 +381,7 @@ module _ (s : SetUp) (past : List Entry) (words : ℕ → Option Word) (e : Entr
 
       go : SentWell (end_at past s.number (from_end g)) g → Member g.peer (others s)
       go (inl y) = (open_runs s past run (from_end g) up y.0).peer
-      go (inr y) = called_other s past e run x g.peer (each_member (λ h. is_opening h.body ≡ true → Called (turn_at s past e x) h.peer) e.sent g (stepped_calls s past e x) m (ap is_opening y.2))
+      go (inr y) = called_other s past e run x g.peer (Each-member (λ h. is_opening h.body ≡ true → Called (turn_at s past e x) h.peer) e.sent g (stepped_calls s past e x) m (ap is_opening y.2))
 
   pub job_takes_from : (f : FrameView) → e.taken ≡ Some f → Member f.peer (others s)
   job_takes_from f took = (open_runs s past run (end_of f) (ap (λ b. if b then false else true) (hears s past e x f took).1) (takes_open s past e x f took)).peer

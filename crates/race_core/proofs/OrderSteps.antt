@@ -2,8 +2,11 @@
 use Rattle.std.proofs.Common.{◌≡◌, ℕ, Bool, true, false, List, [], ◌∷◌, Option, Some, None, ◌⊎◌, inl, inr, refl, sym, ap, ◌∙◌, subst}
 use Rattle.std.specs.Prelude.{◌==◌, if◌then◌else◌, ◌&&◌, fold, not}
 use Rattle.std.specs.List.{list_all}
+use Rattle.std.proofs.lemmas.Bool.{and_parts}
 use Rattle.annex_base.specs.declared.kinds.Call.{Call}
 use Rattle.annex_base.specs.declared.kinds.Call.TheVariants.{Unhold}
+use Rattle.annex_base.proofs.Conditions.{eqb_refl}
+use Rattle.annex_base.proofs.Lists.{find_member}
 use Rattle.drop_proof.specs.declared.rule.Side.TheVariants.{Remote}
 use Rattle.run_data.specs.declared.entry.EntryKind.TheVariants.{Fault, End as ends_job}
 use Rattle.run_data.specs.declared.entry.FrameView.{FrameView}
@@ -25,8 +28,6 @@ use Rattle.node_model.specs.Look.{Made, waiting}
 use Rattle.node_model.specs.JobStep.{Turn, by_me, end_with, ends, farewells, hears, me, owns_share, quietly, talk, wrong}
 use Rattle.node_model.specs.Turns.{awaits, by_partner, goes, has_room, needs, outcome_of, takes_frame, takes_text, with_partner}
 use Rattle.node_model.specs.DropStep.{takes_drop}
-use Rattle.race_core.proofs.Plain.{and_true, eqb_refl}
-use Rattle.race_core.proofs.Cases.{find_was}
 use Rattle.race_core.proofs.ServerEnds.{sent_same}
 use Rattle.race_core.proofs.ClientTurns.{made_entry, moved}
 use Rattle.race_core.proofs.ClientSteps.{attempts_even, release_is}
@@ -142,8 +143,8 @@ module _ (before : Turn) (peer : ℕ) where
             room false h = absurd (cc)
             room true h =
                 let same : takes_frame t peer f f.body ≡ m = cc in
-                let was = find_was (λ g. takes_at a g && may_take (end_with t peer) g) t.look.at_hand f is in
-                let both = and_true (takes_at a f) (may_take (end_with t peer) f) was.1 in
+                let was = find_member (λ g. takes_at a g && may_take (end_with t peer) g) t.look.at_hand f is in
+                let both = and_parts (takes_at a f) (may_take (end_with t peer) f) was.1 in
                 subst (OrdersMake t) same (frame_makes f both.0 opened f.body refl)
 
         go : (b : Bool) → (end_with t peer).opened ≡ b → with_partner t peer b ≡ Some m → OrdersMake t m

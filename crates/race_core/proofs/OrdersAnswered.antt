@@ -2,9 +2,12 @@
 -- order's way answered.
 use Rattle.std.proofs.Common.{◌≡◌, ℕ, ◌+◌, ◌≤◌, Bool, true, false, List, [], ◌∷◌, length, Option, Some, None, ◌⊎◌, inl, inr, refl, sym, ap, ◌∙◌, subst, arith}
 use Rattle.std.specs.Prelude.{◌==◌, if◌then◌else◌, ◌&&◌, filter, find, fold}
+use Rattle.std.proofs.lemmas.Bool.{and_parts, eqb-true}
 use Rattle.annex_base.specs.Lists.{Each, Member}
 use Rattle.annex_base.specs.declared.kinds.Call.TheVariants.{Unhold}
 use Rattle.annex_base.specs.declared.kinds.Word.{Word}
+use Rattle.annex_base.proofs.Lists.{Each-filter, Each-member, Member-filter_from, find_member, filter_none}
+use Rattle.annex_base.proofs.Conditions.{eqb_refl}
 use Rattle.drop_proof.specs.declared.rule.Side.TheVariants.{Remote}
 use Rattle.run_data.specs.declared.entry.Entry.{Entry}
 use Rattle.run_data.specs.declared.entry.EntryKind.{EntryKind}
@@ -38,9 +41,8 @@ use Rattle.node_model.specs.JobStep.{Turn, by_me, end_with, me, talk, turn_of}
 use Rattle.node_model.specs.Turns.{by_partner, job_step, outcome_of, slot_step, takes_frame}
 use Rattle.run_model.specs.Run.{IsStep, OwnPart, OwnPast, OwnRun}
 use Rattle.node_model.specs.Found.{ByJob, ByOwed, GivesOrder, JobKind}
-use Rattle.race_core.proofs.Plain.{and_true, each_filter, each_member, eqb_refl, eqb_true, filter_member}
-use Rattle.race_core.proofs.Cases.{find_was, first_was, some_was}
-use Rattle.race_core.proofs.ServerEnds.{come_closes, filter_none, sent_same}
+use Rattle.race_core.proofs.Cases.{first_was, some_was}
+use Rattle.race_core.proofs.ServerEnds.{come_closes, sent_same}
 use Rattle.race_core.proofs.WayCounts.{hits, in_count, in_other, one_if, out_count, out_other}
 use Rattle.race_core.proofs.SaidDown.{said_closing}
 use Rattle.race_core.proofs.SessionFacts.{session_found}
@@ -100,7 +102,7 @@ Ordered s past w = (g : FrameView) → SentOrder past s.number w.number g → (g
 -- ---- an entry that leaves it so
 
 none_counted : (n : ℕ) (fs : List FrameView) → Each (λ g. g.body ≡ Closing) fs → filter (says is_request) (filter (λ g. g.epoch == n) fs) ≡ []
-none_counted n fs all = filter_none (says is_request) (filter (λ g. g.epoch == n) fs) (each_filter (λ (g : FrameView). says is_request g ≡ false) (λ g. g.epoch == n) fs (none fs all))
+none_counted n fs all = filter_none (says is_request) (filter (λ g. g.epoch == n) fs) (Each-filter (λ (g : FrameView). says is_request g ≡ false) (λ g. g.epoch == n) fs (none fs all))
   where
     none : (fs : List FrameView) → Each (λ g. g.body ≡ Closing) fs → Each (λ g. says is_request g ≡ false) fs
     none [] all = tt
@@ -218,7 +220,7 @@ stays_idle s past words e w g run own ran still stands = elim (own.does) [
             go : (b : Bool) → (v.slot == w.slot) ≡ b → IdleAt w.slot (entry_of s.number x.look x.made)
             go false apart = job_idle s (state_of s past) x.look x.made found w.slot apart
             go true same =
-                let one : w ≡ v = same_slot_same_work s past run w v ran (find_was (λ (y : Work). y.slot == slot) (works past s.number) v is).0 (sym (eqb_true v.slot w.slot same)) in
+                let one : w ≡ v = same_slot_same_work s past run w v ran (find_member (λ (y : Work). y.slot == slot) (works past s.number) v is).0 (sym (eqb-true v.slot w.slot same)) in
                 let steps : is_step v.number x.made.kind ≡ true = stands_step s past g (turn_of s (state_of s past) x.look v) x.made (subst (λ (y : Work). Standing s past y g) one stands) h in
                 let off : is_step v.number x.made.kind ≡ false = subst (λ (y : Work). is_step y.number x.made.kind ≡ false) one (ap (λ (z : Entry). is_step w.number z.kind) (sym x.is) ∙ still) in
                 absurd (let both : true ≡ false = sym steps ∙ off in cc)
@@ -264,7 +266,7 @@ order_asks (Bytes n) deadline key e = absurd (cc)
 -- a request that is sent is of the epoch that its end has then
 asked_epoch : (past : List Entry) (r : ℕ) (e : Entry) (g : FrameView) → Keeps past r (order_end g) e → Member g e.sent → g.up ≡ true → is_asking g.body ≡ true → g.epoch ≡ (end_after (order_end g) (end_at past r (order_end g)) e).epoch
 asked_epoch past r e g keeps m up asks = elim (keeps.sends) [
-  | inl none ↦ absurd (let both : true ≡ false = sym asks ∙ each_member (λ (f : FrameView). is_asking f.body ≡ false) (sent_at (order_end g) e.sent) g none here in cc)
+  | inl none ↦ absurd (let both : true ≡ false = sym asks ∙ Each-member (λ (f : FrameView). is_asking f.body ≡ false) (sent_at (order_end g) e.sent) g none here in cc)
   | inr one ↦ single one.0 one.1 one.2
 ]
   where
@@ -272,7 +274,7 @@ asked_epoch past r e g keeps m up asks = elim (keeps.sends) [
     at i = record { peer = g.peer; slot = g.slot; client = up i }
 
     here : Member g (sent_at (order_end g) e.sent)
-    here = filter_member (sends_at (order_end g)) e.sent g m (sends_is (order_end g) g at)
+    here = Member-filter_from (sends_at (order_end g)) e.sent g m (sends_is (order_end g) g at)
 
     single : (f : FrameView) → sent_at (order_end g) e.sent ≡ f ∷ [] → f.epoch ≡ (end_after (order_end g) (end_at past r (order_end g)) e).epoch → g.epoch ≡ (end_after (order_end g) (end_at past r (order_end g)) e).epoch
     single f is epoch = elim (subst (Member g) is here) [ inl i ↦ ap (λ (h : FrameView). h.epoch) i ∙ epoch | inr i ↦ absurd i ]
@@ -476,7 +478,7 @@ module _ (s : SetUp) where
   of_other : (p : List Entry) (e : Entry) → is_of s.number e ≡ false → (x : Work) → Member x (works p s.number) → At p x → At (e ∷ p) x
   of_other p e is x n was h g o = elim (order_when p e s.number x.number g o) [
     | inl old ↦ (let z = was (earlier s p e h) g old in (z.0, kept_other s p e x g is x.phase z.1))
-    | inr now ↦ absurd (let mine = (and_true (is_of s.number e) (option_is (job_of e.kind) x.number) now.mine).0 in let both : true ≡ false = sym mine ∙ is in cc)
+    | inr now ↦ absurd (let mine = (and_parts (is_of s.number e) (option_is (job_of e.kind) x.number) now.mine).0 in let both : true ≡ false = sym mine ∙ is in cc)
   ]
 
   -- the order's entry is a step of its job

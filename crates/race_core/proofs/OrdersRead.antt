@@ -8,13 +8,14 @@ use Rattle.std.proofs.lemmas.Fmt.{digits_decimal, digits_value-decimal}
 use Rattle.annex_base.specs.Lists.{Member}
 use Rattle.annex_key.specs.View.{first_fault}
 use Rattle.annex_base.specs.RepoText.{repo_of}
+use Rattle.annex_base.proofs.DecimalLemmas.{numerals}
 use Rattle.run_data.specs.declared.entry.Entry.{Entry}
 use Rattle.run_data.specs.declared.entry.FrameText.{FrameText}
 use Rattle.run_data.specs.declared.entry.FrameText.TheVariants.{Opening, Closing, Bytes, Line}
 use Rattle.p2p_wire.specs.declared.message.Message.{Message}
 use Rattle.p2p_wire.specs.declared.message.Message.TheVariants.{AuthSuccess, Version, CheckPresent, LockContent, UnlockContent, Remove, RemoveBefore, GetTimestamp, Timestamp, Get, Put, PutFrom, AlreadyHave, Data, Valid, Invalid, Success, Failure, Error}
 use Rattle.p2p_wire.specs.Messages.{alone, key_in, message_by, message_of, number_in, order_of, rest_in, text_in, text_of, then_in, with_file, with_key, with_number, with_one, word_in}
-use Rattle.race_core.proofs.NumbersRead.{numerals, rest_reads, word_reads}
+use Rattle.race_core.proofs.NumbersRead.{rest_reads, word_reads}
 use Rattle.node_model.specs.SetUp.{SetUp}
 use Rattle.node_model.specs.Sessions.{line_in}
 use Rattle.run_model.specs.States.{state_of, works}

@@ -1,8 +1,10 @@
 -- An order is sent by the entry of that kind alone: by a running job that has its target as peer.
 use Rattle.std.proofs.Common.{◌≡◌, ℕ, ◌<◌, ◌≤◌, Bool, true, false, List, [], ◌∷◌, Option, Some, None, ◌⊎◌, inl, inr, refl, sym, ap, ◌∙◌, subst, arith}
 use Rattle.std.specs.Prelude.{◌&&◌}
+use Rattle.std.proofs.lemmas.Bool.{eqb-true, and_parts}
 use Rattle.annex_base.specs.Lists.{Member}
 use Rattle.annex_base.specs.declared.kinds.Word.{Word}
+use Rattle.annex_base.proofs.Lists.{Each-member}
 use Rattle.drop_proof.specs.declared.rule.Need.{Need}
 use Rattle.run_data.specs.declared.entry.Entry.{Entry}
 use Rattle.run_data.specs.declared.entry.EntryKind.TheVariants.{Order}
@@ -18,7 +20,6 @@ use Rattle.node_model.specs.SetUp.{SetUp}
 use Rattle.node_model.specs.Sessions.{line_in}
 use Rattle.node_model.specs.Ends.{End, EndName, end_sends, frames, server_end}
 use Rattle.run_model.specs.Run.{OwnPart, OwnRun}
-use Rattle.race_core.proofs.Plain.{and_right, each_member, eqb_true}
 use Rattle.race_core.proofs.ServerEnds.{GivesHere, TakesHere, come_closes}
 use Rattle.race_core.proofs.SaidDown.{said_is}
 use Rattle.race_core.proofs.JobLines.{job_said, orders_order}
@@ -49,7 +50,7 @@ order_sent : (s : SetUp) (past : List Entry) (words : ℕ → Option Word) (e : 
 order_sent s past words e own g n up deadline key line = elim (who s past words e own) [
   | inl x ↦ absurd (elim (x.2) [
     | inl none ↦ subst (Member g) none n
-    | inr y ↦ closing g.body (each_member (λ (f : FrameView). f.body ≡ Closing) e.sent g (come_closes s past e.lines e.sent e.kind y.may) n) line
+    | inr y ↦ closing g.body (Each-member (λ (f : FrameView). f.body ≡ Closing) e.sent g (come_closes s past e.lines e.sent e.kind y.may) n) line
   ])
   | inr x ↦ elim x [ inl y ↦ absurd (session y.1.0 y.1.1 y.1.3) | inr y ↦ (y, job y) ]
 ]
@@ -118,8 +119,8 @@ pub orderer : (s : SetUp) (past : List Entry) (words : ℕ → Option Word) (e :
 orderer s past words e j g own now =
     let o = order_sent s past words e own g now.sent now.up now.deadline now.key now.line in
     let x = o.0 in
-    let mine : option_is (job_of e.kind) j ≡ true = and_right (is_of s.number e) (option_is (job_of e.kind) j) now.mine in
-    record { order = o.1; by = x; number_is = eqb_true x.w.number j (subst (λ (q : Option ℕ). option_is q j ≡ true) (stepped_job s past e x) mine) }
+    let mine : option_is (job_of e.kind) j ≡ true = (and_parts (is_of s.number e) (option_is (job_of e.kind) j) now.mine).1 in
+    record { order = o.1; by = x; number_is = eqb-true x.w.number j (subst (λ (q : Option ℕ). option_is q j ≡ true) (stepped_job s past e x) mine) }
 
 -- a job that hasn't begun has ordered nothing
 pub unordered : (s : SetUp) (past : List Entry) → OwnRun s past → (j : ℕ) (g : FrameView) → begun past s.number < j → SentOrder past s.number j g → ⊥

@@ -1,12 +1,13 @@
 -- A drop that lost its target says that it ordered exactly where an order entry of it stands.
-use Rattle.std.proofs.Common.{◌≡◌, ◌≢◌, ℕ, ◌+◌, ◌-◌, ◌^◌, Bool, true, false, List, [], ◌∷◌, Option, Some, None, ◌⊎◌, inl, inr, refl, sym, ap, ◌∙◌, subst}
+use Rattle.std.proofs.Common.{◌≡◌, ℕ, ◌+◌, ◌-◌, ◌^◌, Bool, true, false, List, [], ◌∷◌, Option, Some, None, ◌⊎◌, inl, inr, refl, sym, ap, ◌∙◌, subst}
 use Rattle.std.specs.Prelude.{if◌then◌else◌, ◌==◌, ◌&&◌, ◌||◌, nat_lt}
 use Rattle.std.specs.List.{list_any}
-use Rattle.std.proofs.lemmas.Bool.{true≢false}
+use Rattle.std.proofs.lemmas.Bool.{true≢false, and_parts, or_right, eqb-true}
 use Rattle.annex_base.specs.Lists.{Member}
 use Rattle.annex_base.specs.declared.kinds.Call.{Call}
 use Rattle.annex_base.specs.declared.kinds.Call.TheVariants.{PutFile, Unhold}
 use Rattle.annex_base.specs.declared.kinds.Word.{Word}
+use Rattle.annex_base.proofs.Conditions.{if_either, eqb_refl}
 use Rattle.drop_proof.specs.declared.rule.Side.{Side}
 use Rattle.drop_proof.specs.declared.rule.Side.TheVariants.{Local, Remote}
 use Rattle.run_data.specs.declared.entry.Entry.{Entry}
@@ -41,8 +42,6 @@ use Rattle.drop_proof.specs.declared.rule.Need.{Need}
 use Rattle.race_core.proofs.ClosedFound.{OrdersTold}
 use Rattle.race_core.proofs.ClientSteps
 use Rattle.race_core.proofs.PhaseFacts.{readies_place}
-use Rattle.race_core.proofs.Cases.{if_found}
-use Rattle.race_core.proofs.Plain.{and_true, eqb_refl}
 use Rattle.race_core.proofs.BySteps.{earlier}
 use Rattle.race_core.proofs.JobSteps.{Origin, Stepped, invariant, stepped_found, stepped_runs, turn_at}
 use Rattle.race_core.proofs.WorkFits.{step_number, step_runs, works_fit}
@@ -137,7 +136,7 @@ sends_order w time taken f fs = go f.body refl
 -- ---- what is heard
 
 transferred_off : (w : Work) (o : Outcome) → ordered_end o ≡ false → has_order (transferred w o).phase ≡ false
-transferred_off w o n = if_found (λ (x : Work). has_order x.phase ≡ false) (Jobs.is_move w.what.kind) (record w { part = Drops; phase = Fresh; fills = false }) (record w { phase = Ends o; fills = false }) (λ e. refl) (λ e. n)
+transferred_off w o n = if_either (λ (x : Work). has_order x.phase ≡ false) (Jobs.is_move w.what.kind) (record w { part = Drops; phase = Fresh; fills = false }) (record w { phase = Ends o; fills = false }) (λ e. refl) (λ e. n)
 
 look_off : (r : ℕ) (w : Work) (part : Part) (here : Bool) (bar : Option ℕ) → has_order (first_look r w part here bar).phase ≡ false
 look_off r w Gets true bar = transferred_off w (Got None None) refl
@@ -206,7 +205,7 @@ talks_came rows r w e [] = go e.taken
 
 on_came : (rows : Rows) (r : ℕ) (w : Work) (e : Entry) (p : Option ℕ) → Came e.sent w.phase (talks_on rows r w e p).phase
 on_came rows r w e None = talks_came rows r w e e.sent
-on_came rows r w e (Some peer) = if_found (λ (x : Work). Came e.sent w.phase x.phase) (end_after (job_end w peer) (rows.ends (job_end w peer)) e).opened (talks rows r w e e.sent) (closed_part r w peer w.part)
+on_came rows r w e (Some peer) = if_either (λ (x : Work). Came e.sent w.phase x.phase) (end_after (job_end w peer) (rows.ends (job_end w peer)) e).opened (talks rows r w e e.sent) (closed_part r w peer w.part)
     (λ o. talks_came rows r w e e.sent) (λ o. kept e.sent w.phase (closed_part r w peer w.part).phase (closed_kept r w peer w.part))
 
 fault_kept : (r : ℕ) (w : Work) (part : Part) (side : Side) (phase : Phase) → has_order (fault_phase r w part side phase).phase ≡ false
@@ -245,10 +244,6 @@ kind_came rows r w e kind =
 
 abbrev Has : List Entry → ℕ → ℕ → Bool
 Has past r j = list_any (λ e. is_job r j e && is_order e.kind) past
-
-or_right : (a b : Bool) → b ≡ true → (a || b) ≡ true
-or_right true b h = refl
-or_right false b h = h
 
 abbrev Told : SetUp → List Entry → Work → Type 0
 Told s past w = has_order w.phase ≡ true → Has past s.number w.number ≡ true
@@ -343,14 +338,14 @@ sent_order s (x ∷ past) h j e = go (λ old. sent_order s past (earlier s past 
     go : (Has past s.number j ≡ true → (g : FrameView) × SentOrder past s.number j g) → (b : Bool) → (is_job s.number j x && is_order x.kind) ≡ b → (b || Has past s.number j) ≡ true → (g : FrameView) × SentOrder (x ∷ past) s.number j g
     go more false is o = let z = more o in (z.0, record { x = z.1.x; before = z.1.before; stands = inr z.1.stands; mine = z.1.mine; sent = z.1.sent; up = z.1.up; deadline = z.1.deadline; key = z.1.key; line = z.1.line })
     go more true is o =
-        let both = and_true (is_job s.number j x) (is_order x.kind) is in
-        let own = (h.run.0 (and_true (is_of s.number x) (option_is (job_of x.kind) j) both.0).0) in
+        let both = and_parts (is_job s.number j x) (is_order x.kind) is in
+        let own = (h.run.0 (and_parts (is_of s.number x) (option_is (job_of x.kind) j) both.0).0) in
         let k = order_kind x.kind both.1 in
-        let at : k.0 ≡ j = same (subst (λ q. option_is (job_of q) j ≡ true) k.5 (and_true (is_of s.number x) (option_is (job_of x.kind) j) both.0).1) in
+        let at : k.0 ≡ j = same (subst (λ q. option_is (job_of q) j ≡ true) k.5 (and_parts (is_of s.number x) (option_is (job_of x.kind) j) both.0).1) in
         packed s past own.0 x (earlier s past x h) own.1 k.0 k.1 k.2 k.3 k.4 k.5 j at
       where
         same : {a b : ℕ} → (a == b) ≡ true → a ≡ b
-        same {a = a} {b = b} e = Rattle.race_core.proofs.Plain.eqb_true a b e
+        same {a = a} {b = b} e = eqb-true a b e
 
 -- **OrdersTold**, by own parts alone
 pub orders_told : (s : SetUp) (past : List Entry) → OwnPast s past → OrdersTold s past

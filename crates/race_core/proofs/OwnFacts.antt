@@ -2,10 +2,12 @@
 use Rattle.std.proofs.Common.{◌≡◌, ℕ, ◌≤◌, Bool, true, false, ◌&&◌, List, [], ◌∷◌, ◌++◌, Option, Some, None, ◌⊎◌, inl, inr, refl, sym, ap, ◌∙◌, subst, arith}
 use Rattle.std.specs.Prelude.{option_map, if◌then◌else◌, ◌==◌}
 use Rattle.std.specs.List.{list_any}
-use Rattle.std.proofs.lemmas.Bool.{true≢false}
+use Rattle.std.proofs.lemmas.Bool.{true≢false, and_parts, and_from, eqb-true, or_left, or_right, or_parts}
 use Rattle.annex_base.specs.Lists.{Member}
 use Rattle.annex_base.specs.declared.kinds.Found.{Found}
 use Rattle.annex_base.specs.declared.kinds.Found.TheVariants.{Present}
+use Rattle.annex_base.proofs.Lists.{list_any_member}
+use Rattle.annex_base.proofs.Conditions.{eqb_refl}
 use Rattle.run_data.specs.declared.entry.By.TheVariants.{Job as by_job, Peer}
 use Rattle.run_data.specs.declared.entry.Entry.{Entry}
 use Rattle.run_data.specs.declared.entry.EntryKind.{EntryKind}
@@ -21,7 +23,6 @@ use Rattle.node_model.specs.Slots.{job_of}
 use Rattle.run_model.specs.Drops.{Vouch, Lock, Look, asked_at, asker, asker_by, asker_of, is_asker, key_of, look_of, vouch, vouch_kind, vouches}
 use Rattle.race_core.specs.Lawful.{Free, since_of}
 use Rattle.race_core.proofs.Own.{Meets, MessagePast, SaysYes, asks_copy, has_asked, is_share, seeks}
-use Rattle.race_core.proofs.Lists.{and_true, any-Member, both, eqb_refl, eqb_true, or_left, or_right, or_false}
 use Rattle.race_core.proofs.Flights.{Sending, sending}
 use Rattle.race_core.proofs.Told.{sends_member}
 
@@ -45,7 +46,7 @@ pub record AskedBy (past : List Entry) (r a j : ℕ) (f : FrameView) : Type 0 wh
 asker_parts : (a j : ℕ) (o p : Option ℕ) (time : ℕ) → is_asker a j (asker_of o p time) ≡ true → (o ≡ Some a) × (p ≡ Some j)
 asker_parts a j None p time h = cc
 asker_parts a j (Some m) None time h = cc
-asker_parts a j (Some m) (Some i) time h = let t = and_true (m == a) (i == j) h in (ap (λ x. Some x) (eqb_true m a t.0), ap (λ x. Some x) (eqb_true i j t.1))
+asker_parts a j (Some m) (Some i) time h = let t = and_parts (m == a) (i == j) h in (ap (λ x. Some x) (eqb-true m a t.0), ap (λ x. Some x) (eqb-true i j t.1))
 
 -- who asked, and when
 pub asked_by : (repos : List RepoView) (past : List Entry) (e : Entry) (r a j : ℕ) (f : FrameView) → Meets repos past e → is_of r e ≡ true → e.taken ≡ Some f → is_asker a j (asker past r e) ≡ true
@@ -54,7 +55,7 @@ asked_by repos past e r a j f m is takes yes' =
     let t = m.frames r f is takes in
     let from : sender past r e.taken ≡ Some (sent_of t.it) = ap (λ o. sender past r o) takes ∙ ap (λ o. option_map sent_of o) t.next in
     let parts = asker_parts a j t.it.entry.repo (job_of t.it.entry.kind) t.it.entry.time (subst (λ o. is_asker a j (asker_by o) ≡ true) from yes') in
-    let job : is_job a j t.it.entry ≡ true = both (is_of a t.it.entry) (option_is (job_of t.it.entry.kind) j) (subst (λ o. option_is o a ≡ true) (sym parts.0) (eqb_refl a)) (subst (λ o. option_is o j ≡ true) (sym parts.1) (eqb_refl j)) in (
+    let job : is_job a j t.it.entry ≡ true = and_from (is_of a t.it.entry) (option_is (job_of t.it.entry.kind) j) (subst (λ o. option_is o a ≡ true) (sym parts.0) (eqb_refl a)) (subst (λ o. option_is o j ≡ true) (sym parts.1) (eqb_refl j)) in (
       record { it = t.it; sending = sending past (way_of r f) (taken past (way_of r f)) t.it t.next; body_is = t.body_is; is_asked = job },
       ap (λ o. asked_at (asker_by o)) from ∙ at t.it.entry.repo (job_of t.it.entry.kind) t.it.entry.time parts.0 parts.1,
     )
@@ -87,9 +88,9 @@ vouches_by past e r a j v m = go (is_of r e) refl m
     by_kind : (kind : EntryKind) → e.kind ≡ kind → Member v (vouch_kind r a j e.time (asker past r e) kind) → VouchesBy past e r a j v
     by_kind (Share hold end (by_job i) key) h k =
         let w = one_in ((r == a) && (i == j)) (Lock hold e.time (by_job i) key) v k in
-        let t = and_true (r == a) (i == j) w.0 in
-        let same : i ≡ j = eqb_true i j t.1 in
-        subst (λ x. VouchesBy past e r a j x) (sym w.1) (end, h, inl (eqb_true r a t.0, ap (λ x. by_job x) same, refl))
+        let t = and_parts (r == a) (i == j) w.0 in
+        let same : i ≡ j = eqb-true i j t.1 in
+        subst (λ x. VouchesBy past e r a j x) (sym w.1) (end, h, inl (eqb-true r a t.0, ap (λ x. by_job x) same, refl))
     by_kind (Share hold end (Peer p s) key) h k =
         let w = one_in (is_asker a j (asker past r e)) (Lock hold (asked_at (asker past r e)) (Peer p s) key) v k in
         subst (λ x. VouchesBy past e r a j x) (sym w.1) (end, h, inr (p, s, refl, w.0, refl))
@@ -124,7 +125,7 @@ pub asker_seeks : (c r j : ℕ) (past : List Entry) (f : FrameView) (asked' : Sa
 asker_seeks c r j past f asked' asked_is copy t =
     let says_it : says asks_copy t.it.frame ≡ true = ap (λ b. asks_copy (message_in b)) t.body_is ∙ ap asks_copy asked_is ∙ copy in
     let member = sends_member (way_of c f) t.it.entry t.it.frame t.sending.sends in
-    both (is_job r j t.it.entry) _ t.is_asked (or_right (is_share t.it.entry.kind) (list_any (says asks_copy) t.it.entry.sent) (any-Member (says asks_copy) t.it.frame t.it.entry.sent says_it member))
+    and_from (is_job r j t.it.entry) _ t.is_asked (or_right (is_share t.it.entry.kind) (list_any (says asks_copy) t.it.entry.sent) (list_any_member (says asks_copy) t.it.entry.sent t.it.frame member says_it))
 
 asked_seeks : (repos : List RepoView) (past : List Entry) (e : Entry) (c r j : ℕ) (asked' : Said) → Meets repos past e → is_of c e ≡ true → SaysYes c e asked' → asks_copy asked' ≡ true → is_asker r j (asker past c e) ≡ true → has_asked past r j ≡ true
 asked_seeks repos past e c r j asked' m is y copy yes' =
@@ -151,7 +152,7 @@ vouch_seeks repos past e c r j v m k = let w = vouches_by past e c r j v k in by
 pub nobody_vouched : (repos : List RepoView) (past : List Entry) (c r j : ℕ) → MessagePast repos past → has_asked past r j ≡ false → vouches past c r j ≡ []
 nobody_vouched repos [] c r j run h = refl
 nobody_vouched repos (e ∷ past) c r j run h =
-    let old = nobody_vouched repos past c r j run.1 (or_false (seeks r j e) (has_asked past r j) h).1 in
+    let old = nobody_vouched repos past c r j run.1 (or_parts (seeks r j e) (has_asked past r j) h).1 in
     ap (λ xs. vouch past e c r j ++ xs) old ∙ none (vouch past e c r j) (λ v m. true≢false (sym (vouch_seeks repos past e c r j v run.0 m) ∙ h))
   where
     none : (vs : List Vouch) → ((v : Vouch) → Member v vs → ⊥) → vs ++ [] ≡ []

@@ -1,8 +1,9 @@
 -- What a repository finds is what its own entries say: the facts of an entry over the repository's own past hold over any past
 -- that has these entries in this order.
-use Rattle.std.proofs.Common.{◌≡◌, ℕ, suc, ◌+◌, Bool, true, false, not, cond, ◌&&◌, ◌||◌, List, [], ◌∷◌, ◌++◌, length, Option, Some, None, refl, sym, ap, ◌∙◌, subst}
+use Rattle.std.proofs.Common.{◌≡◌, ℕ, ◌+◌, Bool, true, false, not, cond, ◌&&◌, ◌||◌, List, [], ◌∷◌, ◌++◌, length, Option, Some, None, refl, sym, ap, ◌∙◌, subst}
 use Rattle.std.specs.Prelude.{filter, map, option_map, if◌then◌else◌, ◌==◌}
 use Rattle.std.specs.Option.{unwrap_or}
+use Rattle.std.proofs.lemmas.List.{length-map}
 use Rattle.drop_proof.specs.declared.rule.Need.{Need}
 use Rattle.run_data.specs.declared.entry.Entry.{Entry}
 use Rattle.run_data.specs.declared.entry.EntryKind.{EntryKind}
@@ -125,12 +126,8 @@ bare_filter q (x ∷ xs) = go (bare_filter q xs) (says q x.frame)
 pub own_sent_if : (q : Said → Bool) (r : ℕ) (w : Way) → sender_of w ≡ r → (past : List Entry) → map bare (sent_if q past w) ≡ map bare (sent_if q (mine r past) w)
 own_sent_if q r w same past = bare_filter q (sent past w) ∙ ap (filter (λ x. says q x.frame)) (own_sent r w same past) ∙ sym (bare_filter q (sent (mine r past) w))
 
-length_map : {X Y : Type 0} (f : X → Y) (xs : List X) → length (map f xs) ≡ length xs
-length_map f [] = refl
-length_map f (x ∷ xs) = ap (λ n. suc n) (length_map f xs)
-
 pub own_count : (q : Said → Bool) (r : ℕ) (w : Way) → sender_of w ≡ r → (past : List Entry) → length (sent_if q past w) ≡ length (sent_if q (mine r past) w)
-own_count q r w same past = sym (length_map bare (sent_if q past w)) ∙ ap length (own_sent_if q r w same past) ∙ length_map bare (sent_if q (mine r past) w)
+own_count q r w same past = sym (length-map (sent_if q past w) bare) ∙ ap length (own_sent_if q r w same past) ∙ length-map (sent_if q (mine r past) w) bare
 
 last_map : {X Y : Type 0} (f : X → Y) (xs : List X) → last_of (map f xs) ≡ option_map f (last_of xs)
 last_map f [] = refl

@@ -1,6 +1,7 @@
 -- What a repository reads of a past is what it reads of its own entries there.
 use Rattle.std.proofs.Common.{◌≡◌, ℕ, ◌+◌, Bool, true, false, List, [], ◌∷◌, ◌++◌, refl, ap, ◌∙◌}
 use Rattle.std.specs.Prelude.{filter, if◌then◌else◌, ◌&&◌}
+use Rattle.annex_base.proofs.Functions.{funext}
 use Rattle.run_data.specs.declared.entry.Entry.{Entry}
 use Rattle.run_data.specs.declared.run.RepoView.{RepoView}
 use Rattle.run_model.specs.Past.{bar, begun, holds, is_of, made, present, clock_set, set_after}
@@ -19,7 +20,6 @@ use Rattle.node_model.specs.Owed.{owed_after}
 use Rattle.race_core.proofs.OwnPasts.{own_reading}
 use Rattle.node_model.specs.Look.{Look}
 use Rattle.node_model.specs.Step.{step}
-use Rattle.race_core.proofs.Plain.{funext}
 
 -- the entries of r
 abbrev pub own : ℕ → List Entry → List Entry

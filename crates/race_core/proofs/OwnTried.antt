@@ -3,11 +3,13 @@ use Rattle.node_model.specs.Clocks.{hold_time}
 use Rattle.std.proofs.Common.{◌≡◌, ◌≢◌, ℕ, zero, suc, ◌+◌, ◌<◌, ◌≤◌, Bool, true, false, List, [], ◌∷◌, length, Option, Some, None, ◌⊎◌, inl, inr, refl, sym, ap, ◌∙◌, subst, arith}
 use Rattle.std.specs.Prelude.{if◌then◌else◌, ◌==◌, ◌&&◌, ◌||◌, find, not, slice_get}
 use Rattle.std.specs.List.{range_with_len, list_all}
-use Rattle.std.proofs.lemmas.Bool.{true≢false}
+use Rattle.std.proofs.lemmas.Bool.{true≢false, and_from, or_left, or_right}
 use Rattle.std.proofs.lemmas.Bool.Decides.{nat_tests}
 use Rattle.annex_base.specs.Lists.{Member}
 use Rattle.annex_base.specs.declared.kinds.Call.{Call}
 use Rattle.annex_base.specs.declared.kinds.Call.TheVariants.{PutFile, Unhold}
+use Rattle.annex_base.proofs.Conditions.{eqb_refl}
+use Rattle.annex_base.proofs.Lists.{Member-filter_from, Member-filter_parts, find_member}
 use Rattle.drop_proof.specs.declared.rule.Side.{Side}
 use Rattle.drop_proof.specs.declared.rule.Side.TheVariants.{Local, Remote}
 use Rattle.run_data.specs.declared.entry.By.{By}
@@ -45,8 +47,7 @@ use Rattle.node_model.specs.TransferStep.{sources}
 use Rattle.node_model.specs.Turns.{by_partner, first_step, goes, goes_on, has_room, needs}
 use Rattle.node_model.specs.Found.{JobKind as FoundBy}
 use Rattle.run_model.specs.Run.{OwnRun}
-use Rattle.race_core.proofs.Plain.{both_true, eqb_refl, filter_member, member_filter, or_left, or_right}
-use Rattle.race_core.proofs.Cases.{find_was, unless_found}
+use Rattle.race_core.proofs.Cases.{unless_found}
 use Rattle.race_core.proofs.JobKept.{claims_kept, kind_kept, learns_kept}
 use Rattle.race_core.proofs.TalkFacts.{Fits, TalkKind}
 use Rattle.race_core.proofs.PhaseFacts.{GoodTo, is_fresh, readies_place}
@@ -83,11 +84,11 @@ not_same a b apart = go (a == b) refl
 -- a peer of a job is one of them
 pub peer_other : (s : SetUp) (peer : ℕ) → peer < length s.repos → peer ≢ s.number → Member peer (others s)
 peer_other s peer known apart =
-    filter_member (λ x. not (x == s.number)) (range_with_len 0 (length s.repos)) peer (range_member peer 0 (length s.repos) (omega arith) (omega arith)) (not_same peer s.number apart)
+    Member-filter_from (λ x. not (x == s.number)) (range_with_len 0 (length s.repos)) peer (range_member peer 0 (length s.repos) (omega arith) (omega arith)) (not_same peer s.number apart)
 
 pub other_apart : (s : SetUp) (peer : ℕ) → Member peer (others s) → peer ≢ s.number
 other_apart s peer m same =
-    let kept = (member_filter (λ x. not (x == s.number)) (range_with_len 0 (length s.repos)) peer m).1 in
+    let kept = (Member-filter_parts (λ x. not (x == s.number)) (range_with_len 0 (length s.repos)) peer m).1 in
     absurd (grind (arith, nat_tests))
 
 get_member : {X : Type 0} (xs : List X) (k : ℕ) (x : X) → slice_get xs k ≡ Some x → Member x xs
@@ -110,12 +111,12 @@ source_other s t kind (Some p) peer same is e = kind_peer s kind (Some p) peer i
 
 -- a candidate that a drop asks, but its own repository
 next_other : (s : SetUp) (side : Side) (t : ℕ) (q : ℕ → Bool) (peer : ℕ) → find q (candidates side (length s.repos) s.number t) ≡ Some peer → Member peer (others s) ⊎ ((side ≡ Remote) × (q s.number ≡ true))
-next_other s Local t q peer e = inl (find_was q (others s) peer e).0
-next_other s Remote t q peer e = go (find_was q (candidates Remote (length s.repos) s.number t) peer e)
+next_other s Local t q peer e = inl (find_member q (others s) peer e).0
+next_other s Remote t q peer e = go (find_member q (candidates Remote (length s.repos) s.number t) peer e)
   where
     go : Member peer (candidates Remote (length s.repos) s.number t) × (q peer ≡ true) → Member peer (others s) ⊎ ((Remote ≡ Remote) × (q s.number ≡ true))
     go (inl same, yes') = inr (refl, subst (λ n. q n ≡ true) same yes')
-    go (inr m, yes') = inl (member_filter (λ x. not (x == t)) (others s) peer m).0
+    go (inr m, yes') = inl (Member-filter_parts (λ x. not (x == t)) (others s) peer m).0
 
 -- ---- what was read and heard of a candidate
 
@@ -145,9 +146,6 @@ heard_unasked s st w c h heard is =
     let standing = standing_by (st.read w.number) w.what.key (id_of s.repos c) in
     to_ask_is s st w c ∙ ap (λ (hs : List (ℕ × Heard)). is_unasked standing (told_of hs c)) is ∙ now standing
   where
-    eqb_refl : (n : ℕ) → (n == n) ≡ true
-    eqb_refl n = grind (arith, nat_tests)
-
     now : (standing : Standing) → is_unasked standing (told_of ((c, h) ∷ heard) c) ≡ false
     now standing = rw (eqb_refl c) (told_unasked standing h)
 
@@ -462,7 +460,7 @@ module _ (s : SetUp) (p : List Entry) (e : Entry) (r : OwnRun s (e ∷ p)) (is :
       × (is_fresh x.phase ≡ false → ((c : List Entry) × (before_step (e ∷ p) s.number x.number ≡ Some c)) × (is_to_ask s (state_of s (e ∷ p)) x s.number ≡ false))
   new_tried gets = (
     or_right (in_drop p s.number x.number) (is_of s.number e && starts_drop p s.number x.number e e.kind)
-        (both_true (is_of s.number e) (starts_drop p s.number x.number e e.kind) is
+        (and_from (is_of s.number e) (starts_drop p s.number x.number e e.kind) is
         (subst (λ n. starts_drop p s.number n e e.kind ≡ true) (sym number)
         (gets_begins s p e r.1 b.by e.kind (step_kind s p e x b) gets (sym (ap (λ (y : Work). y.part) b.work_is) ∙ part) b.goes_on))),
     λ later. absurd (fresh_off x.phase (new_phase (λ d. let both : Gets ≡ Drops = sym gets ∙ d in cc)) later),

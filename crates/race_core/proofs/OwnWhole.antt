@@ -3,6 +3,7 @@ use Rattle.node_model.specs.Clocks.{hold_time, ClockSet, runs_on}
 use Rattle.std.proofs.Common.{◌≡◌, ℕ, ◌+◌, ◌-◌, ◌*◌, ◌/◌, ◌<◌, ◌≤◌, Bool, true, false, not, ◌&&◌, ◌||◌, cond, List, [], ◌∷◌, length, Option, Some, None, ◌⊎◌, inl, inr, refl, sym, ap, ◌∙◌, subst}
 use Rattle.std.specs.Prelude.{option_map, if◌then◌else◌, ◌==◌}
 use Rattle.std.specs.List.{list_any}
+use Rattle.std.proofs.lemmas.Bool.{and_parts}
 use Rattle.drop_proof.specs.declared.rule.Need.{Need}
 use Rattle.drop_proof.specs.declared.rule.Side.{Side}
 use Rattle.drop_proof.specs.declared.rule.Side.TheVariants.{Local, Remote}
@@ -26,7 +27,6 @@ use Rattle.run_model.specs.Drops.{cause_closed, cause_own, cause_said, cause_tak
 use Rattle.race_core.specs.Lawful.{Free}
 use Rattle.race_core.proofs.Heard.{Heard, heard, heard_answer, heard_cause, heard_frame, heard_kind, heard_request, hears, known_evidence, known_offer, knows, newer_heard, still_waits}
 use Rattle.race_core.proofs.Own.{Awaits, HasDeadline, HeardOf, InTimeBy, InTurn, MayEnd, MayBar, MayObey, MayOrder, MayRelease, MayRemove, MaySend, OneClock, Own, SaidByClock, asks_copy, has_asked, is_share}
-use Rattle.race_core.proofs.Lists.{and_true}
 use Rattle.race_core.proofs.Known.{gather_same, reached_same}
 use Rattle.race_core.proofs.Told.{taker_way}
 use Rattle.race_core.proofs.OwnPasts.{Bare, bare, client_of, mine, own_bar, own_before, own_begun, own_by, own_fold, own_count, own_decided, own_done, own_holds, own_in_drop, own_jobs, own_last, own_made, own_need, own_present, own_said, own_standing, own_taken, stated, when_down}
@@ -231,7 +231,7 @@ module _ (repos : List RepoView) (r : ℕ) (e : Entry) (past : List Entry) where
   whole_set before h = own_clock repos r before ∙ (h ∙ sym (own_clock repos r past))
 
   whole_one_clock : (j : ℕ) → OneClock repos r (mine r past) j → OneClock repos r past j
-  whole_one_clock j h x before o s = whole_set before (h x (mine r before) (mine_occurs r past x before o (and_true (is_of r x) _ (and_true (is_job r j x) _ s).0).0) s)
+  whole_one_clock j h x before o s = whole_set before (h x (mine r before) (mine_occurs r past x before o (and_parts (is_of r x) _ (and_parts (is_job r j x) _ s).0).0) s)
 
   whole_said : (w : Way) → SaidByClock repos r (mine r past) w → SaidByClock repos r past w
   whole_said w h x before o is g m on = whole_set before (h x (mine r before) (mine_occurs r past x before o is) is g m on)
@@ -345,7 +345,7 @@ module _ (repos : List RepoView) (r : ℕ) (e : Entry) (past : List Entry) where
 
   whole_ends : (j : ℕ) → MayEnd r (mine r past) j → MayEnd r past j
   whole_ends j m x before g deadline key o is sends up says_it =
-      let parts = and_true (is_of r x) _ is in
+      let parts = and_parts (is_of r x) _ is in
       below _ _ _ _ (own_count is_request r (way_from r g) (sender_from r g) past) (own_taken is_answer r (down_of (way_from r g)) (client_from r g up) past)
       (m x (mine r before) g deadline key (mine_occurs r past x before o parts.0) is sends up says_it)
 

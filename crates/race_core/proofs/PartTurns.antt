@@ -3,6 +3,7 @@ use Rattle.std.proofs.Common.{◌≡◌, ℕ, Bool, true, List, [], ◌∷◌, O
 use Rattle.std.specs.Prelude.{◌==◌}
 use Rattle.annex_base.specs.declared.kinds.Call.{Call}
 use Rattle.annex_base.specs.declared.kinds.Call.TheVariants.{Unhold, PutFile}
+use Rattle.annex_base.proofs.Conditions.{if_either}
 use Rattle.drop_proof.specs.declared.rule.Side.{Side}
 use Rattle.drop_proof.specs.declared.rule.Side.TheVariants.{Remote}
 use Rattle.run_data.specs.declared.entry.Entry.{Entry}
@@ -19,7 +20,6 @@ use Rattle.node_model.specs.Sessions.{line_in}
 use Rattle.node_model.specs.Ends.{end_after}
 use Rattle.node_model.specs.Jobs
 use Rattle.node_model.specs.Jobs.{AsksTime, Drops, Fresh, Gets, GetsWord, Orders, Part, Phase, Puts, PutsAnswer, PutsOffer, Rows, Work, closed_part, fault_of, fault_phase, first_look, hears_frame, job_end, listens, quiet, says, says_some, sends, side_of, talks, talks_on, target_of, took, took_line, unreleased, word_taken}
-use Rattle.race_core.proofs.Cases.{if_found}
 
 -- the answers by which the peer has the content
 abbrev pub HasIt : Phase → Message → Type 0
@@ -57,7 +57,7 @@ closed_same : (r : ℕ) (w : Work) (peer : ℕ) (part : Part) → Same w (closed
 closed_same r w peer Gets = refl
 closed_same r w peer Puts = refl
 closed_same r w peer Drops =
-    if_found (Same w) (target_of r w == peer) (Jobs.to_phase w (Jobs.Ends (outcomes.Refused (refusals.Lost (Jobs.is_ordered w.phase))))) (Jobs.hears w peer (Jobs.Lacks causes.Closed)) (λ e. refl) (λ e. refl)
+    if_either (Same w) (target_of r w == peer) (Jobs.to_phase w (Jobs.Ends (outcomes.Refused (refusals.Lost (Jobs.is_ordered w.phase))))) (Jobs.hears w peer (Jobs.Lacks causes.Closed)) (λ e. refl) (λ e. refl)
 
 phase_same : (r : ℕ) (w : Work) (part : Part) (side : Side) (phase : Phase) → Same w (fault_phase r w part side phase)
 phase_same r w Drops Remote Fresh = refl
@@ -115,5 +115,5 @@ talks_turn rows r w e [] = elim (hears_turn rows r w e.taken) [ inl same ↦ inl
 pub on_turn : (rows : Rows) (r : ℕ) (w : Work) (e : Entry) (p : Option ℕ) → Same w (talks_on rows r w e p) ⊎ ((e.sent ≡ []) × (FirstTurn w e.taken ⊎ TakenTurn w e.taken))
 on_turn rows r w e None = talks_turn rows r w e e.sent
 on_turn rows r w e (Some peer) =
-    if_found (λ x. Same w x ⊎ ((e.sent ≡ []) × (FirstTurn w e.taken ⊎ TakenTurn w e.taken))) (end_after (job_end w peer) (rows.ends (job_end w peer)) e).opened (talks rows r w e e.sent) (closed_part r w peer w.part)
+    if_either (λ x. Same w x ⊎ ((e.sent ≡ []) × (FirstTurn w e.taken ⊎ TakenTurn w e.taken))) (end_after (job_end w peer) (rows.ends (job_end w peer)) e).opened (talks rows r w e e.sent) (closed_part r w peer w.part)
     (λ h. talks_turn rows r w e e.sent) (λ h. inl (closed_same r w peer w.part))

@@ -5,6 +5,8 @@ use Rattle.std.specs.List.{list_all}
 use Rattle.std.proofs.lemmas.Bool.{true≢false}
 use Rattle.annex_base.specs.Lists.{Each, Member}
 use Rattle.annex_base.specs.declared.kinds.Call.{Call}
+use Rattle.annex_base.proofs.Conditions.{if_either}
+use Rattle.annex_base.proofs.Lists.{Each-member}
 use Rattle.annex_base.specs.declared.kinds.Call.TheVariants as calls
 use Rattle.drop_proof.specs.declared.rule.Side.{Side}
 use Rattle.drop_proof.specs.declared.rule.Side.TheVariants.{Local, Remote}
@@ -28,7 +30,7 @@ use Rattle.node_model.specs.SetUp.{SetUp}
 use Rattle.node_model.specs.Sessions.{reaches}
 use Rattle.node_model.specs.Jobs
 use Rattle.node_model.specs.Jobs.{Part, Gets, Puts, Drops, Phase, Fresh, Next, Opens, Greets, GetsData, GetsBytes, GetsWord, PutsOffer, PutsBytes, PutsWord, PutsAnswer, AsksLock, AsksLook, AsksTime, job_end, partner, side_of, is_move}
-use Rattle.node_model.specs.Calls.{to_commit, to_hold, to_release}
+use Rattle.node_model.specs.Calls.{to_commit, to_hold, to_release, to_resume}
 use Rattle.node_model.specs.Look.{Made, failing, waiting}
 use Rattle.node_model.specs.SessionStep.{bytes_left}
 use Rattle.node_model.specs.Knows.{enough_by, next_by}
@@ -37,8 +39,7 @@ use Rattle.node_model.specs.DropStep.{asks_copy, asks_lock, asks_target, bars, e
 use Rattle.node_model.specs.Requests.{asks, goes_to}
 use Rattle.node_model.specs.TransferStep.{content_of, first_get, first_put, gains, next_get, next_source, puts_from, puts_piece, takes_bytes, takes_get, takes_put}
 use Rattle.node_model.specs.Turns.{awaits, by_partner, first_step, goes, goes_on, has_room, is_awaiting, judges, needs, next_step, outcome_of, takes, takes_answer, takes_frame, takes_text, with_partner}
-use Rattle.race_core.proofs.Cases.{if_found, unless_found}
-use Rattle.race_core.proofs.Plain.{each_member}
+use Rattle.race_core.proofs.Cases.{unless_found}
 use Rattle.race_core.proofs.JobSteps.{Stepped, turn_at}
 
 abbrev IsEnd : EntryKind → Type 0
@@ -85,22 +86,22 @@ orders_shuts t taken deadline m = one_shuts t (Order t.w.number (target t) deadl
 target_shuts : (t : Turn) (version : ℕ) (taken : Option FrameView) (end : Option ℕ) → Shuts t (asks_target t version taken end)
 target_shuts t version taken None = orders_shuts t taken None (Remove (key_of t))
 target_shuts t version taken (Some end) =
-    if_found (Shuts t) (nat_lt version 3) (quietly (talk t) taken) (says_to t (talk t) taken (target t) GetTimestamp) (λ e. inr tt) (λ e. one_shuts t (talk t) taken (target t) (Line (text_of GetTimestamp)) refl)
+    if_either (Shuts t) (nat_lt version 3) (quietly (talk t) taken) (says_to t (talk t) taken (target t) GetTimestamp) (λ e. inr tt) (λ e. one_shuts t (talk t) taken (target t) (Line (text_of GetTimestamp)) refl)
 
 copy_shuts : (t : Turn) (version : ℕ) (taken : Option FrameView) (peer : ℕ) (side : Side) → Shuts t (asks_copy t version taken peer side)
 copy_shuts t version taken peer Local = one_shuts t (talk t) taken peer (Line (text_of (LockContent (key_of t)))) refl
 copy_shuts t version taken peer Remote =
-    if_found (Shuts t) (target t == peer) (asks_target t version taken (first_end t)) (asks_lock t taken peer)
+    if_either (Shuts t) (target t == peer) (asks_target t version taken (first_end t)) (asks_lock t taken peer)
     (λ e. target_shuts t version taken (first_end t)) (λ e. one_shuts t (talk t) taken peer (Line (text_of (LockContent (key_of t)))) refl)
 
 asks_shuts : (t : Turn) (version : ℕ) (taken : Option FrameView) (peer : ℕ) (part : Part) → Shuts t (asks t version taken peer part)
 asks_shuts t version taken peer Gets =
-    attempts_shuts t (calls.PartSize ∷ []) taken (says_to t (talk t) taken peer (Get t.look.part [] (key_of t))) (one_shuts t (talk t) taken peer (Line (text_of (Get t.look.part [] (key_of t)))) refl)
+    attempts_shuts t (to_resume t.look.part) taken (says_to t (talk t) taken peer (Get t.look.part [] (key_of t))) (one_shuts t (talk t) taken peer (Line (text_of (Get t.look.part [] (key_of t)))) refl)
 asks_shuts t version taken peer Puts = one_shuts t (talk t) taken peer (Line (text_of (Put [] (key_of t)))) refl
 asks_shuts t version taken peer Drops = copy_shuts t version taken peer (side_of t.w)
 
 goes_to_shuts : (t : Turn) (peer : ℕ) → Shuts t (goes_to t peer)
-goes_to_shuts t peer = if_found (Shuts t) (end_with t peer).opened (asks t t.w.version None peer t.w.part) (sends_to t (talk t) None peer (Opening ∷ []))
+goes_to_shuts t peer = if_either (Shuts t) (end_with t peer).opened (asks t t.w.version None peer t.w.part) (sends_to t (talk t) None peer (Opening ∷ []))
     (λ o. asks_shuts t t.w.version None peer t.w.part) (λ o. one_shuts t (talk t) None peer Opening refl)
 
 -- ---- the steps that take no frame
@@ -122,7 +123,7 @@ first_drop_shuts t Local = attempts_shuts t (calls.Has ∷ []) None (bars t (row
 first_drop_shuts t Remote = remote_shuts t (required_there t)
 
 first_get_shuts : (t : Turn) (here filled : Bool) (source : Option ℕ) → next_source t ≡ source → Shuts t (first_get t here filled source)
-first_get_shuts t true filled source is = if_found (Shuts t) (is_move t.w.what.kind) (quietly (talk t) None) (ends t None (Got None None)) (λ e. inr tt) (λ e. ends_shuts t None (Got None None))
+first_get_shuts t true filled source is = if_either (Shuts t) (is_move t.w.what.kind) (quietly (talk t) None) (ends t None (Got None None)) (λ e. inr tt) (λ e. ends_shuts t None (Got None None))
 first_get_shuts t false true source is = ends_shuts t None (TransferRefused failures.Busy)
 first_get_shuts t false false None is = inr tt
 first_get_shuts t false false (Some peer) is = goes_to_shuts t peer
@@ -138,7 +139,7 @@ first_shuts t Puts = attempts_shuts t (calls.Has ∷ []) None (first_put t (is_t
 first_shuts t Drops = first_drop_shuts t (side_of t.w)
 
 removes_shuts : (t : Turn) → Shuts t (removes t)
-removes_shuts t = if_found (Shuts t) (in_time (clock_of t) (first_end t)) (attempts t (calls.Remove ∷ []) None (quietly (Gone (by_me t) (key_of t)) None)) (ends t None (expired (clock_of t) (first_end t)))
+removes_shuts t = if_either (Shuts t) (in_time (clock_of t) (first_end t)) (attempts t (calls.Remove ∷ []) None (quietly (Gone (by_me t) (key_of t)) None)) (ends t None (expired (clock_of t) (first_end t)))
     (λ e. attempts_shuts t (calls.Remove ∷ []) None (quietly (Gone (by_me t) (key_of t)) None) (inr tt)) (λ e. ends_shuts t None (expired (clock_of t) (first_end t)))
 
 judges_shuts : (t : Turn) → t.w.part ≡ Drops → t.w.phase ≡ Next → (enough : Bool) (next : Option ℕ) (side : Side) → enough_by t.read t.w ≡ enough → next_by t.read t.w ≡ next → side_of t.w ≡ side → Shuts t (judges t enough next side)
@@ -175,16 +176,16 @@ times_shuts : (t : Turn) (f : FrameView) (n : ℕ) (end : Option ℕ) → Shuts 
 times_shuts t f n None = orders_shuts t (Some f) None (Remove (key_of t))
 times_shuts t f n (Some end) =
     let deadline = n + (end - clock_of t) / 1000 in
-    if_found (Shuts t) (nat_lt (clock_of t) end) (orders t (Some f) (Some deadline) (RemoveBefore deadline (key_of t))) (ends t (Some f) (Refused (refusals.Expired end (clock_of t))))
+    if_either (Shuts t) (nat_lt (clock_of t) end) (orders t (Some f) (Some deadline) (RemoveBefore deadline (key_of t))) (ends t (Some f) (Refused (refusals.Expired end (clock_of t))))
     (λ e. orders_shuts t (Some f) (Some deadline) (RemoveBefore deadline (key_of t))) (λ e. ends_shuts t (Some f) (Refused (refusals.Expired end (clock_of t))))
 
 time_shuts : (t : Turn) (f : FrameView) (peer n : ℕ) (side : Side) → partner t.w.what.peer t.w.phase ≡ Some peer → Shuts t (takes_time t f peer n side)
 time_shuts t f peer n Local on = wrong_shuts t f peer on
-time_shuts t f peer n Remote on = if_found (Shuts t) (nat_lt n (2 ^ 61)) (times t f n (first_end t)) (wrong t f peer) (λ e. times_shuts t f n (first_end t)) (λ e. wrong_shuts t f peer on)
+time_shuts t f peer n Remote on = if_either (Shuts t) (nat_lt n (2 ^ 61)) (times t f n (first_end t)) (wrong t f peer) (λ e. times_shuts t f n (first_end t)) (λ e. wrong_shuts t f peer on)
 
 bytes_shuts : (t : Turn) (f : FrameView) (peer n : ℕ) (phase : Phase) → partner t.w.what.peer t.w.phase ≡ Some peer → Shuts t (takes_bytes t f peer n phase)
 bytes_shuts t f peer n (GetsBytes p start size left) on =
-    if_found (Shuts t) (nat_lt 0 n && nat_le n left) (attempts t (calls.Append ∷ []) (Some f) (quietly (talk t) (Some f))) (wrong t f peer)
+    if_either (Shuts t) (nat_lt 0 n && nat_le n left) (attempts t (calls.Append ∷ []) (Some f) (quietly (talk t) (Some f))) (wrong t f peer)
     (λ e. attempts_shuts t (calls.Append ∷ []) (Some f) (quietly (talk t) (Some f)) (inr tt)) (λ e. wrong_shuts t f peer on)
 bytes_shuts t f peer n phase on = wrong_shuts t f peer on
 
@@ -213,12 +214,12 @@ from_shuts t f peer n on =
     let m = Data (bytes_left (content_of t) n) in
     let good = if reaches (content_of t) n then says_to t (talk t) (Some f) peer m else wrong t f peer in
     attempts_shuts t (calls.Size ∷ []) (Some f) good
-    (if_found (Shuts t) (reaches (content_of t) n) (says_to t (talk t) (Some f) peer m) (wrong t f peer) (λ e. one_shuts t (talk t) (Some f) peer (Line (text_of m)) refl) (λ e. wrong_shuts t f peer on))
+    (if_either (Shuts t) (reaches (content_of t) n) (says_to t (talk t) (Some f) peer m) (wrong t f peer) (λ e. one_shuts t (talk t) (Some f) peer (Line (text_of m)) refl) (λ e. wrong_shuts t f peer on))
 
 put_shuts : (t : Turn) (f : FrameView) (peer : ℕ) (phase : Phase) (m : Message) → partner t.w.what.peer t.w.phase ≡ Some peer → Shuts t (takes_put t f peer phase m)
 put_shuts t f peer (PutsOffer p) AlreadyHave on = inr tt
 put_shuts t f peer (PutsOffer p) Failure on = inr tt
-put_shuts t f peer (PutsOffer p) (Error text) on = if_found (Shuts t) (bytes_eq text (codes "busy")) (hears t f) (wrong t f peer) (λ e. inr tt) (λ e. wrong_shuts t f peer on)
+put_shuts t f peer (PutsOffer p) (Error text) on = if_either (Shuts t) (bytes_eq text (codes "busy")) (hears t f) (wrong t f peer) (λ e. inr tt) (λ e. wrong_shuts t f peer on)
 put_shuts t f peer (PutsOffer p) (PutFrom n) on = from_shuts t f peer n on
 put_shuts t f peer (PutsAnswer p start) Success on = inr tt
 put_shuts t f peer (PutsAnswer p start) Failure on = inr tt
@@ -231,7 +232,7 @@ answer_shuts t f peer Drops phase m on = drop_shuts t f peer phase m on
 
 takes_shuts : (t : Turn) (f : FrameView) (peer : ℕ) (phase : Phase) (m : Message) → partner t.w.what.peer t.w.phase ≡ Some peer → Shuts t (takes t f peer phase m)
 takes_shuts t f peer (Opens p) (AuthSuccess id) on = one_shuts t (talk t) (Some f) peer (Line (text_of (Version 3))) refl
-takes_shuts t f peer (Greets p) (Version n) on = if_found (Shuts t) (nat_le n 3) (asks t n (Some f) peer t.w.part) (wrong t f peer) (λ e. asks_shuts t n (Some f) peer t.w.part) (λ e. wrong_shuts t f peer on)
+takes_shuts t f peer (Greets p) (Version n) on = if_either (Shuts t) (nat_le n 3) (asks t n (Some f) peer t.w.part) (wrong t f peer) (λ e. asks_shuts t n (Some f) peer t.w.part) (λ e. wrong_shuts t f peer on)
 takes_shuts t f peer phase m on = answer_shuts t f peer t.w.part phase m on
 
 text_shuts : (t : Turn) (f : FrameView) (peer : ℕ) (m : Option Message) → partner t.w.what.peer t.w.phase ≡ Some peer → Shuts t (takes_text t f peer m)
@@ -278,7 +279,7 @@ pub stepped_shuts : (s : SetUp) (past : List Entry) (e : Entry) (x : Stepped s p
     → (g : FrameView) → Member g e.sent → g.body ≡ Closing → partner x.w.what.peer x.w.phase ≡ Some g.peer
 stepped_shuts s past e x goes_on g m is = elim (partner_shuts (turn_at s past e x) x.made (partner x.w.what.peer x.w.phase) refl x.does) [
   | inl end ↦ absurd (ended x.made.kind (ap (λ (y : Entry). y.kind) x.is) end)
-  | inr all ↦ each_member (OnPartner (turn_at s past e x)) x.made.sent g all (subst (Member g) (ap (λ (y : Entry). y.sent) x.is) m) is
+  | inr all ↦ Each-member (OnPartner (turn_at s past e x)) x.made.sent g all (subst (Member g) (ap (λ (y : Entry). y.sent) x.is) m) is
 ]
   where
     ended : (kind : EntryKind) → e.kind ≡ kind → IsEnd kind → ⊥

@@ -4,6 +4,8 @@ use Rattle.std.specs.Prelude.{◌+◌, ◌-◌, ◌/◌, ◌^◌, length, slice_
 use Rattle.std.specs.List.{list_all}
 use Rattle.std.specs.Option.{option_to_list}
 use Rattle.annex_base.specs.Lists.{Member}
+use Rattle.annex_base.proofs.Lists.{find_member}
+use Rattle.annex_base.proofs.Functions.{funext}
 use Rattle.annex_base.specs.declared.kinds.Call.TheVariants as calls
 use Rattle.drop_proof.specs.declared.rule.Side.{Side}
 use Rattle.drop_proof.specs.declared.rule.Side.TheVariants.{Local, Remote}
@@ -42,8 +44,6 @@ use Rattle.node_model.specs.Requests.{asks, goes_to}
 use Rattle.node_model.specs.TransferStep.{gains, first_get, first_put, next_get, next_source, sources, takes_bytes, takes_get, takes_put}
 use Rattle.node_model.specs.Turns.{awaits, by_partner, first_step, goes, goes_on, has_room, is_awaiting, job_step, judge_needs, judges, needs, next_needs, next_step, outcome_of, peer_needs, slot_step, takes, takes_answer, takes_frame, takes_text, target_needs, with_partner}
 use Rattle.node_model.specs.Step.{step}
-use Rattle.race_core.proofs.Cases.{find_was}
-use Rattle.race_core.proofs.Plain.{funext}
 
 -- the set-up with other paths
 abbrev pub with_paths : SetUp → (ℕ → List (List ℕ)) → SetUp
@@ -350,7 +350,7 @@ owed-same s st k p (o ∷ os) = refl
 slot-same : (s : SetUp) (st : State) (k : Look) (p : ℕ → List (List ℕ)) → ((w : Work) → Member w st.works → p w.number ≡ s.paths w.number) → (slot : ℕ) (o : Option Work) → find (λ w. w.slot == slot) st.works ≡ o
     → slot_step (with_paths s p) st k o ≡ slot_step s st k o
 slot-same s st k p same slot None is = refl
-slot-same s st k p same slot (Some w) is = turn-same s st k w p (same w (find_was (λ w. w.slot == slot) st.works w is).0) (partner w.what.peer w.phase)
+slot-same s st k p same slot (Some w) is = turn-same s st k w p (same w (find_member (λ w. w.slot == slot) st.works w is).0) (partner w.what.peer w.phase)
 
 -- a step reads of the paths only those of the running jobs
 pub step_paths : (s : SetUp) (st : State) (k : Look) (p : ℕ → List (List ℕ)) → ((w : Work) → Member w st.works → p w.number ≡ s.paths w.number) → step (with_paths s p) st k ≡ step s st k

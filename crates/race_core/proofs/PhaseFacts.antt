@@ -3,6 +3,7 @@ use Rattle.std.proofs.Common.{◌≡◌, ◌≢◌, ℕ, ◌+◌, ◌-◌, Bool,
 use Rattle.std.specs.Prelude.{if◌then◌else◌, ◌==◌}
 use Rattle.annex_base.specs.declared.kinds.Call.{Call}
 use Rattle.annex_base.specs.declared.kinds.Call.TheVariants.{Unhold, PutFile}
+use Rattle.annex_base.proofs.Conditions.{if_either}
 use Rattle.drop_proof.specs.declared.rule.Side.{Side}
 use Rattle.drop_proof.specs.declared.rule.Side.TheVariants.{Remote}
 use Rattle.run_data.specs.declared.entry.Entry.{Entry}
@@ -25,7 +26,6 @@ use Rattle.node_model.specs.Sessions.{line_in}
 use Rattle.node_model.specs.Ends.{end_after}
 use Rattle.node_model.specs.Jobs
 use Rattle.node_model.specs.Jobs.{AsksLock, AsksLook, AsksTime, Denied, Drops, Ends, Fresh, GetsBytes, GetsData, GetsWord, Gets, Greets, Late, Next, Opens, Orders, Part, Phase, Puts, PutsAnswer, PutsBytes, PutsOffer, PutsWord, Removed, Rows, Work, claims, closed_part, fault_of, fault_phase, first_look, gained, hears_frame, job_end, learns, listens, quiet, says, says_some, sends, talks, talks_on, to_phase, took, took_line, transferred, unreleased, word_taken, work_kind}
-use Rattle.race_core.proofs.Cases.{if_found}
 use Rattle.race_core.proofs.TalkFacts.{Fits}
 
 abbrev pub is_fresh : Phase → Bool
@@ -105,7 +105,7 @@ only_orders Drops f = refl
 
 transferred_good : (w : Work) (o : Outcome) → w.part ≢ Drops → Good w (transferred w o)
 transferred_good w o apart =
-    if_found (Good w) (Jobs.is_move w.what.kind) (record w { part = Drops; phase = Fresh; fills = false }) (record w { phase = Ends o; fills = false })
+    if_either (Good w) (Jobs.is_move w.what.kind) (record w { part = Drops; phase = Fresh; fills = false }) (record w { phase = Ends o; fills = false })
     (λ e. drops w.part apart) (λ e. ends w.part)
   where
     drops : (part : Part) → part ≢ Drops → GoodTo part w.phase Drops Fresh
@@ -145,7 +145,7 @@ PartReads part m = ⊥
 
 more_good : (w : Work) (peer start at left : ℕ) → w.part ≡ Puts → Good w (to_phase w (Jobs.puts_more peer start at left))
 more_good w peer start at left part =
-    if_found (λ p. Good w (to_phase w p)) (left == 0) (PutsWord peer start) (PutsBytes peer start at left)
+    if_either (λ p. Good w (to_phase w p)) (left == 0) (PutsWord peer start) (PutsBytes peer start at left)
     (λ e. to (PutsWord peer start) tt refl) (λ e. to (PutsBytes peer start at left) tt refl)
   where
     to : (phase : Phase) → Fits Puts phase → is_fresh phase ≡ false → Good w (to_phase w phase)
@@ -153,7 +153,7 @@ more_good w peer start at left part =
 
 more_gets : (w : Work) (peer start size left : ℕ) → w.part ≡ Gets → Good w (to_phase w (Jobs.gets_more peer start size left))
 more_gets w peer start size left part =
-    if_found (λ p. Good w (to_phase w p)) (left == 0) (GetsWord peer start size) (GetsBytes peer start size left)
+    if_either (λ p. Good w (to_phase w p)) (left == 0) (GetsWord peer start size) (GetsBytes peer start size left)
     (λ e. to (GetsWord peer start size) tt refl) (λ e. to (GetsBytes peer start size left) tt refl)
   where
     to : (phase : Phase) → Fits Gets phase → is_fresh phase ≡ false → Good w (to_phase w phase)
@@ -266,13 +266,13 @@ closed_good : (r : ℕ) (w : Work) (peer : ℕ) (part : Part) → Good w (closed
 closed_good r w peer Gets = at_good w.part w.phase Next tt refl
 closed_good r w peer Puts = at_good w.part w.phase (Ends (outcomes.TransferRefused failures.Closed)) tt refl
 closed_good r w peer Drops =
-    if_found (Good w) (Jobs.target_of r w == peer) (to_phase w (Ends (outcomes.Refused (refusals.Lost (Jobs.is_ordered w.phase))))) (Jobs.hears w peer (Jobs.Lacks causes.Closed))
+    if_either (Good w) (Jobs.target_of r w == peer) (to_phase w (Ends (outcomes.Refused (refusals.Lost (Jobs.is_ordered w.phase))))) (Jobs.hears w peer (Jobs.Lacks causes.Closed))
     (λ e. at_good w.part w.phase (Ends (outcomes.Refused (refusals.Lost (Jobs.is_ordered w.phase)))) tt refl) (λ e. at_good w.part w.phase Next tt refl)
 
 on_good : (rows : Rows) (r : ℕ) (w : Work) (e : Entry) (p : Option ℕ) → SentReads w.part e.sent → Fits w.part w.phase → Good w (talks_on rows r w e p)
 on_good rows r w e None reads fits = talks_good rows r w e e.sent reads fits
 on_good rows r w e (Some peer) reads fits =
-    if_found (Good w) (end_after (job_end w peer) (rows.ends (job_end w peer)) e).opened (talks rows r w e e.sent) (closed_part r w peer w.part)
+    if_either (Good w) (end_after (job_end w peer) (rows.ends (job_end w peer)) e).opened (talks rows r w e e.sent) (closed_part r w peer w.part)
     (λ h. talks_good rows r w e e.sent reads fits) (λ h. closed_good r w peer w.part)
 
 -- it learns a version and fills a key, and stays where it is

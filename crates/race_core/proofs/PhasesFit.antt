@@ -1,6 +1,7 @@
 -- Over a repository's own part of a run within bounds: the words of its jobs are read as they are meant, and so what the phase of each
 -- running job says of requests and answers is so (J4).
 use Rattle.std.proofs.Common.{◌≡◌, ℕ, ◌<◌, ◌^◌, true, List, [], ◌∷◌, Option, Some, None, ◌⊎◌, inl, inr, refl, ap, arith}
+use Rattle.std.proofs.lemmas.Bool.{ltb-true}
 use Rattle.annex_base.specs.Lists.{Member}
 use Rattle.annex_base.specs.declared.kinds.Word.{Word}
 use Rattle.drop_proof.specs.declared.rule.Side.TheVariants.{Local, Remote}
@@ -25,7 +26,6 @@ use Rattle.race_core.proofs.Spoken.{data_read, get_read, lock_read, look_read, p
 use Rattle.race_core.proofs.EarlyHolds.{deadline_read}
 use Rattle.race_core.proofs.ClientSteps.{Speaks}
 use Rattle.race_core.proofs.ClientRuns.{AllFit, Fluent_does, Given, Slots, all_fit}
-use Rattle.race_core.proofs.Plain.{lt_true}
 
 -- a remote drop has its target as peer
 pub target_peer : (s : SetUp) (w : Work) → Aims s w → w.part ≡ Drops → side_of w ≡ Remote → w.what.peer ≡ Some (target_of s.number w)
@@ -46,7 +46,7 @@ works_speak s past look h small w runs = record {
   lock = lock_read s past h.run w runs;
   look = look_read s past h.run w runs;
   remove = remove_read s past h.run w runs;
-  before = λ n end early first soon. deadline_read s past w n end (turn_clock) h runs (lt_true n (2 ^ 61) early) first;
+  before = λ n end early first soon. deadline_read s past w n end (turn_clock) h runs (ltb-true n (2 ^ 61) early) first;
   get = get_read s past h.run w runs look.part small;
   put = put_read s past h.run w runs;
   data' = λ n. data_read s past w.what.key n h;

@@ -4,6 +4,7 @@ use Rattle.std.specs.Prelude.{if◌then◌else◌, min, nat_le}
 use Rattle.std.specs.List.{list_all}
 use Rattle.std.proofs.lemmas.Bool.Decides.{nat_tests}
 use Rattle.annex_base.specs.Lists.{Each, Member}
+use Rattle.annex_base.proofs.Conditions.{if_either}
 use Rattle.annex_base.specs.declared.kinds.Call.TheVariants as calls
 use Rattle.run_data.specs.declared.entry.Entry.{Entry}
 use Rattle.run_data.specs.declared.entry.EntryKind.TheVariants.{Fault}
@@ -29,7 +30,7 @@ use Rattle.node_model.specs.JobStep.{Turn, by_me, end_with, quietly, says_to, se
 use Rattle.node_model.specs.TransferStep.{content_of, puts_from, puts_piece}
 use Rattle.node_model.specs.Turns.{by_partner, goes, goes_on, has_room, is_awaiting, needs, takes, takes_answer, takes_frame, takes_text, with_partner, awaits}
 use Rattle.run_model.specs.Run.{OwnPast, RunPast, RunStep, set_up}
-use Rattle.race_core.proofs.Cases.{if_found, unless_found}
+use Rattle.race_core.proofs.Cases.{unless_found}
 use Rattle.race_core.proofs.JobKept.{kind_kept}
 use Rattle.race_core.proofs.JobSteps.{Origin, Steps, origin, stepped_runs, turn_at}
 use Rattle.race_core.proofs.TalkFacts.{Fits}
@@ -95,7 +96,7 @@ data_first : (t : Turn) (f : FrameView) (peer at left : ℕ) → message_of (tex
     → (b : FrameText) → first_of (puts_from t f peer at).sent ≡ Some b → line_in b ≡ Some (Data left) → content_of t ≡ Some (at + left)
 data_first t f peer at left reads b = unless_found (λ (m : Made). first_of m.sent ≡ Some b → line_in b ≡ Some (Data left) → content_of t ≡ Some (at + left)) (failing t.look.fails (calls.Size ∷ [])) (λ call. quietly (Fault call (by_me t)) (Some f))
     (if reaches (content_of t) at then says_to t (talk t) (Some f) peer (Data (bytes_left (content_of t) at)) else wrong t f peer) (λ call e told. absurd (cc))
-    (if_found (λ (m : Made). first_of m.sent ≡ Some b → line_in b ≡ Some (Data left) → content_of t ≡ Some (at + left)) (reaches (content_of t) at) (says_to t (talk t) (Some f) peer (Data (bytes_left (content_of t) at))) (wrong t f peer)
+    (if_either (λ (m : Made). first_of m.sent ≡ Some b → line_in b ≡ Some (Data left) → content_of t ≡ Some (at + left)) (reaches (content_of t) at) (says_to t (talk t) (Some f) peer (Data (bytes_left (content_of t) at))) (wrong t f peer)
     (λ there e told. size (content_of t) there (same_left (sym reads ∙ (ap line_in (body e) ∙ told)))) (λ gone e told. absurd (let none : None ≡ Some (Data left) = ap line_in (closes e) ∙ told in cc)))
   where
     body : Some (Line (text_of (Data (bytes_left (content_of t) at)))) ≡ Some b → Line (text_of (Data (bytes_left (content_of t) at))) ≡ b

@@ -4,6 +4,7 @@ use Rattle.std.specs.Prelude.{if◌then◌else◌, ◌&&◌, not}
 use Rattle.std.specs.List.{list_all}
 use Rattle.annex_base.specs.Lists.{Member}
 use Rattle.annex_base.specs.declared.kinds.Call.{Call}
+use Rattle.annex_base.proofs.Conditions.{if_either}
 use Rattle.annex_base.specs.declared.kinds.Call.TheVariants as calls
 use Rattle.run_data.specs.declared.entry.Entry.{Entry}
 use Rattle.run_data.specs.declared.entry.EntryKind.{EntryKind}
@@ -28,7 +29,6 @@ use Rattle.node_model.specs.Requests.{asks, goes_to}
 use Rattle.node_model.specs.TransferStep.{first_put}
 use Rattle.node_model.specs.Turns.{by_partner, goes, goes_on, has_room, needs}
 use Rattle.run_model.specs.Run.{OwnPast, OwnRun}
-use Rattle.race_core.proofs.Cases.{if_found}
 use Rattle.race_core.proofs.Spoken.{put_read}
 use Rattle.race_core.proofs.JobSteps.{Origin, Steps, invariant, turn_at}
 use Rattle.race_core.proofs.PhaseFacts.{GoodTo, is_fresh}
@@ -80,7 +80,7 @@ module _ (before : Turn) (none : owns_share before ≡ false) where
 
   module _ (read : message_of (text_of (Put [] (key_of p))) ≡ Some (Put [] (key_of p))) where
     put_goes : (peer : ℕ) → OffBy p (goes_to p peer)
-    put_goes peer = if_found (OffBy p) (end_with p peer).opened (asks p p.w.version None peer Puts) (sends_to p (talk p) None peer (Opening ∷ []))
+    put_goes peer = if_either (OffBy p) (end_with p peer).opened (asks p p.w.version None peer Puts) (sends_to p (talk p) None peer (Opening ∷ []))
         (λ e. (ap (λ o. is_idle (says_some p.w p.look.time peer None o).phase) read, λ n. absurd (cc))) (λ e. (refl, λ n. absurd (cc)))
 
     put_first : (here : Bool) (peer : Option ℕ) → OffBy p (first_put p here peer)

@@ -2,6 +2,7 @@
 use Rattle.std.proofs.Common.{◌≡◌, ℕ, ◌+◌, ◌≤◌, Bool, true, false, List, [], ◌∷◌, ◌++◌, length, Option, Some, None, refl, sym, ap, ◌∙◌, subst, arith, append-nil, append_assoc, length-append}
 use Rattle.std.specs.Prelude.{if◌then◌else◌, ◌==◌, ◌&&◌, filter, map, slice_get}
 use Rattle.std.proofs.lemmas.Bool.Decides.{nat_tests}
+use Rattle.std.proofs.lemmas.Option.{same_Some}
 use Rattle.annex_base.specs.Lists.{Each}
 use Rattle.run_data.specs.declared.entry.Entry.{Entry}
 use Rattle.run_data.specs.declared.entry.FrameView.{FrameView}
@@ -11,7 +12,6 @@ use Rattle.run_model.specs.Frames.{Flying, MayTake, Way, flying, is_on, on_way, 
 use Rattle.node_model.specs.Ends.{same_bool, EndName, sent_at, taken_at, takes_at}
 use Rattle.race_core.proofs.DialogueTurns.{bodies}
 use Rattle.race_core.proofs.WayCounts.{in_sender-is, in_taker-is, on_out, out_sender-is, way_in, way_out, out_taker-is}
-use Rattle.race_core.proofs.Flights.{some_inj}
 
 abbrev pub flying_bodies : List Flying → List FrameText
 flying_bodies [] = []
@@ -52,7 +52,7 @@ module _ (past : List Entry) (e : Entry) (w : Way) where
   -- the first of the rest
   get_rest : (gone rest : List Flying) (it : Flying) → slice_get (gone ++ rest) (length gone) ≡ Some it → (more : List Flying) × (rest ≡ it ∷ more)
   get_rest [] [] it h = absurd (cc)
-  get_rest [] (x ∷ xs) it h = (xs, ap (λ (y : Flying). y ∷ xs) (some_inj x it h))
+  get_rest [] (x ∷ xs) it h = (xs, ap (λ (y : Flying). y ∷ xs) (same_Some x it h))
   get_rest (g ∷ gone) rest it h = get_rest gone rest it h
 
   pub record First (f : FrameView) (bs : List FrameText) : Type 0 where

@@ -3,11 +3,11 @@ use Rattle.std.proofs.Common.{◌≡◌, ℕ, Bool, true, false, List, ◌∷◌
 use Rattle.std.specs.Prelude.{if◌then◌else◌, nat_lt, nat_le, ◌&&◌, ◌^◌, bytes_eq, is_none, length, option_map, option_and_then}
 use Rattle.std.specs.Fmt.{decimal}
 use Rattle.std.specs.Str.Parse.{digits_value}
+use Rattle.annex_base.proofs.Conditions.{if_either}
 use Rattle.annex_key.specs.View.{first_fault}
 use Rattle.p2p_wire.specs.declared.message.Message.{Message}
 use Rattle.p2p_wire.specs.declared.message.Message.TheVariants.{Version, CheckPresent, LockContent, UnlockContent, Remove, RemoveBefore, GetTimestamp, Get, Put, Data, Valid, Success, Failure}
 use Rattle.p2p_wire.specs.Messages.{◌⊳◌, key_in, message_by, message_of, number_in, rest_in, text_of, then_in, with_file, word_in}
-use Rattle.race_core.proofs.Cases.{if_found}
 
 -- a message that is read of the line of another
 abbrev pub SameHead : Message → Message → Type 0
@@ -71,7 +71,7 @@ then_cases {X = X} P first second text none some = go (first (word_in text)) (re
     go (Some x) (Some rest) = some x rest
 
 pub short_cases : (P : Option Message → Type 0) (text : List ℕ) → P None → P (message_by (word_in text) (rest_in text)) → P (message_of text)
-short_cases P text none some = if_found P (nat_le (length text) 8192) (message_by (word_in text) (rest_in text)) None (λ e. some) (λ e. none)
+short_cases P text none some = if_either P (nat_le (length text) 8192) (message_by (word_in text) (rest_in text)) None (λ e. some) (λ e. none)
 
 pub reads_as : (m : Message) → IsJobs m → ReadsAs m (message_of (text_of m))
 reads_as (Version n) is = short_cases (ReadsAs (Version n)) (text_of (Version n)) tt (number_cases (ReadsAs (Version n)) Version (decimal n) tt (λ k. tt))

@@ -2,8 +2,10 @@
 use Rattle.std.proofs.Common.{◌≡◌, ℕ, ◌<◌, Bool, true, false, List, [], ◌∷◌, Option, Some, None, ◌⊎◌, inl, inr, refl, sym, ap, ◌∙◌, subst}
 use Rattle.std.specs.Prelude.{if◌then◌else◌, ◌&&◌, length}
 use Rattle.std.specs.Option.{unwrap_or}
+use Rattle.std.proofs.lemmas.Option.{same_Some}
 use Rattle.annex_base.specs.Lists.{Member}
 use Rattle.annex_base.specs.Settings.{Settings}
+use Rattle.annex_base.proofs.Conditions.{eqb_refl}
 use Rattle.drop_proof.specs.declared.rule.Need.{Need}
 use Rattle.run_data.specs.declared.entry.Entry.{Entry}
 use Rattle.run_data.specs.declared.entry.EntryKind.{EntryKind}
@@ -18,7 +20,6 @@ use Rattle.node_model.specs.Jobs.{Work, running}
 use Rattle.node_model.specs.Knows.{need_of}
 use Rattle.run_model.specs.Run.{OwnPast, OwnRun}
 use Rattle.node_model.specs.Found.{JobKind}
-use Rattle.race_core.proofs.Plain.{eqb_refl, some_inj}
 use Rattle.race_core.proofs.Cases.{first_was}
 use Rattle.race_core.proofs.JobKept.{kind_kept}
 use Rattle.race_core.proofs.JobSteps.{Origin, Steps, invariant, stepped_runs, turn_at}
@@ -39,7 +40,7 @@ read_was past e r j b h = elim (first_was (before_step past r j) (if is_of r e &
 ]
   where
     go : (p q d : Bool) → (if p && (q && d) then Some past else None) ≡ Some b → (q ≡ true) × (p ≡ true) × (past ≡ b)
-    go true true true k = (refl, refl, some_inj past b k)
+    go true true true k = (refl, refl, same_Some past b k)
     go true true false k = absurd (cc)
     go true false d k = absurd (cc)
     go false q d k = absurd (cc)
@@ -121,7 +122,7 @@ decided_read s past h w m d k = let x = all d k in x.1
         let made : Decision = record { place = length p; key = key; need = need } in
         let puts : decided (e ∷ p) s.number v.number ≡ Some made = rw is (ap (decided_after (length p) v.number (decided p s.number v.number)) kind
         ∙ subst (λ n. decided_after (length p) v.number (decided p s.number v.number) (Bar n need key) ≡ Some made) (sym f.number_is) (rw (eqb_refl v.number) refl)) in
-        let same : c ≡ made = some_inj c made (sym k ∙ puts) in
+        let same : c ≡ made = same_Some c made (sym k ∙ puts) in
         (read.0, ap (λ (z : Decision). z.need) same ∙ (f.need_is ∙ ap (λ q. let z : Settings = settings_of q s.number in let n : Need = record { n = z.numcopies; m = z.mincopies } in n) (sym read.1)))
 
     own : (p : List Entry) (e : Entry) → OwnPast s (e ∷ p) → is_of s.number e ≡ true → ((x : Work) → Member x (works p s.number) → Decides s.number p x.number) → (x : Work) → Origin s p e x → Decides s.number (e ∷ p) x.number

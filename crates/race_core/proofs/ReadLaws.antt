@@ -1,8 +1,10 @@
 -- What the drops of a run's removals read of the logs, at the places of the run.
 use Rattle.std.proofs.Common.{◌≡◌, ℕ, true, List, length, Option, Some, None, inl, inr, refl, sym, ap, ◌∙◌, subst}
 use Rattle.std.specs.Prelude.{◌≢◌}
+use Rattle.std.proofs.lemmas.Option.{same_Some}
 use Rattle.annex_base.specs.declared.kinds.Level.TheVariants as levels
 use Rattle.annex_base.specs.Lists.{Each, Member}
+use Rattle.annex_base.proofs.Lists.{Each-member}
 use Rattle.drop_proof.specs.declared.evidence.Evidence.{Evidence}
 use Rattle.drop_proof.specs.declared.evidence.Kind.{Kind}
 use Rattle.drop_proof.specs.declared.evidence.Kind.TheVariants.{Locked, Trusted, Recent}
@@ -21,11 +23,10 @@ use Rattle.run_model.specs.Safety.{Removal, past_at}
 use Rattle.race_core.proofs.Reading.{standing-claimed, standing-dead, standing-untrusted}
 use Rattle.race_core.specs.Places.{removal_at}
 use Rattle.race_core.specs.Readings.{IsLocalRemoval, Judge, claim_read, judge_at, key_read, level_read}
-use Rattle.race_core.proofs.Lists.{Each-any, Each-at}
+use Rattle.race_core.proofs.Lists.{Each-any}
 use Rattle.race_core.proofs.Dropped.{meets_at, messages_at}
 use Rattle.run_model.specs.Run.{IsRun}
 use Rattle.race_core.proofs.Changes.{Obeys, Removes, removal_is, removal_was, repo_of}
-use Rattle.race_core.proofs.Flights.{some_inj}
 use Rattle.race_core.proofs.Evident.{barred}
 use Rattle.race_core.proofs.ReadOnce.{need_is_read}
 use Rattle.race_core.proofs.Gather.{evidence_each}
@@ -37,7 +38,7 @@ need_of_removal run key place r j x h w is =
     let m = ((meets_at run place w.entry h w.entry_is).own r w.repo_is).removes j key w.kind_is in
     let b = barred run.repos (past_at run place) r j key past m.barred in
     let there = removal_is run.repos w.entry (past_at run place) r j key b.d w.repo_is w.kind_is b.decided_is b.key_is in
-    ap (λ (y : Removal). y.need) (some_inj _ _ (sym is ∙ there)) ∙ need_is_read run.repos (past_at run place) r j b.d past b.decided_is
+    ap (λ (y : Removal). y.need) (same_Some _ _ (sym is ∙ there)) ∙ need_is_read run.repos (past_at run place) r j b.d past b.decided_is
 
 -- ---- evidence, in any run
 
@@ -75,8 +76,8 @@ given_by_item : (run : Run) (key : List ℕ) (place : ℕ) (e : Entry) (x : Remo
     → asked run.repos judge.past judge.repo judge.job item.repo ≡ Gives item.kind
 given_by_item run key place e x judge item h is m =
     let w = judged run key place e x h in
-    let same : w.judge ≡ judge = some_inj _ _ (sym w.judge_is ∙ is) in
-    subst (λ (y : Judge). asked run.repos y.past y.repo y.job item.repo ≡ Gives item.kind) same (Each-at (λ i. asked run.repos w.judge.past w.judge.repo w.judge.job i.repo ≡ Gives i.kind) item x.items w.given m)
+    let same : w.judge ≡ judge = same_Some _ _ (sym w.judge_is ∙ is) in
+    subst (λ (y : Judge). asked run.repos y.past y.repo y.job item.repo ≡ Gives item.kind) same (Each-member (λ i. asked run.repos w.judge.past w.judge.repo w.judge.job i.repo ≡ Gives i.kind) x.items item w.given m)
 
 ignored_gives : (clock : ℕ → ℕ) (s : Standing) (v : Option Vouch) (kind : Kind) (cause : Cause) → offer clock s v ≡ Gives kind → s ≡ Ignored cause → ⊥
 ignored_gives clock s v kind cause g i = let k : offer clock (Ignored cause) v ≡ Gives kind = rw i at g in cc

@@ -2,6 +2,7 @@
 use Rattle.std.proofs.Common.{◌≡◌, ℕ, true, ◌&&◌, List, [], ◌∷◌, Option, Some, None, ◌⊎◌, inl, inr, refl, sym, ap, ◌∙◌}
 use Rattle.std.specs.Prelude.{if◌then◌else◌}
 use Rattle.std.specs.Option.{unwrap_or}
+use Rattle.annex_base.proofs.Conditions.{eqb_refl}
 use Rattle.run_data.specs.declared.entry.Entry.{Entry}
 use Rattle.run_data.specs.declared.run.RepoView.{RepoView}
 use Rattle.run_data.specs.Repos.{id_of}
@@ -11,7 +12,6 @@ use Rattle.node_model.specs.Look.{first_of}
 use Rattle.run_model.specs.Drops.{key_in, standing}
 use Rattle.node_model.specs.Evidence.{standing_by}
 use Rattle.race_core.proofs.Own.{MessagePast}
-use Rattle.race_core.proofs.Lists.{eqb_refl}
 use Rattle.race_core.proofs.Changes.{Decides, decided_was}
 
 first_of-some : {X : Type 0} (o other : Option X) (x : X) → o ≡ Some x → (y : X) × (first_of o other ≡ Some y)

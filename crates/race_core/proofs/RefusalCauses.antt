@@ -3,6 +3,7 @@ use Rattle.std.proofs.Common.{◌≡◌, ◌≢◌, ℕ, true, false, List, [], 
 use Rattle.std.specs.Prelude.{◌==◌, filter, find}
 use Rattle.annex_base.specs.Lists.{Member}
 use Rattle.annex_base.specs.declared.kinds.Word.{Word}
+use Rattle.annex_base.proofs.Conditions.{eqb_refl}
 use Rattle.drop_proof.specs.declared.rule.Side.{Side}
 use Rattle.drop_proof.specs.declared.rule.Side.TheVariants.{Local, Remote}
 use Rattle.run_data.specs.declared.entry.Entry.{Entry}
@@ -48,7 +49,6 @@ use Rattle.race_core.proofs.FreshSteps.{MovesLate, drop_unread, of_kind, puts_un
 use Rattle.race_core.proofs.Refusals.{DropStands, Stands, TransferStands, side_is}
 use Rattle.race_core.proofs.Standing.{stands}
 use Rattle.race_core.proofs.AtTargets.{at_targets}
-use Rattle.race_core.proofs.Plain.{eqb_refl}
 use Rattle.node_model.specs.Look
 
 -- ---- the job that ends

@@ -2,6 +2,7 @@
 use Rattle.std.proofs.Common.{◌≡◌, ℕ, true, false, List, [], ◌∷◌, Option, Some, None, ◌⊎◌, inl, inr, refl, sym, ap, ◌∙◌, subst, arith}
 use Rattle.std.proofs.lemmas.Bool.Decides.{nat_tests}
 use Rattle.std.specs.Prelude.{◌==◌, ◌&&◌, nat_lt, option_map, codes}
+use Rattle.std.proofs.lemmas.Bool.{eqb-true}
 use Rattle.annex_base.specs.declared.kinds.Call.TheVariants.{Unhold}
 use Rattle.drop_proof.specs.declared.rule.Side.{Side}
 use Rattle.drop_proof.specs.declared.rule.Side.TheVariants.{Local, Remote}
@@ -38,7 +39,6 @@ use Rattle.race_core.proofs.ClientWays.{asked_by}
 use Rattle.race_core.proofs.ClientAwaits.{taken_last}
 use Rattle.race_core.proofs.Speaks.{hears}
 use Rattle.race_core.proofs.SaidDown.{said_is}
-use Rattle.race_core.proofs.Plain.{eqb_true}
 use Rattle.race_core.proofs.Makers.{taken_of}
 
 -- ---- the drop's side and target
@@ -91,7 +91,7 @@ module _ (s : SetUp) (past : List Entry) (e : Entry) (x : Stepped s past e) (is 
       let t = taken_of s past e x f took in
       let same : Some peer ≡ Some t.peer = sym on ∙ t.on in
       let at : peer ≡ t.peer = cc in
-      eqb_true f.peer t.peer (and_left (f.peer == t.peer) (f.slot == t.w.slot) (and_left ((f.peer == t.peer) && (f.slot == t.w.slot)) _ t.of_end)) ∙ sym at
+      eqb-true f.peer t.peer (and_left (f.peer == t.peer) (f.slot == t.w.slot) (and_left ((f.peer == t.peer) && (f.slot == t.w.slot)) _ t.of_end)) ∙ sym at
 
   pub hears_now : (f : FrameView) → e.taken ≡ Some f → (m : Message) → line_in f.body ≡ Some m → (peer : ℕ) → partner x.w.what.peer x.w.phase ≡ Some peer → Hears (e ∷ past) s.number x.w.number peer (Says m)
   hears_now f took m told peer on = record {

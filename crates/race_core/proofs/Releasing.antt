@@ -1,5 +1,7 @@
 -- A hold is released only by the end of the job that it was vouched to.
 use Rattle.std.proofs.Common.{◌≡◌, ℕ, true, List, Some, inl, inr, refl, sym, ap, ◌∙◌, subst, arith}
+use Rattle.std.proofs.lemmas.Bool.{and_parts}
+use Rattle.std.proofs.lemmas.Option.{same_Some}
 use Rattle.annex_base.specs.Lists.{Member}
 use Rattle.run_data.specs.declared.entry.By.{By}
 use Rattle.run_data.specs.declared.entry.By.TheVariants.{Job as by_job, Peer}
@@ -15,8 +17,7 @@ use Rattle.run_model.specs.Frames.{Way, on_way, sender_of, taken, way_of}
 use Rattle.node_model.specs.Slots.{job_of}
 use Rattle.run_model.specs.Drops.{Lock, done, vouch, vouches}
 use Rattle.race_core.proofs.Own.{MayRelease, Meets, MessagePast, uses}
-use Rattle.race_core.proofs.Lists.{and_true}
-use Rattle.race_core.proofs.Flights.{occurs_always, occurs_earlier, sending, some_inj}
+use Rattle.race_core.proofs.Flights.{occurs_always, occurs_earlier, sending}
 use Rattle.race_core.proofs.OwnFacts.{AskedBy, VouchesBy, asked_by, vouches_by}
 use Rattle.race_core.proofs.Occurring.{occurs_done, occurs_same, same_job, vouches_occur}
 use Rattle.race_core.proofs.Told.{message_at, own_at, sends_member, sender_way, some_option, up_is, uses_sent}
@@ -53,11 +54,11 @@ released repos past e r hold key run m is rel a j since owner k member = finish 
         by_asker : AskedBy p r a j rel.taken_then → done past a j ≡ true
         by_asker t =
             let w' = way_of r rel.taken_then in
-            let parts = and_true (is_of a t.it.entry) (option_is (job_of t.it.entry.kind) j) t.is_asked in
+            let parts = and_parts (is_of a t.it.entry) (option_is (job_of t.it.entry.kind) j) t.is_asked in
             let earlier : Occurs past t.it.entry t.it.before = occurs_earlier past rel.share t.it.entry p t.it.before o t.sending.occurs in
             let client : w.client ≡ rel.f.peer = client_up r rel.f rel.from_client in
             let from_peer : is_of rel.f.peer t.it.entry ≡ true = subst (λ q. is_of q t.it.entry ≡ true) (ap (λ (v : Way). sender_of v) rel.same_epoch ∙ sender_way r rel.f) t.sending.repo_is in
-            let a_is : rel.f.peer ≡ a = some_inj rel.f.peer a (sym (some_option t.it.entry.repo rel.f.peer from_peer) ∙ some_option t.it.entry.repo a parts.0) in
+            let a_is : rel.f.peer ≡ a = same_Some rel.f.peer a (sym (some_option t.it.entry.repo rel.f.peer from_peer) ∙ some_option t.it.entry.repo a parts.0) in
             let uses_first : uses w t.it.entry ≡ true = uses_sent w t.it.entry t.it.frame (subst (λ v. Member t.it.frame (on_way v t.it.entry)) (rel.same_epoch ∙ sym (up_is r rel.f rel.from_client)) t.sending.sends) in
             by_unlock parts.0 (some_option (job_of t.it.entry.kind) j parts.1) earlier (client ∙ a_is) a_is uses_first
           where

@@ -5,6 +5,8 @@ use Rattle.std.specs.List.{list_any}
 use Rattle.std.proofs.lemmas.Bool.{true≢false}
 use Rattle.std.proofs.lemmas.Bool.Decides.{nat_tests}
 use Rattle.annex_base.specs.Lists.{Each, Member}
+use Rattle.annex_base.proofs.Lists.{list_any_member, Each-member}
+use Rattle.annex_base.proofs.Conditions.{eqb_refl}
 use Rattle.run_data.specs.declared.entry.Entry.{Entry}
 use Rattle.run_data.specs.declared.entry.FrameView.{FrameView}
 use Rattle.run_data.specs.declared.run.Run.{Run}
@@ -20,7 +22,6 @@ use Rattle.run_model.specs.States.{end_at, content, rows_at}
 use Rattle.node_model.specs.Sessions.{is_closing, line_in}
 use Rattle.node_model.specs.Jobs.{Puts, PutsBytes, Work, job_end, running}
 use Rattle.run_model.specs.Run.{IsRun, RunPast, RunStep, set_up}
-use Rattle.race_core.proofs.Plain.{any_of, each_member, eqb_refl}
 use Rattle.race_core.proofs.SaidDown.{said_closing, said_is}
 use Rattle.race_core.proofs.JobSteps.{Steps, stepped_runs, turn_at}
 use Rattle.race_core.proofs.NotDropping.{moved_on}
@@ -62,7 +63,7 @@ module _ (run : Run) (repos : Each IsSetUp run.repos) (past : List Entry) (e : E
         is_shut = ap (λ c. is_close (message_in c)) t.body_is ∙ ap is_close said_closing
 
         closes : list_any (shuts p) e.sent ≡ true
-        closes = any_of (shuts p) e.sent t.g t.sent (let q : (t.g.peer == p) ≡ true = ap (λ n. n == p) at.0 ∙ eqb_refl p in rw (q, at.2, is_shut) refl)
+        closes = list_any_member (shuts p) e.sent t.g t.sent (let q : (t.g.peer == p) ≡ true = ap (λ n. n == p) at.0 ∙ eqb_refl p in rw (q, at.2, is_shut) refl)
 
         mine : is_job r v.number e ≡ true
         mine = stepped_own s past e b.by own
@@ -101,7 +102,7 @@ module _ (run : Run) (repos : Each IsSetUp run.repos) (past : List Entry) (e : E
       where
         sent : SentClose (job_end v z.peer) e → ClosesFor (turn_at s past e b.by) b.by.made → ClosedWith (e ∷ past) r v.number z.peer ⊎ ((v.part ≡ Puts) × FellShort (e ∷ past) r v.number z.peer v.what.key)
         sent t (inl all) =
-            let none = each_member (λ g. is_closing g.body ≡ false) b.by.made.sent t.g all (subst (Member t.g) (ap (λ (y : Entry). y.sent) b.by.is) t.sent) in
+            let none = Each-member (λ g. is_closing g.body ≡ false) b.by.made.sent t.g all (subst (Member t.g) (ap (λ (y : Entry). y.sent) b.by.is) t.sent) in
             absurd (true≢false (sym (ap is_closing t.body_is) ∙ none))
         sent t (inr short) = inr (short.puts, fell z.peer t short)
 

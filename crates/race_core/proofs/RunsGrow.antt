@@ -6,6 +6,7 @@ use Rattle.std.specs.Prelude.{filter, ◌==◌, map, nat_le, reverse, slice_get,
 use Rattle.annex_base.specs.declared.kinds.Word.{Word}
 use Rattle.annex_key.specs.Tree.{paths_of, with_key}
 use Rattle.annex_base.specs.Lists.{Each}
+use Rattle.annex_base.proofs.Lists.{slice_get-left}
 use Rattle.run_data.specs.declared.entry.Entry.{Entry}
 use Rattle.run_data.specs.declared.entry.EntryKind.{EntryKind}
 use Rattle.run_data.specs.declared.entry.EntryKind.TheVariants.{Begin}
@@ -26,7 +27,6 @@ use Rattle.race_core.proofs.FromStep.{own_past}
 use Rattle.race_core.proofs.Told.{taker_way, some_option}
 use Rattle.race_core.proofs.MergedOrder.{occurs_before}
 use Rattle.race_core.proofs.MergedRuns.{filter_reverse, letters_own, Reads, ReadsIts, always_of, take_own, words_are}
-use Rattle.race_core.proofs.Plain.{get_left}
 
 -- ---- one more entry
 
@@ -180,7 +180,7 @@ module _ (run : Run) (r : ℕ) (got : Way → List Letter) where
         letter = letter_of t.it;
         next = t.next;
         from = rw (← (take_own r (way_of r f) (taker_way r f) past)) (subst (λ xs. slice_get xs (taken past (way_of r f)) ≡ Some (letter_of t.it)) (sym (from (way_of r f)).1)
-            (get_left (letters past (way_of r f)) (from (way_of r f)).0 (taken past (way_of r f)) (letter_of t.it) (map_get letter_of (sent past (way_of r f)) (taken past (way_of r f)) t.it t.next)));
+            (slice_get-left (letters past (way_of r f)) (from (way_of r f)).0 (taken past (way_of r f)) (letter_of t.it) (map_get letter_of (sent past (way_of r f)) (taken past (way_of r f)) t.it t.next)));
         same = refl;
       }
 

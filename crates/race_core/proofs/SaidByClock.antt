@@ -5,6 +5,7 @@ use Rattle.std.specs.Prelude.{if◌then◌else◌, flat_map, map}
 use Rattle.std.proofs.lemmas.Bool.{true≢false}
 use Rattle.annex_base.specs.Lists.{Member}
 use Rattle.annex_base.specs.declared.kinds.Word.{Word}
+use Rattle.annex_base.proofs.Lists.{Member-flat_map, Member-map, Member-append_right, Member-append_cases}
 use Rattle.run_data.specs.declared.entry.Entry.{Entry}
 use Rattle.run_data.specs.declared.entry.FrameView.{FrameView}
 use Rattle.run_model.specs.Past.{Occurs, clock_set, is_of}
@@ -17,14 +18,9 @@ use Rattle.race_core.proofs.ServerEnds.{GivesHere, Shuts, TakesHere, end_of, giv
 use Rattle.race_core.proofs.EndMoves.{all_epoch, all_opened, end_gave, end_own, end_shuts, end_took-is, gave_none, may_epoch, own_induction, sends_all, shuts_none, takes_epoch, took_none}
 use Rattle.race_core.proofs.EndEpochs.{from_end, opening_later, opening_takes, own_takes, within}
 use Rattle.race_core.proofs.ClockKept.{NoCrash, clock_kept, clock_other}
-use Rattle.race_core.proofs.OpenEnds.{crash_sends, crash_shuts, member_flat, member_map, member_right}
+use Rattle.race_core.proofs.OpenEnds.{crash_sends, crash_shuts}
 
 -- ---- the ends of a server are among all ends
-
-member_either : {X : Type 0} (xs ys : List X) (y : X) → Member y (xs ++ ys) → Member y xs ⊎ Member y ys
-member_either [] ys y m = inr m
-member_either (x ∷ xs) ys y (inl m) = inl (inl m)
-member_either (x ∷ xs) ys y (inr m) = elim (member_either xs ys y m) [ inl n ↦ inl (inr n) | inr n ↦ inr n ]
 
 abbrev slots_of : List ℕ → ℕ → List (ℕ × ℕ)
 slots_of ss peer = map (λ slot. (peer, slot)) ss
@@ -36,7 +32,7 @@ in_slots n (s ∷ ss) p q (inr m) = let t = in_slots n ss p q m in (t.0, inr t.1
 
 in_served : (ns ss : List ℕ) (p q : ℕ) → Member (p, q) (flat_map (slots_of ss) ns) → Member p ns × Member q ss
 in_served [] ss p q m = absurd m
-in_served (n ∷ ns) ss p q m = elim (member_either (slots_of ss n) (flat_map (slots_of ss) ns) (p, q) m) [
+in_served (n ∷ ns) ss p q m = elim (Member-append_cases (slots_of ss n) (flat_map (slots_of ss) ns) (p, q) m) [
   | inl k ↦ (let t = in_slots n ss p q k in (inl t.0, t.1))
   | inr k ↦ (let t = in_served ns ss p q k in (inr t.0, t.1))
 ]
@@ -44,8 +40,8 @@ in_served (n ∷ ns) ss p q m = elim (member_either (slots_of ss n) (flat_map (s
 served_end : (s : SetUp) (p q : ℕ) → Member (p, q) (served s) → Member (server_end p q) (all_ends s)
 served_end s p q m =
     let t = in_served (others s) slots p q m in
-    member_flat (λ n. ends_with n true ++ ends_with n false) (others s) p (server_end p q) t.0
-    (member_right (ends_with p true) (ends_with p false) (server_end p q) (member_map (server_end p) slots q t.1))
+    Member-flat_map (λ n. ends_with n true ++ ends_with n false) (others s) p (server_end p q) t.0
+    (Member-append_right (ends_with p true) (ends_with p false) (server_end p q) (Member-map (server_end p) slots q t.1))
 
 -- ---- the invariant
 

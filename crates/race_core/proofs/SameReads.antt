@@ -5,6 +5,7 @@ use Rattle.std.specs.Prelude.{if◌then◌else◌, find, ◌==◌}
 use Rattle.std.specs.List.{list_all}
 use Rattle.annex_base.specs.Lists.{Member}
 use Rattle.annex_base.specs.Settings.{Settings}
+use Rattle.annex_base.proofs.Lists.{find_member}
 use Rattle.drop_proof.specs.declared.rule.Side.{Side}
 use Rattle.drop_proof.specs.declared.rule.Side.TheVariants.{Local, Remote}
 use Rattle.node_model.specs.SetUp.{SetUp, slots}
@@ -17,7 +18,6 @@ use Rattle.node_model.specs.SessionStep.{session_step}
 use Rattle.node_model.specs.JobStep.{Turn, turn_of, end_needs, end_with, ends}
 use Rattle.node_model.specs.DropStep.{removed}
 use Rattle.node_model.specs.Step.{step}
-use Rattle.race_core.proofs.Cases.{find_was}
 use Rattle.race_core.proofs.TalkFacts.{Fits}
 use Rattle.node_model.specs.Turns.{goes, goes_on, has_room, is_awaiting, needs, job_step, slot_step, with_partner, awaits, by_partner}
 use Rattle.run_data.specs.declared.entry.FrameView.{FrameView}
@@ -154,7 +154,7 @@ module _ (s : SetUp) (st other : State) (k : Look) (fits : AllFit st) (agrees : 
       works_same = ap (λ (z : State). z.works) agrees.same
 
       each : (slot : ℕ) → slot_step s st k (find (λ w. w.slot == slot) st.works) ≡ slot_step s other k (find (λ w. w.slot == slot) other.works)
-      each slot = slot_same (find (λ w. w.slot == slot) st.works) (λ v is. (find_was (λ w. w.slot == slot) st.works v is).0) ∙ ap (λ ws. slot_step s other k (find (λ w. w.slot == slot) ws)) works_same
+      each slot = slot_same (find (λ w. w.slot == slot) st.works) (λ v is. (find_member (λ w. w.slot == slot) st.works v is).0) ∙ ap (λ ws. slot_step s other k (find (λ w. w.slot == slot) ws)) works_same
 
       jobs_same : job_step s st k ≡ job_step s other k
       jobs_same i = first_some (λ slot. each slot i) slots

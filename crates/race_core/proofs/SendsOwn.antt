@@ -3,6 +3,7 @@ use Rattle.std.proofs.Common.{◌≡◌, ℕ, Bool, true, false, List, [], ◌�
 use Rattle.std.specs.Prelude.{if◌then◌else◌, filter}
 use Rattle.annex_base.specs.Lists.{Each, Member}
 use Rattle.annex_base.specs.declared.kinds.Word.{Word}
+use Rattle.annex_base.proofs.Lists.{Each-filter, Each-member, filter_none}
 use Rattle.drop_proof.specs.declared.rule.Need.{Need}
 use Rattle.run_data.specs.declared.entry.Entry.{Entry}
 use Rattle.run_data.specs.declared.entry.EntryKind.TheVariants.{Order}
@@ -17,8 +18,6 @@ use Rattle.node_model.specs.SetUp.{SetUp}
 use Rattle.race_core.proofs.BySteps.{ByStep}
 use Rattle.run_model.specs.Run.{OwnPart, OwnPast}
 use Rattle.node_model.specs.Found.{JobKind}
-use Rattle.race_core.proofs.Plain.{each_filter, each_member}
-use Rattle.race_core.proofs.ServerEnds.{filter_none}
 use Rattle.race_core.proofs.Makers.{who}
 use Rattle.race_core.proofs.JobSteps.{Stepped, stepped_found, stepped_job, stepped_runs, turn_at}
 use Rattle.race_core.proofs.Speaks
@@ -61,7 +60,7 @@ few_one test c t sent (inr (inl i)) = subst (λ (fs : List FrameView). AtMostOne
         at_most false = tt
     go false = tt
 few_one test c t sent (inr (inr a)) =
-    subst AtMostOne (sym (filter_none (says test) (filter t sent) (each_filter (λ g. says test g ≡ false) t sent (farewells_fail test c.close c.none c.unlock sent a)))) tt
+    subst AtMostOne (sym (filter_none (says test) (filter t sent) (Each-filter (λ g. says test g ≡ false) t sent (farewells_fail test c.close c.none c.unlock sent a)))) tt
 
 job_one : (s : SetUp) (past : List Entry) (e : Entry) (test : Said → Bool) → SkipsFarewells test → Stepped s past e → (w : Way) → AtMostOne (filter (says test) (on_way w e))
 job_one s past e test c x w =
@@ -129,6 +128,6 @@ pub sends_step : ByStep (λ s past e. (g : FrameView) → Member g e.sent → Ma
 sends_step s past words e h b is part g m = go (speaker s past words e part)
   where
     go : Speaker s past e → MaySend s.repos s.number past e g
-    go (inl x) = close_sends s.repos s.number past e g (each_member (λ (f : FrameView). f.body ≡ Closing) e.sent g x m)
+    go (inl x) = close_sends s.repos s.number past e g (Each-member (λ (f : FrameView). f.body ≡ Closing) e.sent g x m)
     go (inr (inl x)) = session_sends_step s past words e h b is part x g m
     go (inr (inr x)) = job_sends_so s past e h x g m

@@ -1,11 +1,15 @@
 -- What an own entry does at an end where its repository is the server: a session takes a frame there, or gives the next piece;
 -- else at most the end is closed.
-use Rattle.std.proofs.Common.{◌≡◌, ℕ, ◌<◌, ◌^◌, Bool, true, false, List, [], ◌∷◌, ◌++◌, Option, Some, None, ◌⊎◌, inl, inr, refl, sym, ap, ◌∙◌, subst}
+use Rattle.std.proofs.Common.{◌≡◌, ℕ, ◌<◌, ◌^◌, Bool, true, false, List, [], ◌∷◌, Option, Some, None, ◌⊎◌, inl, inr, refl, sym, ap, ◌∙◌, subst}
 use Rattle.std.specs.Prelude.{if◌then◌else◌, ◌==◌, ◌&&◌, filter, flat_map}
+use Rattle.std.proofs.lemmas.Bool.{and_parts, eqb-true}
+use Rattle.std.proofs.lemmas.List.Elements.{filter-append}
 use Rattle.annex_base.specs.Lists.{Each, Member}
 use Rattle.annex_base.specs.declared.kinds.Call.{Call}
 use Rattle.annex_base.specs.declared.kinds.Call.TheVariants.{PutFile}
 use Rattle.annex_base.specs.declared.kinds.Word.{Word}
+use Rattle.annex_base.proofs.Lists.{Each-append, Each-filter, find_member}
+use Rattle.annex_base.proofs.Conditions.{eqb_refl}
 use Rattle.run_data.specs.declared.entry.By.TheVariants.{Script}
 use Rattle.run_data.specs.declared.entry.Entry.{Entry}
 use Rattle.run_data.specs.declared.entry.EntryKind.{EntryKind}
@@ -31,8 +35,8 @@ use Rattle.node_model.specs.Found.{AsksOne, ByJob, JobKind, JobTakes, agrees}
 use Rattle.p2p_wire.specs.Messages.{order_of, text_of}
 use Rattle.node_model.specs.AnyTime.{MayCome, all_ends, close_at}
 use Rattle.run_model.specs.Run.{OwnPart}
-use Rattle.race_core.proofs.Plain.{and_true, each_append, each_filter, eqb_refl, eqb_true, same_both}
-use Rattle.race_core.proofs.Cases.{find_was, first_was, some_was, unless_found}
+use Rattle.race_core.proofs.Plain.{same_both}
+use Rattle.race_core.proofs.Cases.{first_was, some_was, unless_found}
 use Rattle.race_core.proofs.JobFacts.{job_found}
 use Rattle.node_model.specs.Look
 
@@ -40,12 +44,7 @@ use Rattle.node_model.specs.Look
 
 pub each_flat : {X Y : Type 0} (P : Y → Type 0) (f : X → List Y) → ((x : X) → Each P (f x)) → (xs : List X) → Each P (flat_map f xs)
 each_flat P f all [] = tt
-each_flat P f all (x ∷ xs) = each_append P (f x) (flat_map f xs) (all x) (each_flat P f all xs)
-
--- where none passes, none is left
-pub filter_none : {X : Type 0} (q : X → Bool) (xs : List X) → Each (λ x. q x ≡ false) xs → filter q xs ≡ []
-filter_none q [] a = refl
-filter_none q (x ∷ xs) a = rw a.0 (filter_none q xs a.1)
+each_flat P f all (x ∷ xs) = Each-append P (f x) (flat_map f xs) (all x) (each_flat P f all xs)
 
 -- ---- names of ends
 
@@ -57,9 +56,9 @@ end_path p q b a x y z i = record { peer = x i; slot = y i; client = z i }
 
 pub same_end-is : (b a : EndName) → same_end b a ≡ true → b ≡ a
 same_end-is b a e =
-    let two = and_true ((b.peer == a.peer) && (b.slot == a.slot)) (same_bool b.client a.client) e in
-    let one = and_true (b.peer == a.peer) (b.slot == a.slot) two.0 in
-    end_path b.peer b.slot b.client a (eqb_true b.peer a.peer one.0) (eqb_true b.slot a.slot one.1) (same_both b.client a.client two.1)
+    let two = and_parts ((b.peer == a.peer) && (b.slot == a.slot)) (same_bool b.client a.client) e in
+    let one = and_parts (b.peer == a.peer) (b.slot == a.slot) two.0 in
+    end_path b.peer b.slot b.client a (eqb-true b.peer a.peer one.0) (eqb-true b.slot a.slot one.1) (same_both b.client a.client two.1)
 
 same_self : (b : Bool) → same_bool b b ≡ true
 same_self true = refl
@@ -74,9 +73,9 @@ end_of f = record { peer = f.peer; slot = f.slot; client = if f.up then false el
 
 pub takes_end : (a : EndName) (f : FrameView) → takes_at a f ≡ true → end_of f ≡ a
 takes_end a f e =
-    let two = and_true ((f.peer == a.peer) && (f.slot == a.slot)) (same_bool a.client (if f.up then false else true)) e in
-    let one = and_true (f.peer == a.peer) (f.slot == a.slot) two.0 in
-    end_path f.peer f.slot (if f.up then false else true) a (eqb_true f.peer a.peer one.0) (eqb_true f.slot a.slot one.1) (sym (same_both a.client (if f.up then false else true) two.1))
+    let two = and_parts ((f.peer == a.peer) && (f.slot == a.slot)) (same_bool a.client (if f.up then false else true)) e in
+    let one = and_parts (f.peer == a.peer) (f.slot == a.slot) two.0 in
+    end_path f.peer f.slot (if f.up then false else true) a (eqb-true f.peer a.peer one.0) (eqb-true f.slot a.slot one.1) (sym (same_both a.client (if f.up then false else true) two.1))
 
 pub takes_other : (b a : EndName) (f : FrameView) → takes_at b f ≡ true → same_end b a ≡ false → takes_at a f ≡ false
 takes_other b a f t e = go (takes_at a f) refl
@@ -153,8 +152,8 @@ module _ (s : SetUp) (past : List Entry) (k : Look) (small : k.part < 2 ^ 62) (b
       go true opened g = gives_here m opened (gives_next (here s st k b) (session past s.number b).doing) refl g
       go false opened g = absurd (cc)
   makes_here m (Some f) is e =
-      let w = find_was (λ g. takes_at b g && may_take (end_at past s.number b) g) k.at_hand f is in
-      let two = and_true (takes_at b f) (may_take (end_at past s.number b) f) w.1 in
+      let w = find_member (λ g. takes_at b g && may_take (end_at past s.number b) g) k.at_hand f is in
+      let two = and_parts (takes_at b f) (may_take (end_at past s.number b) f) w.1 in
       let same : reply_made b (end_takes (end_at past s.number b) f.epoch f.body) (Some f) (on_frame (here s st k b) (session past s.number b) f.body) ≡ m = cc in
       subst Here' same (inl (record { k = k; part_small = small; f = f; taken_is = refl; of_end = two.0; may = two.1; time_is = refl; kind_is = refl; sent_is = refl }))
 
@@ -199,17 +198,9 @@ job_other w peer p q = go ((peer == p) && (w.slot == q))
 job_takes_other : (w : Work) (peer p q : ℕ) (f : FrameView) → takes_at (job_end w peer) f ≡ true → takes_at (server_end p q) f ≡ false
 job_takes_other w peer p q f t = takes_other (job_end w peer) (server_end p q) f t (job_other w peer p q)
 
-pub filter_append : {X : Type 0} (q : X → Bool) (xs ys : List X) → filter q (xs ++ ys) ≡ filter q xs ++ filter q ys
-filter_append q [] ys = refl
-filter_append {X = X} q (x ∷ xs) ys = go (filter_append q xs ys) (q x) refl
-  where
-    go : filter q (xs ++ ys) ≡ filter q xs ++ filter q ys → (b : Bool) → q x ≡ b → filter q ((x ∷ xs) ++ ys) ≡ filter q (x ∷ xs) ++ filter q ys
-    go more true is = rw is (ap (λ (zs : List X). x ∷ zs) more)
-    go more false is = rw is more
-
 filter_flat : {X Y : Type 0} (q : Y → Bool) (f : X → List Y) → ((x : X) → filter q (f x) ≡ []) → (xs : List X) → filter q (flat_map f xs) ≡ []
 filter_flat q f none [] = refl
-filter_flat q f none (x ∷ xs) = filter_append q (f x) (flat_map f xs) ∙ rw (none x, filter_flat q f none xs) refl
+filter_flat q f none (x ∷ xs) = filter-append q (f x) (flat_map f xs) ∙ rw (none x, filter_flat q f none xs) refl
 
 farewells_other : (t : Turn) (lost : Bool) (p q : ℕ) → sent_at (server_end p q) (farewells t lost) ≡ []
 farewells_other t lost p q =
@@ -290,7 +281,7 @@ come_closes s past lines sent kind x = absurd x
 pub server_does : (s : SetUp) (past : List Entry) (words : ℕ → Option Word) (e : Entry) → OwnPart s past words e → ServerDoes s past e
 server_does s past words e own = elim (own.does) [
   | inl x ↦ subst (ServerDoes s past) (sym x.is) (step_does s past x.look x.made x.part_small x.makes)
-  | inr x ↦ inr (λ p q. record { takes_none = rw x.takes_none refl; closes = each_filter (λ g. g.body ≡ Closing) (sends_at (server_end p q)) e.sent (come_closes s past e.lines e.sent e.kind x.may) })
+  | inr x ↦ inr (λ p q. record { takes_none = rw x.takes_none refl; closes = Each-filter (λ g. g.body ≡ Closing) (sends_at (server_end p q)) e.sent (come_closes s past e.lines e.sent e.kind x.may) })
 ]
 
 pub at_server : (s : SetUp) (past : List Entry) (words : ℕ → Option Word) (e : Entry) (p q : ℕ) → OwnPart s past words e → AtServer s past (server_end p q) e

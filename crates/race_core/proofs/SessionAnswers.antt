@@ -6,6 +6,7 @@ use Rattle.std.proofs.lemmas.Bool.{true≢false}
 use Rattle.std.specs.Prelude.{if◌then◌else◌, bytes_eq, codes, min, nat_le, nat_lt}
 use Rattle.annex_base.specs.Lists.{Member}
 use Rattle.annex_base.specs.declared.kinds.Call.{Call}
+use Rattle.annex_base.proofs.Conditions.{if_either}
 use Rattle.annex_base.specs.declared.kinds.Call.TheVariants as calls
 use Rattle.annex_base.specs.declared.kinds.Found.TheVariants as found
 use Rattle.run_data.specs.declared.entry.By.{By}
@@ -25,7 +26,7 @@ use Rattle.node_model.specs.Sessions.{Doing, Waits, Guards, Gave, Wants, Took, S
 use Rattle.node_model.specs.Calls.{to_commit, to_lock, to_offer, to_remove}
 use Rattle.node_model.specs.Look.{failing}
 use Rattle.node_model.specs.SessionStep.{Here, Reply, bar_on, by_of, bytes_left, check_answer, content_of, is_held, is_here, lock_answer, now_of, on_frame, on_message, on_put, on_remove, on_remove_before, on_request, on_text, put_answer, refuses, remove_answer, reply, silent, tries, unexpected, valid_answer}
-use Rattle.race_core.proofs.Cases.{if_found, unless_found}
+use Rattle.race_core.proofs.Cases.{unless_found}
 use Rattle.race_core.proofs.Counting.{Closes, Counts, GetCounts, calm, get_counts, message_counts}
 use Rattle.race_core.proofs.SaidDown.{Alike, alike, alike_completes, odd_answer, said_closing, said_line-is, tells}
 use Rattle.race_core.proofs.SessionSays.{read_of}
@@ -109,7 +110,7 @@ removes_before : (n : ℕ) (key : List ℕ) → IsOrder (RemoveBefore n key)
 removes_before n key = ((λ kind. tt), (λ kind answer is. (answer, is)))
 
 before_replied : (h : Here) (n : ℕ) (key : List ℕ) → Replied (RemoveBefore n key) (on_remove_before h n key)
-before_replied h n key = if_found (Replied (RemoveBefore n key)) (nat_lt (now_of h) (1000 * n)) (on_remove h key) (reply (Check found.Late key) Failure)
+before_replied h n key = if_either (Replied (RemoveBefore n key)) (nat_lt (now_of h) (1000 * n)) (on_remove h key) (reply (Check found.Late key) Failure)
     (λ e. on_remove-replied (RemoveBefore n key) (removes_before n key) h key) (λ e. fits (RemoveBefore n key) (Check found.Late key) Failure refl (denials.Late, refl))
 
 put_replied : (file key : List ℕ) (part : ℕ) (here filled : Bool) → Replied (Put file key) (reply (Talk None) (put_answer part here filled))
@@ -118,7 +119,7 @@ put_replied file key part false true = fits (Put file key) (Talk None) (Error (c
 put_replied file key part false false = fits (Put file key) (Talk None) (PutFrom part) refl tt
 
 with_version : (h : Here) (asked : Message) (b : Bool) (x : Reply) → Replied asked x → Replied asked (if b then x else unexpected h)
-with_version h asked b x f = if_found (Replied asked) b x (unexpected h) (λ e. f) (λ e. odd h asked)
+with_version h asked b x f = if_either (Replied asked) b x (unexpected h) (λ e. f) (λ e. odd h asked)
 
 min_below : (n v : ℕ) → min n v ≤ n
 min_below n v = grind (arith, nat_tests)
@@ -140,7 +141,7 @@ request_replied h v (Get n file key) =
 request_replied h v (Put file key) =
     let good : Reply = reply (Talk None) (put_answer h.part (is_here h key) (h.filled key)) in
     with_version h (Put file key) (nat_le 1 v) (on_put h key)
-    (tries_replied h (Put file key) (to_offer (is_here h key) (h.filled key)) refuses good (λ call. fits (Put file key) (Fault call (by_of h)) Failure refl refl)
+    (tries_replied h (Put file key) (to_offer h.part (is_here h key) (h.filled key)) refuses good (λ call. fits (Put file key) (Fault call (by_of h)) Failure refl refl)
     (put_replied file key h.part (is_here h key) (h.filled key)))
 request_replied h v m = odd h m
 
@@ -151,7 +152,7 @@ valid_replied by size key true = fits Valid (Gain by size key) Success refl tt
 valid_replied by size key false = fits Valid (Talk None) Failure refl refl
 
 unlock_replied : (h : Here) (hold : ℕ) (key k : List ℕ) → Replied (UnlockContent k) (on_message h 0 (Guards hold key) (UnlockContent k))
-unlock_replied h hold key k = if_found (Replied (UnlockContent k)) (bytes_eq k key) (tries h (calls.Unhold ∷ []) [] (silent (Release hold key))) (unexpected h)
+unlock_replied h hold key k = if_either (Replied (UnlockContent k)) (bytes_eq k key) (tries h (calls.Unhold ∷ []) [] (silent (Release hold key))) (unexpected h)
     (λ e. tries_replied h (UnlockContent k) (calls.Unhold ∷ []) [] (silent (Release hold key)) (λ call. inr (inl refl)) (inr (inl refl))) (λ e. odd h (UnlockContent k))
 
 pub message_replied : (h : Here) (v : ℕ) (doing : Doing) (m : Message) → Replied m (on_message h v doing m)

@@ -3,7 +3,10 @@ use Rattle.node_model.specs.Clocks.{hold_time}
 use Rattle.std.proofs.Common.{◌≡◌, ℕ, ◌+◌, ◌*◌, ◌/◌, Bool, true, false, List, [], ◌∷◌, Option, Some, None, ◌⊎◌, inl, inr, refl, ap, subst}
 use Rattle.std.specs.Prelude.{if◌then◌else◌, ◌==◌, ◌&&◌, min, nat_lt, nat_le, bytes_eq, codes}
 use Rattle.std.specs.Cmp.Lexicographic.{bytes_decides}
+use Rattle.std.proofs.lemmas.Bool.{and_parts}
 use Rattle.annex_base.specs.declared.kinds.Call.{Call}
+use Rattle.annex_base.proofs.Lists.{find_member}
+use Rattle.annex_base.proofs.Conditions.{if_either}
 use Rattle.annex_base.specs.declared.kinds.Call.TheVariants as calls
 use Rattle.run_data.specs.declared.entry.EntryKind.TheVariants.{Release, Talk, Fault}
 use Rattle.run_data.specs.declared.entry.FrameView.{FrameView}
@@ -20,8 +23,7 @@ use Rattle.node_model.specs.Ends.{End, EndName, end_takes, may_take, server_end,
 use Rattle.node_model.specs.Look.{Look, Made, failing, waiting}
 use Rattle.node_model.specs.SessionStep.{Here, Reply, bar_on, by_of, bytes_left, check_answer, close_kind, content_of, gives_made, gives_next, here, is_held, is_here, lock_answer, now_of, on_bytes, on_frame, on_message, on_piece, on_put, on_remove, on_remove_before, on_request, on_text, on_unlock, put_answer, refuses, remove_answer, reply, reply_made, session_at, session_makes, session_step, shuts, silent, tries, unexpected, valid_answer}
 use Rattle.node_model.specs.Found.{BySession, GivesAt, InTime, SaysFault, SessionFound, SessionKind, TakesAt}
-use Rattle.race_core.proofs.Plain.{and_true}
-use Rattle.race_core.proofs.Cases.{find_was, if_found, some_was, unless_found}
+use Rattle.race_core.proofs.Cases.{some_was, unless_found}
 
 tries_found : (h : Here) (doing : Doing) (asked : Option Message) (cs : List Call) (says : List FrameText) (good : Reply)
     → SaysFault says → SessionFound h doing asked good → SessionFound h doing asked (tries h cs says good)
@@ -79,7 +81,7 @@ put_found h file key false true = (Error (codes "busy"), refl, tt)
 put_found h file key false false = (PutFrom h.part, refl, tt)
 
 with_version : (h : Here) (asked : Option Message) (b : Bool) (x : Reply) → SessionFound h Waits asked x → SessionFound h Waits asked (if b then x else unexpected h)
-with_version h asked b x f = if_found (SessionFound h Waits asked) b x (unexpected h) (λ e. f) (λ e. unexpected_found h Waits asked)
+with_version h asked b x f = if_either (SessionFound h Waits asked) b x (unexpected h) (λ e. f) (λ e. unexpected_found h Waits asked)
 
 request_found : (h : Here) (v : ℕ) (m : Message) → SessionFound h Waits (Some m) (on_request h v m)
 request_found h v (Version n) = (Version (min n h.version), refl, tt)
@@ -102,7 +104,7 @@ request_found h v (Get n file key) =
 request_found h v (Put file key) =
     let here = is_here h key in let filled = h.filled key in
     with_version h (Some (Put file key)) (nat_le 1 v) (on_put h key)
-    (tries_found h Waits (Some (Put file key)) (to_offer here filled) refuses (reply (Talk None) (put_answer h.part here filled)) refused
+    (tries_found h Waits (Some (Put file key)) (to_offer h.part here filled) refuses (reply (Talk None) (put_answer h.part here filled)) refused
     (put_found h file key here filled))
 request_found h v m = unexpected_found h Waits (Some m)
 
@@ -112,7 +114,7 @@ valid_found h key size false is = (Failure, refl, tt)
 
 unlock_found : (h : Here) (hold : ℕ) (key k : List ℕ) → SessionFound h (Guards hold key) (Some (UnlockContent k)) (on_unlock h hold key k)
 unlock_found h hold key k =
-    if_found (SessionFound h (Guards hold key) (Some (UnlockContent k))) (bytes_eq k key) (tries h (calls.Unhold ∷ []) [] (silent (Release hold key))) (unexpected h)
+    if_either (SessionFound h (Guards hold key) (Some (UnlockContent k))) (bytes_eq k key) (tries h (calls.Unhold ∷ []) [] (silent (Release hold key))) (unexpected h)
     (λ e. tries_found h (Guards hold key) (Some (UnlockContent k)) (calls.Unhold ∷ []) [] (silent (Release hold key)) (inl refl)
     (record { asks = ap (λ x. Some (UnlockContent x)) ((bytes_decides k key).0 e); guards = refl; says_is = refl }))
     (λ e. unexpected_found h (Guards hold key) (Some (UnlockContent k)))
@@ -131,7 +133,7 @@ message_found h v doing m = unexpected_found h doing (Some m)
 
 bytes_found : (h : Here) (n : ℕ) (doing : Doing) → SessionFound h doing None (on_bytes h n doing)
 bytes_found h n (Takes key size left) =
-    if_found (SessionFound h (Takes key size left) None) (nat_lt 0 n && nat_le n left) (tries h (calls.Append ∷ []) (Closing ∷ []) (silent (Talk None))) (unexpected h)
+    if_either (SessionFound h (Takes key size left) None) (nat_lt 0 n && nat_le n left) (tries h (calls.Append ∷ []) (Closing ∷ []) (silent (Talk None))) (unexpected h)
     (λ e. tries_found h (Takes key size left) None (calls.Append ∷ []) (Closing ∷ []) (silent (Talk None)) (inr (inl refl)) tt)
     (λ e. unexpected_found h (Takes key size left) None)
 bytes_found h n doing = unexpected_found h doing None
@@ -150,7 +152,7 @@ piece_found : (h : Here) (doing : Doing) (key : List ℕ) (at n : ℕ) → Sessi
 piece_found h doing key at n =
     let good = if reaches (content_of h key) (at + n) then record { kind = Talk None; says = Bytes n ∷ [] } else shuts (close_kind h) in
     tries_found h doing None (calls.Read ∷ []) (Closing ∷ []) good (inr (inl refl))
-    (if_found (SessionFound h doing None) (reaches (content_of h key) (at + n)) (record { kind = Talk None; says = Bytes n ∷ [] }) (shuts (close_kind h))
+    (if_either (SessionFound h doing None) (reaches (content_of h key) (at + n)) (record { kind = Talk None; says = Bytes n ∷ [] }) (shuts (close_kind h))
     (λ e. tt) (λ e. shut_found h doing None))
 
 word_found : (h : Here) (doing : Doing) (good : Bool) → SessionFound h doing None (reply (Talk None) (if good then Valid else Invalid))
@@ -162,7 +164,7 @@ gives_found h (Gives key at left good) x e =
     let y = if left == 0 then reply (Talk None) (if good then Valid else Invalid) else on_piece h key at (min 32768 left) in
     let same : y ≡ x = cc in
     subst (SessionFound h (Gives key at left good) None) same
-    (if_found (SessionFound h (Gives key at left good) None) (left == 0) (reply (Talk None) (if good then Valid else Invalid)) (on_piece h key at (min 32768 left))
+    (if_either (SessionFound h (Gives key at left good) None) (left == 0) (reply (Talk None) (if good then Valid else Invalid)) (on_piece h key at (min 32768 left))
     (λ f. word_found h (Gives key at left good) good) (λ f. piece_found h (Gives key at left good) key at (min 32768 left)))
 gives_found h doing x e = absurd (cc)
 
@@ -181,8 +183,8 @@ makes_found s st k a (Some f) m is e =
     let h = here s st k a in
     let x = on_frame h (st.sessions a) f.body in
     let same : reply_made a (end_takes (st.ends a) f.epoch f.body) (Some f) x ≡ m = cc in
-    let was = find_was (λ g. takes_at a g && may_take (st.ends a) g) k.at_hand f is in
-    let both = and_true (takes_at a f) (may_take (st.ends a) f) was.1 in
+    let was = find_member (λ g. takes_at a g && may_take (st.ends a) g) k.at_hand f is in
+    let both = and_parts (takes_at a f) (may_take (st.ends a) f) was.1 in
     subst (MadeAt s st k a) same (record {
       asked = line_in f.body;
       says = x.says;

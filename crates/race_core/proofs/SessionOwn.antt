@@ -3,8 +3,10 @@ use Rattle.std.proofs.Common.{◌≡◌, ◌≢◌, ℕ, ◌+◌, ◌/◌, ◌^�
 use Rattle.std.specs.Prelude.{if◌then◌else◌, ◌==◌, filter, map, flat_map, not}
 use Rattle.std.specs.List.{range_with_len}
 use Rattle.std.proofs.lemmas.Bool.Decides.{nat_tests}
+use Rattle.std.proofs.lemmas.Option.{same_Some}
 use Rattle.annex_base.specs.Lists.{Each, Member}
 use Rattle.annex_base.specs.declared.kinds.Word.{Word}
+use Rattle.annex_base.proofs.Lists.{Each-filter, Each-member, Member-filter_from, filter_none, Member-append_cases}
 use Rattle.run_data.specs.declared.entry.By.TheVariants.{Peer, Script}
 use Rattle.run_data.specs.declared.entry.Entry.{Entry}
 use Rattle.run_data.specs.declared.entry.EntryKind.{EntryKind}
@@ -27,7 +29,6 @@ use Rattle.node_model.specs.Look.{Look, Made, entry_of}
 use Rattle.node_model.specs.SessionStep.{Here, here, on_frame}
 use Rattle.race_core.proofs.BySteps.{ByStep}
 use Rattle.run_model.specs.Run.{ComesAnyTime, IsBounded, IsStep, OwnPart, OwnPast, OwnRun}
-use Rattle.race_core.proofs.Plain.{each_filter, each_member, filter_member, some_inj}
 use Rattle.race_core.proofs.Spoken.{clock_small}
 use Rattle.race_core.proofs.AnswersRead.{all_read}
 use Rattle.node_model.specs.AnyTime.{MayCome, all_ends, close_at, ends_with}
@@ -36,7 +37,7 @@ use Rattle.race_core.proofs.SessionTimes.{IsTime, kind_time}
 use Rattle.run_data.specs.declared.run.RepoView.{RepoView}
 use Rattle.node_model.specs.Found.{GivesAt, StepFound, TakesAt}
 use Rattle.race_core.proofs.StepFacts.{SessionMade, release_found, step_found}
-use Rattle.race_core.proofs.ServerEnds.{BySessionAt, GivesHere, ServerDoes, Shuts, TakesHere, come_closes, job_sends, end_of, filter_none, server_does, takes_end}
+use Rattle.race_core.proofs.ServerEnds.{BySessionAt, GivesHere, ServerDoes, Shuts, TakesHere, come_closes, job_sends, end_of, server_does, takes_end}
 use Rattle.race_core.proofs.EndMoves.{gave_one, may_epoch, takes_epoch}
 use Rattle.race_core.proofs.Guarding.{guards_stand}
 use Rattle.race_core.proofs.WayCounts.{way_in, way_out}
@@ -144,8 +145,8 @@ member_frames a c (body ∷ bodies) g (inr m) = let x = member_frames a (end_sen
 -- what goes down, but of a session, is a Close
 pub down_closes : (e : Entry) (g : FrameView) → ((p q : ℕ) → Shuts (server_end p q) e) → Member g e.sent → g.up ≡ false → g.body ≡ Closing
 down_closes e g x m u =
-    each_member (λ (h : FrameView). h.body ≡ Closing) (sent_at (server_end g.peer g.slot) e.sent) g (x g.peer g.slot).closes
-    (filter_member (sends_at (server_end g.peer g.slot)) e.sent g m at)
+    Each-member (λ (h : FrameView). h.body ≡ Closing) (sent_at (server_end g.peer g.slot) e.sent) g (x g.peer g.slot).closes
+    (Member-filter_from (sends_at (server_end g.peer g.slot)) e.sent g m at)
   where
     eqb_refl : (n : ℕ) → (n == n) ≡ true
     eqb_refl n = grind arith
@@ -254,14 +255,9 @@ yes_in_turn s past words e g run read own m u y = go (server_does s past words e
 
 -- ---- whom a session speaks to
 
-member_append : {X : Type 0} (xs ys : List X) (y : X) → Member y (xs ++ ys) → Member y xs ⊎ Member y ys
-member_append [] ys y m = inr m
-member_append (x ∷ xs) ys y (inl i) = inl (inl i)
-member_append (x ∷ xs) ys y (inr i) = elim (member_append xs ys y i) [ inl j ↦ inl (inr j) | inr j ↦ inr j ]
-
 of_flat : {X Y : Type 0} (f : X → List Y) (xs : List X) (y : Y) → Member y (flat_map f xs) → (x : X) × Member x xs × Member y (f x)
 of_flat f [] y m = absurd m
-of_flat f (x ∷ xs) y m = elim (member_append (f x) (flat_map f xs) y m) [
+of_flat f (x ∷ xs) y m = elim (Member-append_cases (f x) (flat_map f xs) y m) [
   | inl i ↦ (x, inl refl, i)
   | inr i ↦ (let z = of_flat f xs y i in (z.0, inr z.1, z.2))
 ]
@@ -318,7 +314,7 @@ speaks s past e x = go x.3
       p = x.0;
       q = x.1;
       serves = x.2;
-      takes = λ f i. (let same : y.f ≡ f = some_inj y.f f (sym y.taken_is ∙ i) in subst (λ (z : FrameView). takes_at (server_end x.0 x.1) z ≡ true) same y.of_end);
+      takes = λ f i. (let same : y.f ≡ f = same_Some y.f f (sym y.taken_is ∙ i) in subst (λ (z : FrameView). takes_at (server_end x.0 x.1) z ≡ true) same y.of_end);
       c = end_takes (end_at past s.number (server_end x.0 x.1)) y.f.epoch y.f.body;
       says = (on_frame (here s (state_of s past) y.k (server_end x.0 x.1)) (session past s.number (server_end x.0 x.1)) y.f.body).says;
       sent_is = y.sent_is;
@@ -354,7 +350,7 @@ module _ (s : SetUp) (e : Entry) (x : SessionSpeaks s e) where
   session_down g m = (in_says g m).3
 
   pub session_says : (g : FrameView) (k : Message) → Member g e.sent → message_in g.body ≡ Says k → is_down k ≡ true
-  session_says g k m i = down_only g.body k (each_member FromServer x.says g.body x.down (in_says g m).0) i
+  session_says g k m i = down_only g.body k (Each-member FromServer x.says g.body x.down (in_says g m).0) i
 
   pub no_order : (g : FrameView) (deadline : Option ℕ) (key : List ℕ) → Member g e.sent → message_in g.body ≡ Says (order_of deadline key) → ⊥
   no_order g None key m i = let no' : false ≡ true = session_says g (order_of None key) m i in cc
@@ -382,7 +378,7 @@ module _ (s : SetUp) (e : Entry) (x : SessionSpeaks s e) where
       two f g i j = subst AtMostOne (sym none) tt
         where
           none : filter (says test) (filter (is_on w (taker_of w)) (f ∷ g ∷ [])) ≡ []
-          none = filter_none (says test) (filter (is_on w (taker_of w)) (f ∷ g ∷ [])) (each_filter (λ (z : FrameView). says test z ≡ false) (is_on w (taker_of w)) (f ∷ g ∷ []) (i, (j, tt)))
+          none = filter_none (says test) (filter (is_on w (taker_of w)) (f ∷ g ∷ [])) (Each-filter (λ (z : FrameView). says test z ≡ false) (is_on w (taker_of w)) (f ∷ g ∷ []) (i, (j, tt)))
 
       go : Short x.says → AtMostOne (filter (says test) (filter (is_on w (taker_of w)) (frames (server_end x.p x.q) x.c x.says)))
       go (inl i) = subst (λ (z : List FrameText). AtMostOne (filter (says test) (filter (is_on w (taker_of w)) (frames (server_end x.p x.q) x.c z)))) (sym i) tt
@@ -415,7 +411,7 @@ step_time s past k m g n small (inl x) i u e = elim (x.writes) [
 step_time s past k m g n small (inr (inl x)) i u e = go x.frame
   where
     at : (c : End) → m.sent ≡ frames (server_end x.peer x.slot) c x.says → n ≡ clock s.repos past s.number k.time / 1000
-    at c j = each_member (IsTime (clock s.repos past s.number k.time)) x.says g.body
+    at c j = Each-member (IsTime (clock s.repos past s.number k.time)) x.says g.body
         (kind_time (here s (state_of s past) k (server_end x.peer x.slot)) ((state_of s past).sessions (server_end x.peer x.slot)).doing x.asked x.says m.kind small x.found)
         (member_frames (server_end x.peer x.slot) c x.says g (subst (Member g) j i)).0 n e
 
@@ -423,14 +419,14 @@ step_time s past k m g n small (inr (inl x)) i u e = go x.frame
     go (inl y) = at (end_takes ((state_of s past).ends (server_end x.peer x.slot)) y.f.epoch y.f.body) y.sent_is
     go (inr y) = at ((state_of s past).ends (server_end x.peer x.slot)) y.sent_is
 step_time s past k m g n small (inr (inr x)) i u e =
-    absurd (subst (Member g) (job_sends (turn_of s (state_of s past) k x.w) m m.kind g.peer g.slot x.found) (filter_member (sends_at (server_end g.peer g.slot)) m.sent g i (down_at g u)))
+    absurd (subst (Member g) (job_sends (turn_of s (state_of s past) k x.w) m m.kind g.peer g.slot x.found) (Member-filter_from (sends_at (server_end g.peer g.slot)) m.sent g i (down_at g u)))
 
 -- a timestamp that goes down is the clock
 pub down_time : (s : SetUp) (past : List Entry) (words : ℕ → Option Word) (e : Entry) (g : FrameView) (n : ℕ) → OwnPart s past words e → clock s.repos past s.number e.time / 1000 < 2 ^ 63 → Member g e.sent → g.up ≡ false
     → message_in g.body ≡ Says (Timestamp n) → n ≡ clock s.repos past s.number e.time / 1000
 down_time s past words e g n own small i u y = elim (own.does) [
   | inl x ↦ step x
-  | inr x ↦ absurd (closing_says g (Timestamp n) (each_member (λ (h : FrameView). h.body ≡ Closing) e.sent g (come_closes s past e.lines e.sent e.kind x.may) i) y)
+  | inr x ↦ absurd (closing_says g (Timestamp n) (Each-member (λ (h : FrameView). h.body ≡ Closing) e.sent g (come_closes s past e.lines e.sent e.kind x.may) i) y)
 ]
   where
     step : IsStep s past words e → n ≡ clock s.repos past s.number e.time / 1000
@@ -475,7 +471,7 @@ closes_one test w e close all = subst AtMostOne (sym none) tt
     each (f ∷ fs) a = (ap (λ b. test (message_in b)) a.0 ∙ close, each fs a.1)
 
     none : filter (says test) (on_way w e) ≡ []
-    none = filter_none (says test) (on_way w e) (each_filter (λ g. says test g ≡ false) (is_on w (taker_of w)) e.sent (each e.sent all))
+    none = filter_none (says test) (on_way w e) (Each-filter (λ g. says test g ≡ false) (is_on w (taker_of w)) e.sent (each e.sent all))
 
 of_ends : (peer : ℕ) (client : Bool) (xs : List ℕ) (a : EndName) → Member a (map (λ slot. record { peer = peer; slot = slot; client = client }) xs) → a.peer ≡ peer
 of_ends peer client [] a m = absurd m
@@ -485,7 +481,7 @@ of_ends peer client (x ∷ xs) a (inr i) = of_ends peer client xs a i
 pub ends_other : (s : SetUp) (a : EndName) → Member a (all_ends s) → a.peer ≢ s.number
 ends_other s a m same =
     let w = of_flat (λ peer. ends_with peer true ++ ends_with peer false) (others s) a m in
-    let peer : a.peer ≡ w.0 = elim (member_append (ends_with w.0 true) (ends_with w.0 false) a w.2) [ inl i ↦ of_ends w.0 true slots a i | inr i ↦ of_ends w.0 false slots a i ] in
+    let peer : a.peer ≡ w.0 = elim (Member-append_cases (ends_with w.0 true) (ends_with w.0 false) a w.2) [ inl i ↦ of_ends w.0 true slots a i | inr i ↦ of_ends w.0 false slots a i ] in
     let kept : not (w.0 == s.number) ≡ true = of_filter (λ x. not (x == s.number)) (range_with_len 0 (length s.repos)) w.0 w.1 in
     let at : w.0 ≡ s.number = sym peer ∙ same in
     let yes' : (w.0 == s.number) ≡ true = eqb_eq w.0 s.number at in

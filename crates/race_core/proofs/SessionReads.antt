@@ -6,6 +6,7 @@ use Rattle.std.specs.Str.{chars, is_utf8}
 use Rattle.std.specs.Str.Lossy.{utf8_valid_len}
 use Rattle.annex_base.specs.Lists.{Member}
 use Rattle.annex_base.specs.declared.kinds.Call.{Call}
+use Rattle.annex_base.proofs.Conditions.{if_either}
 use Rattle.annex_base.specs.declared.kinds.Call.TheVariants as calls
 use Rattle.run_data.specs.declared.entry.Entry.{Entry}
 use Rattle.run_data.specs.declared.entry.EntryKind.TheVariants.{Fault, Release, Talk}
@@ -25,7 +26,7 @@ use Rattle.node_model.specs.Look.{Look, failing}
 use Rattle.node_model.specs.Calls.{to_commit, to_lock, to_offer, to_remove}
 use Rattle.node_model.specs.SessionStep.{Here, Reply, bar_on, by_of, bytes_left, check_answer, close_kind, content_of, gives_next, here, is_filled, is_held, is_here, lock_answer, now_of, on_bytes, on_frame, on_lock, on_message, on_piece, on_put, on_remove, on_remove_before, on_request, on_text, on_unlock, on_valid, put_answer, refuses, remove_answer, reply, shuts, silent, tries, unexpected, valid_answer}
 use Rattle.run_model.specs.Run.{OwnPast}
-use Rattle.race_core.proofs.Cases.{if_found, unless_found}
+use Rattle.race_core.proofs.Cases.{unless_found}
 use Rattle.race_core.proofs.Spoken.{auth_read, data_read, part_read, time_read, version_read}
 
 -- each line among these is read
@@ -119,10 +120,10 @@ module _ (s : SetUp) (past : List Entry) (h : OwnPast s past) (known : s.number 
       (remove_read (by_of spot) key (is_here spot key) (bar_on spot key) (is_held spot key))
 
   before_ok : (n : ℕ) (key : List ℕ) → Read (on_remove_before spot n key)
-  before_ok n key = if_found Read (nat_lt (now_of spot) (1000 * n)) (on_remove spot key) _ (λ e. remove_ok key) (λ e. one_read Failure refl)
+  before_ok n key = if_either Read (nat_lt (now_of spot) (1000 * n)) (on_remove spot key) _ (λ e. remove_ok key) (λ e. one_read Failure refl)
 
   put_ok : (key : List ℕ) → Read (on_put spot key)
-  put_ok key = tries_read (to_offer (is_here spot key) (is_filled s (state_of s past) key)) refuses
+  put_ok key = tries_read (to_offer k.part (is_here spot key) (is_filled s (state_of s past) key)) refuses
       (reply (Talk None) (put_answer k.part (is_here spot key) (is_filled s (state_of s past) key))) refuses_read
       (put_read k.part small (is_here spot key) (is_filled s (state_of s past) key))
 
@@ -135,15 +136,15 @@ module _ (s : SetUp) (past : List Entry) (h : OwnPast s past) (known : s.number 
   request_ok v (CheckPresent key) = tries_read (calls.Has ∷ []) refuses (check_answer key (is_here spot key) (bar_on spot key)) refuses_read (check_read key (is_here spot key) (bar_on spot key))
   request_ok v (LockContent key) = lock_ok key
   request_ok v (Remove key) = remove_ok key
-  request_ok v (RemoveBefore n key) = if_found Read (nat_le 3 v) (on_remove_before spot n key) (unexpected spot) (λ e. before_ok n key) (λ e. odd_read)
-  request_ok v GetTimestamp = if_found Read (nat_le 3 v) (reply (Talk None) (Timestamp (now_of spot / 1000))) (unexpected spot)
+  request_ok v (RemoveBefore n key) = if_either Read (nat_le 3 v) (on_remove_before spot n key) (unexpected spot) (λ e. before_ok n key) (λ e. odd_read)
+  request_ok v GetTimestamp = if_either Read (nat_le 3 v) (reply (Talk None) (Timestamp (now_of spot / 1000))) (unexpected spot)
       (λ e. one_read (Timestamp (now_of spot / 1000)) (time_read s past k.time h early)) (λ e. odd_read)
-  request_ok v (Get n file key) = if_found Read (nat_le 1 v) _ (unexpected spot) (λ e. get_ok n key) (λ e. odd_read)
-  request_ok v (Put file key) = if_found Read (nat_le 1 v) (on_put spot key) (unexpected spot) (λ e. put_ok key) (λ e. odd_read)
+  request_ok v (Get n file key) = if_either Read (nat_le 1 v) _ (unexpected spot) (λ e. get_ok n key) (λ e. odd_read)
+  request_ok v (Put file key) = if_either Read (nat_le 1 v) (on_put spot key) (unexpected spot) (λ e. put_ok key) (λ e. odd_read)
   request_ok v m = odd_read
 
   unlock_ok : (hold : ℕ) (key q : List ℕ) → Read (on_unlock spot hold key q)
-  unlock_ok hold key q = if_found Read (bytes_eq q key) (tries spot (calls.Unhold ∷ []) [] (silent (Release hold key))) (unexpected spot)
+  unlock_ok hold key q = if_either Read (bytes_eq q key) (tries spot (calls.Unhold ∷ []) [] (silent (Release hold key))) (unexpected spot)
       (λ e. tries_read (calls.Unhold ∷ []) [] (silent (Release hold key)) no_read no_read) (λ e. odd_read)
 
   valid_ok : (key : List ℕ) (size : ℕ) → Read (on_valid spot key size)
@@ -161,7 +162,7 @@ module _ (s : SetUp) (past : List Entry) (h : OwnPast s past) (known : s.number 
   message_ok v doing m = odd_read
 
   bytes_ok : (n : ℕ) (doing : Doing) → Read (on_bytes spot n doing)
-  bytes_ok n (Takes key size left) = if_found Read (nat_lt 0 n && nat_le n left) (tries spot (calls.Append ∷ []) (Closing ∷ []) (silent (Talk None))) (unexpected spot)
+  bytes_ok n (Takes key size left) = if_either Read (nat_lt 0 n && nat_le n left) (tries spot (calls.Append ∷ []) (Closing ∷ []) (silent (Talk None))) (unexpected spot)
       (λ e. tries_read (calls.Append ∷ []) (Closing ∷ []) (silent (Talk None)) close_read no_read) (λ e. odd_read)
   bytes_ok n doing = odd_read
 
@@ -178,11 +179,11 @@ module _ (s : SetUp) (past : List Entry) (h : OwnPast s past) (known : s.number 
 
   piece_ok : (key : List ℕ) (at n : ℕ) → Read (on_piece spot key at n)
   piece_ok key at n = tries_read (calls.Read ∷ []) (Closing ∷ []) _ close_read
-      (if_found Read (reaches (content_of spot key) (at + n)) (record { kind = Talk None; says = Bytes n ∷ [] }) (shuts (close_kind spot)) (λ e. bytes_read n) (λ e. close_read))
+      (if_either Read (reaches (content_of spot key) (at + n)) (record { kind = Talk None; says = Bytes n ∷ [] }) (shuts (close_kind spot)) (λ e. bytes_read n) (λ e. close_read))
 
   -- and what it gives unasked
   pub gives_read : (doing : Doing) (x : Reply) → gives_next spot doing ≡ Some x → SaysRead x.says
   gives_read (Gives key at left good) x is =
       let same : (if left == 0 then reply (Talk None) (if good then Valid else Invalid) else on_piece spot key at (min 32768 left)) ≡ x = cc in
-      subst Read same (if_found Read (left == 0) (reply (Talk None) (if good then Valid else Invalid)) (on_piece spot key at (min 32768 left)) (λ e. word_read good) (λ e. piece_ok key at (min 32768 left)))
+      subst Read same (if_either Read (left == 0) (reply (Talk None) (if good then Valid else Invalid)) (on_piece spot key at (min 32768 left)) (λ e. word_read good) (λ e. piece_ok key at (min 32768 left)))
   gives_read doing x is = absurd (cc)

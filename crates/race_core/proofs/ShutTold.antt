@@ -5,6 +5,7 @@ use Rattle.std.proofs.Common.{◌≡◌, ◌≢◌, ℕ, Bool, true, false, List
 use Rattle.std.specs.Prelude.{if◌then◌else◌, ◌==◌}
 use Rattle.std.proofs.lemmas.Bool.{true≢false}
 use Rattle.annex_base.specs.Lists.{Each, Member}
+use Rattle.annex_base.proofs.Conditions.{eqb_refl}
 use Rattle.run_data.specs.declared.entry.Entry.{Entry}
 use Rattle.run_data.specs.declared.entry.EntryKind.{EntryKind}
 use Rattle.run_data.specs.declared.entry.EntryKind.TheVariants.{Bar, Begin, Close, Compact, Crash, Fault, Gain, Gone, Log, Order, Share, Talk, End as ends_job}
@@ -32,7 +33,6 @@ use Rattle.node_model.specs.Look.{Made}
 use Rattle.node_model.specs.JobStep.{Turn, end_with, me}
 use Rattle.node_model.specs.Found.{JobKind}
 use Rattle.run_model.specs.Run.{OwnPart, OwnRun, RunPast, RunStep, set_up}
-use Rattle.race_core.proofs.Plain.{eqb_refl}
 use Rattle.race_core.proofs.SaidDown.{said_closing}
 use Rattle.race_core.proofs.JobKept.{kind_kept}
 use Rattle.race_core.proofs.JobSteps.{Origin, Stays, Stepped, Steps, origin, stepped_found, stepped_runs, turn_at}

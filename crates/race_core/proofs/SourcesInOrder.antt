@@ -1,5 +1,5 @@
 -- A get has the causes of the first of its sources, in order.
-use Rattle.std.proofs.Common.{◌≡◌, ℕ, ◌+◌, ◌-◌, true, List, [], ◌∷◌, Option, Some, None, inl, inr, refl, sym, ap, ◌∙◌, subst, ◌++◌}
+use Rattle.std.proofs.Common.{◌≡◌, ℕ, true, List, [], ◌∷◌, Option, Some, None, inl, inr, refl, sym, ap, ◌∙◌, subst, ◌++◌}
 use Rattle.std.specs.Prelude.{length, map, slice_get, take}
 use Rattle.annex_base.specs.Lists.{Member}
 use Rattle.run_data.specs.declared.entry.Entry.{Entry}

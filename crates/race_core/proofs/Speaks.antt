@@ -1,7 +1,9 @@
 -- A job speaks and listens only at the client's ends of its own slot.
-use Rattle.std.proofs.Common.{◌≡◌, ℕ, Bool, true, false, List, [], ◌∷◌, ◌++◌, Some, None, ◌⊎◌, inl, inr, refl, sym, ap, ◌∙◌, subst}
+use Rattle.std.proofs.Common.{◌≡◌, ℕ, Bool, true, false, List, [], ◌∷◌, Some, None, ◌⊎◌, inl, inr, refl, sym, ap, ◌∙◌, subst}
 use Rattle.std.specs.Prelude.{if◌then◌else◌, ◌==◌, ◌&&◌, flat_map}
+use Rattle.std.proofs.lemmas.Bool.{and_parts, eqb-true}
 use Rattle.annex_base.specs.Lists.{Member}
+use Rattle.annex_base.proofs.Lists.{Member-append_cases}
 use Rattle.run_data.specs.declared.entry.Entry.{Entry}
 use Rattle.run_data.specs.declared.entry.EntryKind.{EntryKind}
 use Rattle.run_data.specs.declared.entry.EntryKind.TheVariants.{Gain, Share, Bar, Gone, Order, Talk, Fault, End as ends_job}
@@ -17,7 +19,6 @@ use Rattle.node_model.specs.JobStep.{Turn, end_with, farewell, others_of}
 use Rattle.node_model.specs.Found.{JobKind, JobTakes, agrees}
 use Rattle.run_data.specs.declared.entry.FrameText.TheVariants.{Line}
 use Rattle.p2p_wire.specs.Messages.{order_of, text_of}
-use Rattle.race_core.proofs.Plain.{and_true, eqb_true}
 use Rattle.race_core.proofs.JobSteps.{Stepped, stepped_found, turn_at}
 
 -- the frame is listed at the client's end of this slot
@@ -29,16 +30,11 @@ frames_at a c [] g client m = absurd m
 frames_at a c (body ∷ bodies) g client (inl m) = (ap (λ (f : FrameView). f.slot) m, ap (λ (f : FrameView). f.up) m ∙ client)
 frames_at a c (body ∷ bodies) g client (inr m) = frames_at a (end_sends c body) bodies g client m
 
-member_split : {X : Type 0} (xs ys : List X) (x : X) → Member x (xs ++ ys) → Member x xs ⊎ Member x ys
-member_split [] ys x m = inr m
-member_split (y ∷ xs) ys x (inl m) = inl (inl m)
-member_split (y ∷ xs) ys x (inr m) = elim (member_split xs ys x m) [ inl n ↦ inl (inr n) | inr n ↦ inr n ]
-
 farewells_at : (t : Turn) (lost : Bool) (peers : List ℕ) (g : FrameView)
     → Member g (flat_map (λ peer. frames (job_end t.w peer) (end_with t peer) (farewell t lost peer (end_with t peer).opened)) peers) → AtSlot t.w.slot g
 farewells_at t lost [] g m = absurd m
 farewells_at t lost (p ∷ peers) g m = go (λ n. farewells_at t lost peers g n)
-    (member_split (frames (job_end t.w p) (end_with t p) (farewell t lost p (end_with t p).opened)) (flat_map (λ peer. frames (job_end t.w peer) (end_with t peer) (farewell t lost peer (end_with t peer).opened)) peers) g m)
+    (Member-append_cases (frames (job_end t.w p) (end_with t p) (farewell t lost p (end_with t p).opened)) (flat_map (λ peer. frames (job_end t.w peer) (end_with t peer) (farewell t lost peer (end_with t peer).opened)) peers) g m)
   where
     go : (Member g (flat_map (λ peer. frames (job_end t.w peer) (end_with t peer) (farewell t lost peer (end_with t peer).opened)) peers) → AtSlot t.w.slot g)
         → Member g (frames (job_end t.w p) (end_with t p) (farewell t lost p (end_with t p).opened)) ⊎ Member g (flat_map (λ peer. frames (job_end t.w peer) (end_with t peer) (farewell t lost peer (end_with t peer).opened)) peers) → AtSlot t.w.slot g
@@ -78,9 +74,9 @@ module _ (s : SetUp) (past : List Entry) (e : Entry) (x : Stepped s past e) wher
       at takes =
           let both : Some f ≡ Some takes.f = sym took ∙ ap (λ (y : Entry). y.taken) x.is ∙ takes.taken_is in
           let same : f ≡ takes.f = cc in
-          let two = and_true ((takes.f.peer == takes.peer) && (takes.f.slot == x.w.slot)) (same_bool true (if takes.f.up then false else true)) takes.of_end in
-          let one = and_true (takes.f.peer == takes.peer) (takes.f.slot == x.w.slot) two.0 in
-          (ap (λ (g : FrameView). g.slot) same ∙ eqb_true takes.f.slot x.w.slot one.1, ap (λ (g : FrameView). g.up) same ∙ down takes.f.up two.1)
+          let two = and_parts ((takes.f.peer == takes.peer) && (takes.f.slot == x.w.slot)) (same_bool true (if takes.f.up then false else true)) takes.of_end in
+          let one = and_parts (takes.f.peer == takes.peer) (takes.f.slot == x.w.slot) two.0 in
+          (ap (λ (g : FrameView). g.slot) same ∙ eqb-true takes.f.slot x.w.slot one.1, ap (λ (g : FrameView). g.up) same ∙ down takes.f.up two.1)
         where
           down : (b : Bool) → same_bool true (if b then false else true) ≡ true → b ≡ false
           down true h = absurd (cc)

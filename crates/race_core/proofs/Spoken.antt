@@ -4,6 +4,7 @@ use Rattle.std.specs.Prelude.{if◌then◌else◌, ◌==◌, min, not, bytes_eq,
 use Rattle.annex_base.specs.Lists.{Each, Member}
 use Rattle.annex_base.specs.RepoText.{IsId}
 use Rattle.annex_base.specs.declared.kinds.Word.{Word}
+use Rattle.annex_base.proofs.Lists.{Each-filter}
 use Rattle.annex_key.specs.View.{first_fault}
 use Rattle.run_data.specs.declared.entry.Entry.{Entry}
 use Rattle.run_data.specs.declared.entry.EntryKind.{EntryKind}
@@ -24,7 +25,7 @@ use Rattle.node_model.specs.Jobs.{Work, running}
 use Rattle.node_model.specs.AnyTime.{IsPeer, MayCome}
 use Rattle.node_model.specs.SessionStep.{bytes_left}
 use Rattle.run_model.specs.Run.{IsBounded, IsSmall, IsStep, OwnPart, OwnPast, OwnRun}
-use Rattle.race_core.proofs.Plain.{each_filter, each_map}
+use Rattle.race_core.proofs.Plain.{each_map}
 use Rattle.race_core.proofs.StepFacts.{kind_found}
 use Rattle.race_core.proofs.JobKept.{jobs_are}
 
@@ -49,7 +50,7 @@ begins_well s past words e own job what is = elim (own.does) [
 
 after_well : (s : SetUp) (js : List Running) (kind : EntryKind) → ((job : ℕ) (what : Job) → kind ≡ Begin job what → BegunWell s what) → Each (λ j. BegunWell s j.what) js → Each (λ j. BegunWell s j.what) (jobs_after js kind)
 after_well s js (Begin job what) next x = (next job what refl, x)
-after_well s js (ends_job job outcome) next x = each_filter (λ (j : Running). BegunWell s j.what) (λ (j : Running). not (j.number == job)) js x
+after_well s js (ends_job job outcome) next x = Each-filter (λ (j : Running). BegunWell s j.what) (λ (j : Running). not (j.number == job)) js x
 after_well s js (Crash clock) next x = tt
 after_well s js kind next x = x
 

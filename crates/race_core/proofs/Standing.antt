@@ -4,6 +4,7 @@ use Rattle.std.proofs.lemmas.Bool.Decides.{nat_tests}
 use Rattle.std.specs.Prelude.{◌&&◌, nat_lt, codes}
 use Rattle.annex_base.specs.Lists.{Member}
 use Rattle.annex_base.specs.declared.kinds.Call.TheVariants.{Unhold}
+use Rattle.annex_base.proofs.Conditions.{bytes_eq_tells}
 use Rattle.drop_proof.specs.declared.rule.Side.{Side}
 use Rattle.drop_proof.specs.declared.rule.Side.TheVariants.{Remote}
 use Rattle.run_data.specs.declared.entry.By.{By}
@@ -27,7 +28,6 @@ use Rattle.run_model.specs.Said.{Says}
 use Rattle.run_model.specs.Logs.{before_step, in_drop, is_step}
 use Rattle.run_model.specs.Drops.{option_is_none}
 use Rattle.run_model.specs.Causes.{Answers, FailedCall, Hears}
-use Rattle.race_core.proofs.LogLemmas.{bytes_eq_tells}
 use Rattle.node_model.specs.SetUp.{SetUp}
 use Rattle.run_model.specs.States.{state_of, rows_at, works}
 use Rattle.node_model.specs.Jobs

@@ -2,6 +2,7 @@
 use Rattle.std.proofs.Common.{◌≡◌, ◌≢◌, ℕ, true, false, List, [], ◌∷◌, Some, None, ◌⊎◌, inl, inr, refl, sym, ◌∙◌, subst}
 use Rattle.std.specs.Prelude.{length}
 use Rattle.std.specs.List.{list_any}
+use Rattle.std.proofs.lemmas.Bool.{and_right}
 use Rattle.annex_base.specs.Lists.{Member}
 use Rattle.run_data.specs.declared.entry.Entry.{Entry}
 use Rattle.run_data.specs.declared.entry.EntryKind.{EntryKind}
@@ -19,7 +20,6 @@ use Rattle.node_model.specs.JobStep.{Turn}
 use Rattle.node_model.specs.DropStep.{target}
 use Rattle.run_model.specs.Run.{OwnRun}
 use Rattle.node_model.specs.Found.{JobKind}
-use Rattle.race_core.proofs.Plain.{and_no}
 use Rattle.race_core.proofs.TalkFacts.{Fits, OrderStands, SaysOne, TalkKind}
 use Rattle.race_core.proofs.PhaseFacts.{SentReads, is_fresh, only_word}
 use Rattle.race_core.proofs.JobSteps.{Origin, invariant, turn_at}
@@ -85,5 +85,5 @@ starts_unasked s past run w m start =
         let none = start_kind (turn_at s p e b.by) b.by.made (rows_at p s.number) s.number e (length p) e.kind (step_kind s p e x b) (step_talk s p e x b fits) fits
         (subst (SentReads v.part) (step_sent s p e x b) (steps_read s p e x b fits)) old new b.goes_on in
         let done' : Unasked (e ∷ p) s.number v.number = unasked_after p s.number e v.number is none.0
-        (and_no (is_job s.number v.number e) (asks_by e.kind e.sent) (subst (λ fs. asks_by e.kind fs ≡ false) (sym (step_sent s p e x b)) none.1)) (was v (step_runs s p e x b) old) in
+        (and_right (is_job s.number v.number e) (asks_by e.kind e.sent) (subst (λ fs. asks_by e.kind fs ≡ false) (sym (step_sent s p e x b)) none.1)) (was v (step_runs s p e x b) old) in
         subst (Unasked (e ∷ p) s.number) (sym (step_number s p e x b)) done'

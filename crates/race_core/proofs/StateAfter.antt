@@ -1,6 +1,8 @@
 -- The state after one entry is a function of the state before it and the entry; entries of others leave it alone.
 use Rattle.std.proofs.Common.{◌≡◌, ℕ, ◌+◌, Bool, true, false, List, [], ◌∷◌, Option, Some, None, inl, inr, refl, sym, ap, ◌∙◌}
 use Rattle.std.specs.Prelude.{if◌then◌else◌, bytes_eq, ◌&&◌}
+use Rattle.annex_base.proofs.Conditions.{bytes_eq_tells}
+use Rattle.annex_base.proofs.Functions.{funext}
 use Rattle.log_lines.specs.declared.entry.LogKind.{LogKind}
 use Rattle.union_merge.specs.Branch.{Files, file_at, lines_at, or_none}
 use Rattle.race_core.proofs.Branches.{merged_elsewhere, merged_there, set_elsewhere, set_there}
@@ -15,15 +17,11 @@ use Rattle.node_model.specs.Slots.{is_begin}
 use Rattle.run_model.specs.Logs.{branch, branch_after, compact_file, kept}
 use Rattle.node_model.specs.Files.{compact_lines, lines_after}
 use Rattle.run_data.specs.Files.{file_path, kind_of}
-use Rattle.race_core.proofs.LogLemmas.{bytes_eq_tells, kept_reads_as_ever}
+use Rattle.race_core.proofs.LogLemmas.{kept_reads_as_ever}
 use Rattle.node_model.specs.SetUp.{SetUp}
 use Rattle.run_model.specs.States.{end_at, content, session, works, owes, state_of}
 use Rattle.node_model.specs.After.{clock_after, first_state, state_after}
 use Rattle.race_core.proofs.OwnState.{own, state_own}
-
--- functions that agree everywhere are one
-pub funext : {X Y : Type 0} (f g : X → Y) → ((x : X) → f x ≡ g x) → f ≡ g
-funext f g same i x = same x i
 
 -- ---- the lines of its files
 

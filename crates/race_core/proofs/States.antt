@@ -2,8 +2,12 @@
 use Rattle.std.proofs.Common.{◌≡◌, ◌≢◌, ℕ, ◌<◌, ◌≤◌, Bool, true, false, List, [], ◌∷◌, Option, Some, None, ◌⊎◌, inl, inr, refl, sym, ap, ◌∙◌, subst, arith}
 use Rattle.std.specs.Prelude.{if◌then◌else◌, ◌==◌, find}
 use Rattle.std.specs.Option.{unwrap_or}
+use Rattle.std.proofs.lemmas.Bool.{eqb-true}
 use Rattle.annex_base.specs.Lists.{Member}
 use Rattle.annex_base.specs.Settings.{Settings}
+use Rattle.annex_base.proofs.Conditions.{eqb_refl}
+use Rattle.annex_base.proofs.Lists.{find_member}
+use Rattle.annex_base.proofs.Functions.{funext}
 use Rattle.trust_groups.specs.Settings.{settings}
 use Rattle.run_data.specs.declared.entry.Entry.{Entry}
 use Rattle.run_data.specs.declared.entry.EntryKind.{EntryKind}
@@ -20,8 +24,6 @@ use Rattle.node_model.specs.Jobs.{Drops, Fresh, Gets, Part, Phase, Puts, Work}
 use Rattle.node_model.specs.Look.{Look}
 use Rattle.node_model.specs.Step.{step}
 use Rattle.run_model.specs.Run.{OwnPast}
-use Rattle.race_core.proofs.Plain.{eqb_refl, eqb_true}
-use Rattle.race_core.proofs.Cases.{find_was}
 use Rattle.race_core.proofs.BySteps.{earlier}
 use Rattle.race_core.proofs.OwnState.{own}
 use Rattle.race_core.proofs.WorkNumbers.{number_begun, same_number_same_work}
@@ -31,7 +33,7 @@ use Rattle.race_core.proofs.WorkFits.{step_number, step_runs, works_fit}
 use Rattle.race_core.proofs.Untouched.{begin_still, begins_later}
 use Rattle.race_core.proofs.DropReads.{stays_read, step_read}
 use Rattle.race_core.proofs.AtTargets.{at_targets}
-use Rattle.race_core.proofs.StateAfter.{after_is, funext, kept_after, other_is}
+use Rattle.race_core.proofs.StateAfter.{after_is, kept_after, other_is}
 use Rattle.race_core.proofs.NotDropping.{comes_unread, future_reads, still_unread}
 use Rattle.race_core.proofs.DropLeaves.{fresh_unread}
 use Rattle.race_core.proofs.SameReads.{step_same}
@@ -53,8 +55,8 @@ found_is s past h w m j is = go (find (λ x. x.number == j) (works past s.number
     go : (o : Option Work) → find (λ x. x.number == j) (works past s.number) ≡ o → o ≡ Some w
     go None none = absurd (member_found j (works past s.number) w m is none)
     go (Some v) at =
-        let was = find_was (λ x. x.number == j) (works past s.number) v at in
-        ap Some (same_number_same_work s past h.run v w was.0 m (eqb_true v.number j was.1 ∙ sym is))
+        let was = find_member (λ x. x.number == j) (works past s.number) v at in
+        ap Some (same_number_same_work s past h.run v w was.0 m (eqb-true v.number j was.1 ∙ sym is))
 
 none_found : (s : SetUp) (past : List Entry) → OwnPast s past → (j : ℕ) → begun past s.number < j → find (λ x. x.number == j) (works past s.number) ≡ None
 none_found s past h j later = go (find (λ x. x.number == j) (works past s.number)) refl
@@ -62,9 +64,9 @@ none_found s past h j later = go (find (λ x. x.number == j) (works past s.numbe
     go : (o : Option Work) → find (λ x. x.number == j) (works past s.number) ≡ o → o ≡ None
     go None none = refl
     go (Some v) at =
-        let was = find_was (λ x. x.number == j) (works past s.number) v at in
+        let was = find_member (λ x. x.number == j) (works past s.number) v at in
         let below : v.number ≤ begun past s.number = number_begun s past h.run v was.0 in
-        let same : v.number ≡ j = eqb_true v.number j was.1 in
+        let same : v.number ≡ j = eqb-true v.number j was.1 in
         absurd (omega arith)
 
 -- ---- what has been read
@@ -201,8 +203,8 @@ after_same s st other e agrees =
             by : (b : Bool) → has_read w.part w.phase ≡ b → (if b then st.read j else logs) ≡ (if b then other.read j else logs)
             by false is = refl
             by true is =
-                let was = find_was (λ w. w.number == j) other.works w at in
-                subst (λ n. st.read n ≡ other.read n) (eqb_true w.number j was.1) (agrees.reads w (subst (Member w) (sym works_same) was.0) (read_drops w.part w.phase is))
+                let was = find_member (λ w. w.number == j) other.works w at in
+                subst (λ n. st.read n ≡ other.read n) (eqb-true w.number j was.1) (agrees.reads w (subst (Member w) (sym works_same) was.0) (read_drops w.part w.phase is))
 
 -- **the state that is carried over a repository's own entries agrees with what the past says**
 pub states_agree : (s : SetUp) (past : List Entry) → OwnPast s past → Agrees (state_of s past) (states s (own s.number past))

@@ -4,6 +4,7 @@ use Rattle.std.specs.Prelude.{◌==◌, length, nat_lt}
 use Rattle.annex_base.specs.Lists.{Member}
 use Rattle.annex_base.specs.Settings.{Settings}
 use Rattle.annex_base.specs.declared.kinds.Call.TheVariants.{Unhold}
+use Rattle.annex_base.proofs.Conditions.{eqb_refl}
 use Rattle.drop_proof.specs.declared.evidence.Evidence.{Evidence}
 use Rattle.drop_proof.specs.declared.rule.Need.{Need}
 use Rattle.drop_proof.specs.declared.rule.Side.TheVariants.{Remote}
@@ -48,7 +49,6 @@ use Rattle.race_core.proofs.Standing.{old_at, old_on, stands}
 use Rattle.race_core.proofs.AtTargets.{at_targets, enough_same}
 use Rattle.race_core.proofs.DropReads.{stays_read, step_read, told_of}
 use Rattle.race_core.proofs.BySteps.{earlier}
-use Rattle.race_core.proofs.Plain.{eqb_refl}
 use Rattle.race_core.proofs.OrdersAnswered.{drops_stay}
 
 -- ---- what was read and heard decides what a job knows

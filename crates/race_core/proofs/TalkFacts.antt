@@ -3,7 +3,9 @@ use Rattle.node_model.specs.Clocks.{hold_time}
 use Rattle.std.proofs.Common.{◌≡◌, ℕ, ◌+◌, ◌-◌, ◌/◌, ◌^◌, Bool, true, false, List, [], ◌∷◌, Option, Some, None, ◌⊎◌, inl, inr, refl, sym, ap, ◌∙◌, subst}
 use Rattle.std.specs.Prelude.{if◌then◌else◌, ◌==◌, ◌&&◌, not, min, nat_lt, nat_le, bytes_eq, codes}
 use Rattle.std.specs.List.{list_all}
+use Rattle.std.proofs.lemmas.Bool.{eqb-true}
 use Rattle.annex_base.specs.declared.kinds.Call.{Call}
+use Rattle.annex_base.proofs.Conditions.{if_either}
 use Rattle.annex_base.specs.declared.kinds.Call.TheVariants as calls
 use Rattle.drop_proof.specs.declared.rule.Side.{Side}
 use Rattle.drop_proof.specs.declared.rule.Side.TheVariants.{Local, Remote}
@@ -27,7 +29,7 @@ use Rattle.p2p_wire.specs.Messages.{message_of, text_of}
 use Rattle.node_model.specs.Sessions.{reaches}
 use Rattle.node_model.specs.Jobs
 use Rattle.node_model.specs.Jobs.{Part, Gets, Puts, Drops, Phase, Fresh, Next, Opens, Greets, GetsData, GetsBytes, GetsWord, PutsOffer, PutsBytes, PutsWord, PutsAnswer, AsksLock, AsksLook, AsksTime, Removed, Denied, Late, Ends, is_move, Work, job_end, partner, side_of}
-use Rattle.node_model.specs.Calls.{to_commit, to_hold, to_release}
+use Rattle.node_model.specs.Calls.{to_commit, to_hold, to_release, to_resume}
 use Rattle.node_model.specs.Look.{Look, Made, failing, waiting}
 use Rattle.node_model.specs.SessionStep.{bytes_left}
 use Rattle.node_model.specs.Knows.{enough_by, next_by}
@@ -36,8 +38,7 @@ use Rattle.node_model.specs.DropStep.{takes_drop, takes_time, asks_copy, asks_lo
 use Rattle.node_model.specs.Requests.{asks, goes_to}
 use Rattle.node_model.specs.TransferStep.{takes_get, takes_put, content_of, first_get, first_put, gains, next_get, next_source, puts_from, puts_piece, takes_bytes}
 use Rattle.node_model.specs.Turns.{takes_answer, awaits, by_partner, goes_on, has_room, needs, slot_step, with_partner, is_awaiting, first_step, goes, judges, next_step, outcome_of, takes, takes_frame, takes_text}
-use Rattle.race_core.proofs.Plain.{eqb_true}
-use Rattle.race_core.proofs.Cases.{if_found, unless_found}
+use Rattle.race_core.proofs.Cases.{unless_found}
 
 -- ---- what it says
 
@@ -223,7 +224,7 @@ order_at t peer (inr at) same = inr (inl (at ∙ ap Greets same))
 target_talks : (t : Turn) (version : ℕ) (taken : Option FrameView) → t.w.part ≡ Drops → side_of t.w ≡ Remote → AsksAt t (target t) → (end : Option ℕ) → Talks t (asks_target t version taken end)
 target_talks t version taken part side at None = order_at t (target t) at refl
 target_talks t version taken part side at (Some end) =
-    if_found (Talks t) (nat_lt version 3) (quietly (talk t) taken) (says_to t (talk t) taken (target t) GetTimestamp)
+    if_either (Talks t) (nat_lt version 3) (quietly (talk t) taken) (says_to t (talk t) taken (target t) GetTimestamp)
     (λ e. quiet_talks t taken (at_begun t (target t) at))
     (λ e. says_talks t taken (target t) GetTimestamp (at_begun t (target t) at) (drop_asks t (target t) GetTimestamp part (asks_time_at t (target t) side at refl)))
 
@@ -234,15 +235,15 @@ lock_talks t taken peer part at apart =
 copy_talks : (t : Turn) (version : ℕ) (taken : Option FrameView) (peer : ℕ) → t.w.part ≡ Drops → AsksAt t peer → (side : Side) → side_of t.w ≡ side → Talks t (asks_copy t version taken peer side)
 copy_talks t version taken peer part at Local is = lock_talks t taken peer part at (λ remote. let no_side : Local ≡ Remote = sym is ∙ remote in absurd (cc))
 copy_talks t version taken peer part at Remote is =
-    if_found (Talks t) (target t == peer) (asks_target t version taken (first_end t)) (asks_lock t taken peer)
-    (λ e. target_talks t version taken part is (subst (AsksAt t) (sym (eqb_true (target t) peer e)) at) (first_end t)) (λ e. lock_talks t taken peer part at (λ remote. e))
+    if_either (Talks t) (target t == peer) (asks_target t version taken (first_end t)) (asks_lock t taken peer)
+    (λ e. target_talks t version taken part is (subst (AsksAt t) (sym (eqb-true (target t) peer e)) at) (first_end t)) (λ e. lock_talks t taken peer part at (λ remote. e))
 
 no_part : (t : Turn) (part : Part) → t.w.part ≡ part → (part ≡ Drops → ⊥) → Begun t
 no_part t part is apart drops = absurd (apart (sym is ∙ drops))
 
 asks_talks : (t : Turn) (version : ℕ) (taken : Option FrameView) (peer : ℕ) (part : Part) → t.w.part ≡ part → (part ≡ Drops → AsksAt t peer) → Talks t (asks t version taken peer part)
 asks_talks t version taken peer Gets part at =
-    attempts_talks t (calls.PartSize ∷ []) taken (says_to t (talk t) taken peer (Get t.look.part [] (key_of t)))
+    attempts_talks t (to_resume t.look.part) taken (says_to t (talk t) taken peer (Get t.look.part [] (key_of t)))
     (says_talks t taken peer (Get t.look.part [] (key_of t)) (no_part t Gets part (λ e. cc)) (subst (λ p. PartAsks t peer p (Get t.look.part [] (key_of t))) (sym part) tt))
 asks_talks t version taken peer Puts part at =
     says_talks t taken peer (Put [] (key_of t)) (no_part t Puts part (λ e. cc)) (subst (λ p. PartAsks t peer p (Put [] (key_of t))) (sym part) tt)
@@ -255,7 +256,7 @@ opens_at t peer Drops at = at refl
 
 goes_to_talks : (t : Turn) (peer : ℕ) → (t.w.part ≡ Drops → (t.w.phase ≡ Next) × Chosen t peer) → Talks t (goes_to t peer)
 goes_to_talks t peer at =
-    if_found (Talks t) (end_with t peer).opened (asks t t.w.version None peer t.w.part) (sends_to t (talk t) None peer (Opening ∷ []))
+    if_either (Talks t) (end_with t peer).opened (asks t t.w.version None peer t.w.part) (sends_to t (talk t) None peer (Opening ∷ []))
     (λ e. asks_talks t t.w.version None peer t.w.part refl (λ drops. let stands = at drops in inl (stands.0, stands.1, e)))
     (λ e. sends_talks t None peer Opening (λ drops. let stands = at drops in at_under t Next stands.0 refl) (opens_at t peer t.w.part at))
 
@@ -263,7 +264,7 @@ goes_to_talks t peer at =
 
 gone_talks : (t : Turn) → Talks t (removes t)
 gone_talks t =
-    if_found (Talks t) (in_time (clock_of t) (first_end t)) (attempts t (calls.Remove ∷ []) None (quietly (Gone (by_me t) (key_of t)) None)) (ends t None (expired (clock_of t) (first_end t)))
+    if_either (Talks t) (in_time (clock_of t) (first_end t)) (attempts t (calls.Remove ∷ []) None (quietly (Gone (by_me t) (key_of t)) None)) (ends t None (expired (clock_of t) (first_end t)))
     (λ e. attempts_talks t (calls.Remove ∷ []) None (quietly (Gone (by_me t) (key_of t)) None) tt)
     (λ e. ends_talks t None (expired (clock_of t) (first_end t)))
 
@@ -288,7 +289,7 @@ transfer_goes t peer apart = goes_to_talks t peer (λ drops. absurd (apart drops
 
 first_get_talks : (t : Turn) → Transfers t → (here filled : Bool) (source : Option ℕ) → Talks t (first_get t here filled source)
 first_get_talks t apart true filled source =
-    if_found (Talks t) (is_move t.w.what.kind) (quietly (talk t) None) (ends t None (Got None None))
+    if_either (Talks t) (is_move t.w.what.kind) (quietly (talk t) None) (ends t None (Got None None))
     (λ e. quiet_talks t None (transfer_begun t apart)) (λ e. ends_talks t None (Got None None))
 first_get_talks t apart false true source = ends_talks t None (TransferRefused failures.Busy)
 first_get_talks t apart false false None = quiet_talks t None (transfer_begun t apart)
@@ -317,7 +318,7 @@ from_talks t f peer n part =
     let m = Data (bytes_left (content_of t) n) in
     let good = if reaches (content_of t) n then says_to t (talk t) (Some f) peer m else wrong t f peer in
     attempts_talks t (calls.Size ∷ []) (Some f) good
-    (if_found (Talks t) (reaches (content_of t) n) (says_to t (talk t) (Some f) peer m) (wrong t f peer)
+    (if_either (Talks t) (reaches (content_of t) n) (says_to t (talk t) (Some f) peer m) (wrong t f peer)
     (λ e. says_talks t (Some f) peer m (no_part t Puts part (λ e. cc)) (subst (λ p. PartAsks t peer p m) (sym part) tt)) (λ e. wrong_talks t f peer (no_part t Puts part (λ e. cc))))
 
 gains_talks : (t : Turn) (f : FrameView) (peer size : ℕ) → t.w.part ≡ Gets → (right : Bool) → Talks t (gains t f peer size right)
@@ -395,14 +396,14 @@ times_talks : (t : Turn) (f : FrameView) (n : ℕ) → t.w.phase ≡ AsksTime �
 times_talks t f n phase None = inr (inr phase)
 times_talks t f n phase (Some end) =
     let deadline = n + (end - clock_of t) / 1000 in
-    if_found (Talks t) (nat_lt (clock_of t) end) (orders t (Some f) (Some deadline) (RemoveBefore deadline (key_of t)))
+    if_either (Talks t) (nat_lt (clock_of t) end) (orders t (Some f) (Some deadline) (RemoveBefore deadline (key_of t)))
     (ends t (Some f) (Refused (refusals.Expired end (clock_of t))))
     (λ e. inr (inr phase)) (λ e. ends_talks t (Some f) (Refused (refusals.Expired end (clock_of t))))
 
 time_talks : (t : Turn) (f : FrameView) (peer n : ℕ) → Begun t → t.w.phase ≡ AsksTime → (side : Side) → Talks t (takes_time t f peer n side)
 time_talks t f peer n begun phase Local = wrong_talks t f peer begun
 time_talks t f peer n begun phase Remote =
-    if_found (Talks t) (nat_lt n (2 ^ 61)) (times t f n (first_end t)) (wrong t f peer)
+    if_either (Talks t) (nat_lt n (2 ^ 61)) (times t f n (first_end t)) (wrong t f peer)
     (λ e. times_talks t f n phase (first_end t)) (λ e. wrong_talks t f peer begun)
 
 hears_talks : (t : Turn) (f : FrameView) → Begun t → Talks t (hears t f)
@@ -410,7 +411,7 @@ hears_talks t f begun = quiet_talks t (Some f) begun
 
 bytes_talks : (t : Turn) (f : FrameView) (peer n : ℕ) → Begun t → (phase : Phase) → Talks t (takes_bytes t f peer n phase)
 bytes_talks t f peer n begun (GetsBytes p start size left) =
-    if_found (Talks t) (nat_lt 0 n && nat_le n left) (attempts t (calls.Append ∷ []) (Some f) (quietly (talk t) (Some f))) (wrong t f peer)
+    if_either (Talks t) (nat_lt 0 n && nat_le n left) (attempts t (calls.Append ∷ []) (Some f) (quietly (talk t) (Some f))) (wrong t f peer)
     (λ e. attempts_talks t (calls.Append ∷ []) (Some f) (quietly (talk t) (Some f)) (quiet_talks t (Some f) begun)) (λ e. wrong_talks t f peer begun)
 bytes_talks t f peer n begun phase = wrong_talks t f peer begun
 
@@ -437,7 +438,7 @@ put_talks : (t : Turn) (f : FrameView) (peer : ℕ) → t.w.part ≡ Puts → (p
 put_talks t f peer part (PutsOffer p) AlreadyHave = hears_talks t f (no_part t Puts part (λ e. cc))
 put_talks t f peer part (PutsOffer p) Failure = hears_talks t f (no_part t Puts part (λ e. cc))
 put_talks t f peer part (PutsOffer p) (Error text) =
-    if_found (Talks t) (bytes_eq text (codes "busy")) (hears t f) (wrong t f peer) (λ e. hears_talks t f (no_part t Puts part (λ e. cc))) (λ e. wrong_talks t f peer (no_part t Puts part (λ e. cc)))
+    if_either (Talks t) (bytes_eq text (codes "busy")) (hears t f) (wrong t f peer) (λ e. hears_talks t f (no_part t Puts part (λ e. cc))) (λ e. wrong_talks t f peer (no_part t Puts part (λ e. cc)))
 put_talks t f peer part (PutsOffer p) (PutFrom n) = from_talks t f peer n part
 put_talks t f peer part (PutsAnswer p start) Success = hears_talks t f (no_part t Puts part (λ e. cc))
 put_talks t f peer part (PutsAnswer p start) Failure = hears_talks t f (no_part t Puts part (λ e. cc))
@@ -462,7 +463,7 @@ takes_talks t f peer on (Opens p) (AuthSuccess id) is =
 takes_talks t f peer on (Greets p) (Version n) is =
     let same : Some p ≡ Some peer = subst (λ x. partner t.w.what.peer x ≡ Some peer) is on in
     let at : t.w.phase ≡ Greets peer = cc in
-    if_found (Talks t) (nat_le n 3) (asks t n (Some f) peer t.w.part) (wrong t f peer) (λ e. asks_talks t n (Some f) peer t.w.part refl (λ drops. inr at)) (λ e. wrong_talks t f peer (on_begun t peer on))
+    if_either (Talks t) (nat_le n 3) (asks t n (Some f) peer t.w.part) (wrong t f peer) (λ e. asks_talks t n (Some f) peer t.w.part refl (λ drops. inr at)) (λ e. wrong_talks t f peer (on_begun t peer on))
 takes_talks t f peer on phase m is = answer_talks t f peer on phase m is t.w.part refl
 
 text_talks : (t : Turn) (f : FrameView) (peer : ℕ) → partner t.w.what.peer t.w.phase ≡ Some peer → (m : Option Message) → Talks t (takes_text t f peer m)

@@ -1,5 +1,4 @@
 -- A remote drop that stands at its target: how it came there.
-use Rattle.race_core.proofs.Plain.{eqb_refl, eqb_true, member_filter}
 use Rattle.race_core.proofs.WorkFits.{drop_is, drop_jobs, head_of}
 use Rattle.race_core.proofs.PhaseFacts.{only_word, readies_place}
 use Rattle.race_core.proofs.ReadAs.{SameHead}
@@ -16,9 +15,12 @@ use Rattle.std.proofs.Common.{◌≡◌, ◌≢◌, ℕ, Bool, true, false, Opti
 use Rattle.std.specs.Prelude.{◌==◌, find, filter, not, if◌then◌else◌}
 use Rattle.std.specs.List.{range_with_len}
 use Rattle.std.proofs.lemmas.Bool.Decides.{nat_tests}
+use Rattle.std.proofs.lemmas.Bool.{eqb-true}
 use Rattle.annex_base.specs.Lists.{Member}
 use Rattle.annex_base.specs.declared.kinds.Call.{Call}
 use Rattle.annex_base.specs.declared.kinds.Call.TheVariants.{PutFile, Unhold}
+use Rattle.annex_base.proofs.Conditions.{eqb_refl, if_either}
+use Rattle.annex_base.proofs.Lists.{Member-filter_parts, find_member}
 use Rattle.drop_proof.specs.declared.rule.Side.{Side}
 use Rattle.drop_proof.specs.declared.rule.Side.TheVariants.{Remote}
 use Rattle.run_data.specs.declared.entry.FrameView.{FrameView}
@@ -36,7 +38,6 @@ use Rattle.node_model.specs.Jobs.{AsksLock, AsksLook, AsksTime, Drops, Ends, Fre
 use Rattle.node_model.specs.Knows.{enough_by, next_by, Reading, asks_by}
 use Rattle.node_model.specs.JobStep.{Turn, me}
 use Rattle.node_model.specs.DropStep.{target}
-use Rattle.race_core.proofs.Cases.{find_was, if_found}
 use Rattle.race_core.proofs.TalkFacts.{Chosen, Fits, DropAsks, OrderStands, PartSays, SaysOne, TalkKind}
 
 -- the job stands on the connection with its target, or waits for what it asked there
@@ -52,11 +53,11 @@ not_self n e = grind (arith, nat_tests)
 
 -- a remote drop asks its target for no copy
 candidates_but : (n a t : ℕ) (q : ℕ → Bool) → t ≢ a → find q (candidates Remote n a t) ≡ Some t → ⊥
-candidates_but n a t q apart e = go (find_was q (candidates Remote n a t) t e).0
+candidates_but n a t q apart e = go (find_member q (candidates Remote n a t) t e).0
   where
     go : Member t (candidates Remote n a t) → ⊥
     go (inl m) = apart m
-    go (inr m) = not_self t (member_filter (λ x. not (x == t)) (filter (λ x. not (x == a)) (range_with_len 0 n)) t m).1
+    go (inr m) = not_self t (Member-filter_parts (λ x. not (x == t)) (filter (λ x. not (x == a)) (range_with_len 0 n)) t m).1
 
 pub next_but : (r : Reading) (w : Work) → side_of w ≡ Remote → target_of r.repo w ≢ r.repo → next_by r w ≡ Some (target_of r.repo w) → ⊥
 next_but r w side apart e =
@@ -132,7 +133,7 @@ module _ (n : ℕ) (P : Type 0) where
   closed_comes r w peer Gets is = absurd (let no_part : Gets ≡ Drops = is in cc)
   closed_comes r w peer Puts is = absurd (let no_part : Puts ≡ Drops = is in cc)
   closed_comes r w peer Drops is =
-      if_found (Comes n P w) (target_of r w == peer) (to_phase w (Ends (outcomes.Refused (refusals.Lost (Jobs.is_ordered w.phase))))) (Jobs.hears w peer (Jobs.Lacks causes.Closed))
+      if_either (Comes n P w) (target_of r w == peer) (to_phase w (Ends (outcomes.Refused (refusals.Lost (Jobs.is_ordered w.phase))))) (Jobs.hears w peer (Jobs.Lacks causes.Closed))
       (λ e. away w (to_phase w (Ends (outcomes.Refused (refusals.Lost (Jobs.is_ordered w.phase))))) refl) (λ e. away w (Jobs.hears w peer (Jobs.Lacks causes.Closed)) refl)
 
   puts_comes : (w : Work) (k : ℕ) (phase : Phase) → w.phase ≡ phase → Fits Drops phase → Comes n P w (to_phase w (Jobs.puts_bytes k phase))
@@ -189,7 +190,7 @@ module _ (t : Turn) (side : side_of t.w ≡ Remote) (apart : target t ≢ me t) 
 
   talk_comes : (time peer : ℕ) (taken : Option Message) (body : FrameText) → Fits Drops w.phase → PartSays t peer Drops body → Comes (target t) (Knew t) w (sends w time peer taken body)
   talk_comes time peer taken Opening f a =
-      moves (target t) (Knew t) w (Opens peer) (λ at. inr (chosen_enough t side apart (subst (Chosen t) (eqb_true peer (target t) at) a.1)))
+      moves (target t) (Knew t) w (Opens peer) (λ at. inr (chosen_enough t side apart (subst (Chosen t) (eqb-true peer (target t) at) a.1)))
   talk_comes time peer taken Closing f a = stays (target t) (Knew t) w
   talk_comes time peer taken (Bytes k) f a = puts_comes (target t) (Knew t) w k w.phase refl f
   talk_comes time peer taken (Line text) f a = some_comes time peer taken a.0 (message_of text) (ap message_of (sym a.1)) a.2
@@ -223,7 +224,7 @@ module _ (t : Turn) (side : side_of t.w ≡ Remote) (apart : target t ≢ me t) 
   on_comes : (rows : Rows) (r : ℕ) (e : Entry) (p : Option ℕ) → w.part ≡ Drops → Comes (target t) (Knew t) w (talks rows r w e e.sent) → Comes (target t) (Knew t) w (talks_on rows r w e p)
   on_comes rows r e None part said = said
   on_comes rows r e (Some peer) part said =
-      if_found (Comes (target t) (Knew t) w) (end_after (job_end w peer) (rows.ends (job_end w peer)) e).opened (talks rows r w e e.sent) (closed_part r w peer w.part)
+      if_either (Comes (target t) (Knew t) w) (end_after (job_end w peer) (rows.ends (job_end w peer)) e).opened (talks rows r w e e.sent) (closed_part r w peer w.part)
       (λ h. said) (λ h. closed_comes (target t) (Knew t) r w peer w.part part)
 
 -- what it learns and claims changes nothing that it heard

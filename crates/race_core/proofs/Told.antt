@@ -2,10 +2,12 @@
 -- is sent.
 use Rattle.std.proofs.Common.{◌≡◌, ℕ, Bool, true, false, not, cond, ◌&&◌, List, [], ◌∷◌, length, Option, Some, None, ◌⊎◌, inl, inr, refl, sym, ap, ◌∙◌, subst}
 use Rattle.std.specs.Prelude.{filter, map, slice_get, option_map, if◌then◌else◌, ◌==◌, ◌≢◌}
-use Rattle.std.proofs.lemmas.Bool.{true≢false}
+use Rattle.std.proofs.lemmas.Bool.{true≢false, and_parts, and_from, eqb-true, or_left, or_right}
 use Rattle.annex_base.specs.Lists.{Member}
 use Rattle.annex_base.specs.declared.kinds.Found.{Found}
 use Rattle.annex_base.specs.declared.kinds.Found.TheVariants.{Present}
+use Rattle.annex_base.proofs.Lists.{list_any_member, Member-filter_parts}
+use Rattle.annex_base.proofs.Conditions.{eqb_refl}
 use Rattle.run_data.specs.declared.entry.By.TheVariants.{Job as by_job, Peer}
 use Rattle.run_data.specs.declared.entry.Entry.{Entry}
 use Rattle.run_data.specs.declared.entry.EntryKind.{EntryKind}
@@ -25,8 +27,8 @@ use Rattle.run_model.specs.Drops.{Asker, Vouch, Lock, Look, asked_at, asker, ask
 use Rattle.race_core.proofs.Heard.{Heard, Locked_at, Seen_there, heard, heard_answer, heard_frame, heard_kind, heard_request, hears, newer_heard}
 use Rattle.race_core.proofs.Own.{Meets, MessagePast, Own, SaysYes, asks_copy, uses}
 use Rattle.std.specs.List.{list_any}
-use Rattle.race_core.proofs.Lists.{and_true, any-Member, both, eqb_refl, eqb_true, or_left, or_right, Member-filter}
-use Rattle.race_core.proofs.Flights.{Sending, occurs_always, occurs_earlier, sending, sent_from, some_inj}
+use Rattle.std.proofs.lemmas.Option.{same_Some}
+use Rattle.race_core.proofs.Flights.{Sending, occurs_always, occurs_earlier, sending, sent_from}
 use Rattle.race_core.proofs.Turns.{OneEach, Prefix, right_turn}
 
 -- ---- ways
@@ -64,14 +66,14 @@ pub record OnWay (w : Way) (peer : ℕ) (g : FrameView) : Type 0 where
 
 pub on_parts : (w : Way) (peer : ℕ) (g : FrameView) → is_on w peer g ≡ true → OnWay w peer g
 on_parts w peer g h =
-    let a = and_true (g.peer == peer) _ h in
-    let b = and_true (g.slot == w.slot) _ a.1 in
-    let c = and_true (same_bool g.up w.up) _ b.1 in
-    record { peer_is = eqb_true g.peer peer a.0; slot_is = eqb_true g.slot w.slot b.0; up_is = same_true g.up w.up c.0; epoch_is = eqb_true g.epoch w.epoch c.1 }
+    let a = and_parts (g.peer == peer) _ h in
+    let b = and_parts (g.slot == w.slot) _ a.1 in
+    let c = and_parts (same_bool g.up w.up) _ b.1 in
+    record { peer_is = eqb-true g.peer peer a.0; slot_is = eqb-true g.slot w.slot b.0; up_is = same_true g.up w.up c.0; epoch_is = eqb-true g.epoch w.epoch c.1 }
 
 pub on_own : (r : ℕ) (f : FrameView) → is_on (way_of r f) (sender_of (way_of r f)) f ≡ true
-on_own r f = both (f.peer == sender_of (way_of r f)) _ (subst (λ p. (f.peer == p) ≡ true) (sym (sender_way r f)) (eqb_refl f.peer))
-    (both (f.slot == f.slot) _ (eqb_refl f.slot) (both (same_bool f.up f.up) _ (same_refl f.up) (eqb_refl f.epoch)))
+on_own r f = and_from (f.peer == sender_of (way_of r f)) _ (subst (λ p. (f.peer == p) ≡ true) (sym (sender_way r f)) (eqb_refl f.peer))
+    (and_from (f.slot == f.slot) _ (eqb_refl f.slot) (and_from (same_bool f.up f.up) _ (same_refl f.up) (eqb_refl f.epoch)))
 
 -- the way of a frame that is taken from it
 pub way_taken : (w : Way) (f : FrameView) → is_on w (sender_of w) f ≡ true → way_of (taker_of w) f ≡ w
@@ -110,7 +112,7 @@ pub sends_on : (w : Way) (e : Entry) (g : FrameView) → Member g (on_way w e) �
 sends_on w e g m = filter_true (is_on w (taker_of w)) g e.sent m
 
 pub sends_member : (w : Way) (e : Entry) (g : FrameView) → Member g (on_way w e) → Member g e.sent
-sends_member w e g m = Member-filter (is_on w (taker_of w)) g e.sent m
+sends_member w e g m = (Member-filter_parts (is_on w (taker_of w)) e.sent g m).0
 
 -- ---- facts of a run
 
@@ -159,7 +161,7 @@ pub vouch_cases : (repos : List RepoView) (before : List Entry) (x : Entry) (r a
 vouch_cases repos before x r a j own other = go (is_of r x)
   where
     not_own : (b : Bool) → (r == a) ≡ b → (v : Vouch) (c : Bool) → (if b && c then v ∷ [] else []) ≡ []
-    not_own true h v c = absurd (other (eqb_true r a h))
+    not_own true h v c = absurd (other (eqb-true r a h))
     not_own false h v c = refl
 
     nothing : (b : Bool) (vs : List Vouch) → vs ≡ [] → (if b then vs else []) ≡ []
@@ -223,7 +225,7 @@ uses_taken a f e h up = or_right (list_any (is_on (up_of (way_of a f)) (way_of a
 
 pub uses_sent : (w : Way) (x : Entry) (g : FrameView) → Member g (on_way (up_of w) x) → uses w x ≡ true
 uses_sent w x g m = or_left (list_any (is_on (up_of w) w.server) x.sent) (takes (down_of w) x.taken)
-    (any-Member (is_on (up_of w) w.server) g x.sent (sends_on (up_of w) x g m) (sends_member (up_of w) x g m))
+    (list_any_member (is_on (up_of w) w.server) x.sent g (sends_member (up_of w) x g m) (sends_on (up_of w) x g m))
 
 -- ---- an answer
 
@@ -253,7 +255,7 @@ pub record Granted (past : List Entry) (a j r : ℕ) (f : FrameView) (it : Flyin
 
 pub some_option : (o : Option ℕ) (r : ℕ) → option_is o r ≡ true → o ≡ Some r
 some_option None r h = cc
-some_option (Some m) r h = ap (λ x. Some x) (eqb_true m r h)
+some_option (Some m) r h = ap (λ x. Some x) (eqb-true m r h)
 
 pub up_at : (w : Way) (x : Entry) (g : FrameView) (b : Bool) → Member g (on_way w x) → w.up ≡ b → g.up ≡ b
 up_at w x g b m h = (on_parts w (taker_of w) g (sends_on w x g m)).up_is ∙ h
@@ -373,7 +375,7 @@ told_frame repos past e a j r f k = whole
         heard_is m h = ap (λ o. heard_answer (Says Success) o) gr.last ∙ ap (λ x. heard_request gr.asked.entry.time x) (ap (λ b. message_in b) gr.body_is ∙ h)
 
         yes_asker : is_asker a j (asker t.it.before r t.it.entry) ≡ true
-        yes_asker = ap (λ o. is_asker a j o) asker_is ∙ both (a == a) (j == j) (eqb_refl a) (eqb_refl j)
+        yes_asker = ap (λ o. is_asker a j o) asker_is ∙ and_from (a == a) (j == j) (eqb_refl a) (eqb_refl j)
 
         asked_then : asked_at (asker t.it.before r t.it.entry) ≡ gr.asked.entry.time
         asked_then = ap asked_at asker_is
@@ -385,7 +387,7 @@ told_frame repos past e a j r f k = whole
           where
             other : Yes r t.it.entry → ⊥
             other y =
-                let same : y.says_yes.f ≡ gr.g = some_inj y.says_yes.f gr.g (sym y.says_yes.takes_it ∙ gr.taken_is) in
+                let same : y.says_yes.f ≡ gr.g = same_Some y.says_yes.f gr.g (sym y.says_yes.takes_it ∙ gr.taken_is) in
                 let is : y.asked ≡ m = sym y.says_yes.asked_is ∙ ap (λ (z : FrameView). message_in z.body) same ∙ h in
                 true≢false (sym y.copy ∙ ap asks_copy is)
 
@@ -415,7 +417,7 @@ other_asks repos past e a j own = go (sender past a e.taken) refl
     from (Some m) (Some i) time q h n = no_and (m == a) refl
       where
         no_and : (b : Bool) → (m == a) ≡ b → (b && (i == j)) ≡ false
-        no_and true e' = let same : m ≡ q = some_inj m q h in absurd (n (sym same ∙ eqb_true m a e'))
+        no_and true e' = let same : m ≡ q = same_Some m q h in absurd (n (sym same ∙ eqb-true m a e'))
         no_and false e' = refl
 
     go : (o : Option Sent) → sender past a e.taken ≡ o → is_asker a j (asker_by o) ≡ false
@@ -458,7 +460,7 @@ tells_heard repos past e r a j run m = go (r == a) refl
     frame (Some f) t n is = peer (f.peer == r) refl
       where
         parts : (is_of a e ≡ true) × (option_is (job_of e.kind) j ≡ true)
-        parts = and_true (is_of a e) (option_is (job_of e.kind) j) is
+        parts = and_parts (is_of a e) (option_is (job_of e.kind) j) is
 
         other : r ≢ a
         other h = true≢false (sym (eqb_refl a) ∙ subst (λ q. (q == a) ≡ false) h n)
@@ -467,7 +469,7 @@ tells_heard repos past e r a j run m = go (r == a) refl
         strange p None h = refl
         strange p (Some s) h =
             let q = sent_from past a (Some f) s h in
-            let one : f ≡ q.f = some_inj f q.f q.takes_it in
+            let one : f ≡ q.f = same_Some f q.f q.takes_it in
             let is_q : is_of f.peer q.it.entry ≡ true = subst (λ x. is_of x q.it.entry ≡ true) (sender_way a q.f ∙ ap (λ (g : FrameView). g.peer) (sym one)) q.sending.repo_is in
             let repo : s.entry.repo ≡ Some f.peer = ap (λ (x : Sent). x.entry.repo) q.s_is ∙ some_option q.it.entry.repo f.peer is_q in
             let no' : is_of r s.entry ≡ false = ap (λ o'. option_is o' r) repo ∙ p in
@@ -475,7 +477,7 @@ tells_heard repos past e r a j run m = go (r == a) refl
 
         peer : (b : Bool) → (f.peer == r) ≡ b → map heard_of (told_by r a j (sender past a (Some f))) ≡ (if b && not f.up then heard_answer (message_in f.body) (last_request past (up_of (way_of a f))) else [])
         peer false p = ap (map heard_of) (strange p (sender past a (Some f)) refl)
-        peer true p = told_frame repos past e a j r f (record { run = run; now' = m; is = parts.0; job = some_option (job_of e.kind) j parts.1; takes_it = t; other = other; peer_is = eqb_true f.peer r p })
+        peer true p = told_frame repos past e a j r f (record { run = run; now' = m; is = parts.0; job = some_option (job_of e.kind) j parts.1; takes_it = t; other = other; peer_is = eqb-true f.peer r p })
             ∙ rw p refl
 
     taken_part : (b : Bool) → is_job a j e ≡ b → (r == a) ≡ false → map heard_of (if b then told_by r a j (sender past a e.taken) else []) ≡ (if b then heard_frame past a r e.taken else [])
@@ -484,7 +486,7 @@ tells_heard repos past e r a j run m = go (r == a) refl
 
     go : (b : Bool) → (r == a) ≡ b → map heard_of (if b then vouch past e r a j else (if is_job a j e then told_by r a j (sender past a e.taken) else []))
         ≡ (if b then (if is_of a e then heard_kind j e.time e.kind else []) else (if is_job a j e then heard_frame past a r e.taken else []))
-    go true h = own_part (is_of a e) refl (eqb_true r a h)
+    go true h = own_part (is_of a e) refl (eqb-true r a h)
     go false h = taken_part (is_job a j e) refl h
 
 newer_same : (vs : List Vouch) (old : Option Vouch) (hs : List Heard) (was : Option Heard) → map heard_of vs ≡ hs → option_map heard_of old ≡ was → option_map heard_of (newer vs old) ≡ newer_heard hs was

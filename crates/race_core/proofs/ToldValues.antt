@@ -2,11 +2,13 @@
 use Rattle.std.proofs.Common.{◌≡◌, ◌≢◌, ℕ, ◌<◌, Bool, true, false, List, [], ◌∷◌, Option, Some, None, ◌⊎◌, inl, inr, refl, sym, ap, ◌∙◌, subst, arith}
 use Rattle.std.specs.Prelude.{if◌then◌else◌, ◌==◌, ◌&&◌, filter, length, not, option_map, slice_get}
 use Rattle.std.specs.List.{list_any}
-use Rattle.std.proofs.lemmas.Bool.{true≢false}
+use Rattle.std.proofs.lemmas.Bool.{true≢false, and_parts, eqb-true, ne_eqb}
 use Rattle.std.proofs.lemmas.Bool.Decides.{nat_tests}
+use Rattle.std.proofs.lemmas.Option.{same_Some}
 use Rattle.annex_base.specs.Lists.{Each, Member}
 use Rattle.annex_base.specs.declared.kinds.Found.TheVariants as found
 use Rattle.annex_base.specs.declared.kinds.Word.{Word}
+use Rattle.annex_base.proofs.Conditions.{eqb_refl}
 use Rattle.run_data.specs.declared.entry.Entry.{Entry}
 use Rattle.run_data.specs.declared.entry.EntryKind.{EntryKind}
 use Rattle.run_data.specs.declared.entry.EntryKind.TheVariants.{Check, Close, Fault, Talk, End as ends_job}
@@ -36,7 +38,6 @@ use Rattle.node_model.specs.Jobs.{AsksLook, Drops, Fresh, Heard, Lacks, Orders, 
 use Rattle.node_model.specs.Knows.{cause_heard, cause_of_word, heard_offer}
 use Rattle.run_model.specs.Words.{awaits_word, word_of, word_of_kind, word_told}
 use Rattle.run_model.specs.Run.{OwnPart, OwnPast, OwnRun, RunPast, RunStep, set_up}
-use Rattle.race_core.proofs.Plain.{and_true, eqb_refl, eqb_true, some_inj}
 use Rattle.race_core.proofs.BySteps.{earlier}
 use Rattle.race_core.proofs.SaidDown.{is_said, said_is}
 use Rattle.race_core.proofs.TalkFacts.{Fits}
@@ -157,13 +158,10 @@ value_kept past e r j c (Some h) lean none word x = λ gave. let v = x gave in r
 }
 
 awaits_partner : (c : ℕ) (target : Option ℕ) (phase : Phase) → awaits_word c target phase ≡ true → partner target phase ≡ Some c
-awaits_partner c target (AsksLook p) e = ap Some (eqb_true p c e)
-awaits_partner c (Some n) Orders e = ap Some (eqb_true n c e)
+awaits_partner c target (AsksLook p) e = ap Some (eqb-true p c e)
+awaits_partner c (Some n) Orders e = ap Some (eqb-true n c e)
 awaits_partner c None Orders e = absurd (cc)
 awaits_partner c target phase e = absurd (cc)
-
-eqb_apart : (a b : ℕ) → a ≢ b → (a == b) ≡ false
-eqb_apart a b e = grind (arith, nat_tests)
 
 -- ---- an entry that isn't the repository's
 
@@ -226,7 +224,7 @@ module _ (s : SetUp) (past : List Entry) (words : ℕ → Option Word) (e : Entr
       frame its open' f took true at =
           let asked = option_map said_of (last_request past (up_of (way_of r f))) in
           let whole : cause_with past e c r j from ≡ cause_said (message_in f.body) asked from = rw (other, its, open', took, at) refl in
-          let two = and_true (f.peer == c) (not f.up) at in
+          let two = and_parts (f.peer == c) (not f.up) at in
           let down : f.up ≡ false = is_down f.up two.1 in
           let x = taker s past words e own f took down in
           elim (said_or (message_in f.body) asked from) [
@@ -234,13 +232,13 @@ module _ (s : SetUp) (past : List Entry) (words : ℕ → Option Word) (e : Entr
             | inr failure ↦ elim (phase_or x.w.phase) [
               | inl p ↦ inr (record {
                 by = x;
-                number = eqb_true x.w.number j (subst (λ o. option_is o j ≡ true) (stepped_job s past e x) (and_true (is_of r e) (option_is (job_of e.kind) j) its).1);
+                number = eqb-true x.w.number j (subst (λ o. option_is o j ≡ true) (stepped_job s past e x) (and_parts (is_of r e) (option_is (job_of e.kind) j) its).1);
                 f = f;
                 took = took;
                 told = is_said f.body Failure failure;
                 p = p.0;
                 phase = p.1;
-                peer = eqb_true f.peer c two.0;
+                peer = eqb-true f.peer c two.0;
               })
               | inr n ↦ of_whole None (whole ∙ takes_failure s past h e f down (taken_of s past e x f took) failure from ∙ ap (λ q. cause_if q from) n) tt
             ]
@@ -330,20 +328,20 @@ module _ (s : SetUp) (past : List Entry) (words : ℕ → Option Word) (e : Entr
             where
               numbered : (x : Stepped s past e) → x.w ≡ w
               numbered x = same_number_same_work s past h.run x.w w (stepped_runs s past e x) m
-                  (eqb_true x.w.number w.number (subst (λ o. option_is o w.number ≡ true) (stepped_job s past e x) (and_true (is_of r e) (option_is (job_of e.kind) w.number) its).1))
+                  (eqb-true x.w.number w.number (subst (λ o. option_is o w.number ≡ true) (stepped_job s past e x) (and_parts (is_of r e) (option_is (job_of e.kind) w.number) its).1))
 
               shuts_none : list_any (shuts c) e.sent ≡ false
               shuts_none = by_step (is_step w.number e.kind) refl
                 where
                   by_step : (b : Bool) → is_step w.number e.kind ≡ b → list_any (shuts c) e.sent ≡ false
-                  by_step false still = ap (list_any (shuts c)) (still_sends s past words e own w.number still (and_true (is_of r e) (option_is (job_of e.kind) w.number) its).1)
+                  by_step false still = ap (list_any (shuts c)) (still_sends s past words e own w.number still (and_parts (is_of r e) (option_is (job_of e.kind) w.number) its).1)
                   by_step true step =
                       let x = stepped_of s past words e own w.number e.kind refl step in
                       any_none (shuts c) e.sent (λ g n q.
-                      let one = and_true (g.peer == c) (g.up && is_close (message_in g.body)) q in
-                      let two = and_true g.up (is_close (message_in g.body)) one.1 in
+                      let one = and_parts (g.peer == c) (g.up && is_close (message_in g.body)) q in
+                      let two = and_parts g.up (is_close (message_in g.body)) one.1 in
                       partner_not w m c o heard apart (subst (λ (y : Work). partner y.what.peer y.phase ≡ Some c) (numbered x)
-                      (stepped_shuts s past e x (goes_on step) g n (close_body g.body two.1) ∙ ap Some (eqb_true g.peer c one.0))))
+                      (stepped_shuts s past e x (goes_on step) g n (close_body g.body two.1) ∙ ap Some (eqb-true g.peer c one.0))))
 
               by_taken : (o : Option FrameView) → e.taken ≡ o → cause_with past e c r w.number from ≡ None
               by_taken None took = rw (other, its, shuts_none, took) refl
@@ -352,10 +350,10 @@ module _ (s : SetUp) (past : List Entry) (words : ℕ → Option Word) (e : Entr
                   by_peer : (b : Bool) → ((f.peer == c) && not f.up) ≡ b → cause_with past e c r w.number from ≡ None
                   by_peer false at = rw (other, its, shuts_none, took, at) refl
                   by_peer true at =
-                      let two = and_true (f.peer == c) (not f.up) at in
+                      let two = and_parts (f.peer == c) (not f.up) at in
                       let x = taker s past words e own f took (is_down f.up two.1) in
                       let k = taken_of s past e x f took in
-                      let peer : k.peer ≡ c = sym (taken_peer s past e f k) ∙ eqb_true f.peer c two.0 in
+                      let peer : k.peer ≡ c = sym (taken_peer s past e f k) ∙ eqb-true f.peer c two.0 in
                       absurd (partner_not w m c o heard apart (subst (λ (y : Work). partner y.what.peer y.phase ≡ Some c) (numbered x) (k.on ∙ ap Some peer)))
                     where
                       is_down : (b : Bool) → not b ≡ true → b ≡ false
@@ -442,7 +440,7 @@ module _ (s : SetUp) (past : List Entry) (words : ℕ → Option Word) (e : Entr
   headed q o c now old = go (q == c) refl
     where
       go : (d : Bool) → (q == c) ≡ d → New ((q, o) ∷ v.heard) c
-      go true same = subst (λ n. Value (e ∷ past) rr v.number n (told_of ((q, o) ∷ v.heard) n)) (eqb_true q c same)
+      go true same = subst (λ n. Value (e ∷ past) rr v.number n (told_of ((q, o) ∷ v.heard) n)) (eqb-true q c same)
           (subst (Value (e ∷ past) rr v.number q) (sym (told_first q o v.heard)) (now same))
       go false other = subst (Value (e ∷ past) rr v.number c) (sym (rw other refl)) (old other)
 
@@ -463,7 +461,7 @@ module _ (s : SetUp) (past : List Entry) (words : ℕ → Option Word) (e : Entr
       down = (Speaks.hears s past e z.by z.f z.took).1
 
       peer_is : z.f.peer ≡ z.p
-      peer_is = taken_peer s past e z.f k ∙ some_inj k.peer z.p (sym k.on ∙ ap (partner z.by.w.what.peer) z.phase)
+      peer_is = taken_peer s past e z.f k ∙ same_Some k.peer z.p (sym k.on ∙ ap (partner z.by.w.what.peer) z.phase)
 
       taking : Taking (turn_at s past e z.by) z.f k.peer
       taking = record { on = k.on; awaiting = k.awaiting; opened = k.opened; of_end = k.of_end }
@@ -556,10 +554,10 @@ module _ (s : SetUp) (past : List Entry) (words : ℕ → Option Word) (e : Entr
       closed same = record { told = lean_closed (told_cause (e ∷ past) rr v.number k.peer) now (cause_known (e ∷ past) rr v.number k.peer ∙ told); read = λ self. absurd (true≢false (sym self ∙ other)) }
         where
           at : k.peer ≡ c
-          at = eqb_true k.peer c same
+          at = eqb-true k.peer c same
 
           other : (k.peer == rr) ≡ false
-          other = eqb_apart k.peer rr (other_apart s k.peer (partner_other s past h.run v runs k.part_is k.peer k.on))
+          other = ne_eqb k.peer rr (other_apart s k.peer (partner_other s past h.run v runs k.part_is k.peer k.on))
 
           holds : HoldsOf s past v
           holds = heard_holds s past h v runs
@@ -653,7 +651,7 @@ module _ (s : SetUp) where
       own p e r is was x (inr (inr b)) k l =
           let before = earlier s p e k in
           let mine = k.run.0 is in
-          step_values s p mine.0 e before mine.1 is (λ f took. eqb_apart f.peer s.number (taken_from_step s p mine.0 e before k.bounds.0 is mine.1 f took)) (l.0 is) unread x b (was b.by.w (step_runs s p e x b) before l.1)
+          step_values s p mine.0 e before mine.1 is (λ f took. ne_eqb f.peer s.number (taken_from_step s p mine.0 e before k.bounds.0 is mine.1 f took)) (l.0 is) unread x b (was b.by.w (step_runs s p e x b) before l.1)
 
 -- ---- CausesTold
 
@@ -685,7 +683,7 @@ kept_true q (x ∷ xs) c m = go (kept_true q xs c) (q x) refl m
 -- a candidate isn't the target
 candidate_apart : (side : Side) (n r target c : ℕ) → (side ≡ Local → target ≡ r) → (side ≡ Remote → target ≢ r) → Member c (candidates side n r target) → (target == c) ≡ false
 candidate_apart Local n r target c own apart m = subst (λ t. (t == c) ≡ false) (sym (own refl)) (not_is c r (kept_true (λ x. not (x == r)) (_) c m).0)
-candidate_apart Remote n r target c own apart (inl same) = subst (λ d. (target == d) ≡ false) (sym same) (eqb_apart target r (apart refl))
+candidate_apart Remote n r target c own apart (inl same) = subst (λ d. (target == d) ≡ false) (sym same) (ne_eqb target r (apart refl))
 candidate_apart Remote n r target c own apart (inr m) = not_is c target (kept_true (λ x. not (x == target)) (_) c m).0
 
 target_local : (r : ℕ) (side : Side) (peer : Option ℕ) → side ≡ Local → Jobs.or_own r side peer ≡ r

@@ -3,6 +3,7 @@ use Rattle.std.proofs.Common.{◌≡◌, ◌≢◌, ℕ, Bool, true, false, List
 use Rattle.std.specs.Prelude.{if◌then◌else◌, length, slice_get, not, ◌&&◌, ◌+◌, min}
 use Rattle.std.specs.List.{list_all}
 use Rattle.annex_base.specs.declared.kinds.Call.{Call}
+use Rattle.annex_base.proofs.Conditions.{if_either}
 use Rattle.annex_base.specs.declared.kinds.Call.TheVariants as calls
 use Rattle.run_data.specs.declared.entry.By.{By}
 use Rattle.run_data.specs.declared.entry.EntryKind.TheVariants.{Talk, Fault, End as ends_job}
@@ -21,12 +22,11 @@ use Rattle.node_model.specs.Jobs
 use Rattle.node_model.specs.Jobs.{Drops, Fresh, Gets, GetsData, GetsWord, Greets, Next, Opens, Part, Phase, Puts, PutsAnswer, PutsBytes, PutsOffer, PutsWord, Work, is_move, job_end, partner}
 use Rattle.node_model.specs.Ends.{frames}
 use Rattle.node_model.specs.Look.{Made, waiting}
-use Rattle.node_model.specs.Calls.{to_release}
+use Rattle.node_model.specs.Calls.{to_release, to_resume}
 use Rattle.node_model.specs.JobStep.{Turn, attempts, by_me, end_with, ends, farewells, hears, is_there, key_of, owns_share, quietly, says_to, sends_to, talk, wrong}
 use Rattle.node_model.specs.Requests.{asks, goes_to}
 use Rattle.node_model.specs.TransferStep.{content_of, first_get, first_put, next_get, next_source, takes_get, takes_put}
 use Rattle.node_model.specs.Turns.{awaits, by_partner, first_step, goes, goes_on, has_room, is_awaiting, needs, next_step, outcome_of, takes, takes_answer, takes_frame, takes_text, with_partner}
-use Rattle.race_core.proofs.Cases.{if_found}
 use Rattle.race_core.proofs.PartTurns.{HasIt}
 use Rattle.race_core.proofs.JobFacts.{frame_found, partner_found}
 use Rattle.race_core.proofs.ClientSteps.{attempts_even, release_is}
@@ -76,17 +76,17 @@ module _ (t : Turn) where
       (λ j kind none sent. absurd (let no_talk : ends_job t.w.number outcome ≡ Talk (Some j) = kind in cc))
 
   asks_quiet : (version : ℕ) (taken : Option FrameView) (peer : ℕ) (part : Part) → part ≢ Drops → Quiet (asks t version taken peer part)
-  asks_quiet version taken peer Gets apart = attempts_quiet (calls.PartSize ∷ []) taken (says_to t (talk t) taken peer (Get t.look.part [] (key_of t))) (sends_quiet taken peer (Line (text_of (Get t.look.part [] (key_of t)))))
+  asks_quiet version taken peer Gets apart = attempts_quiet (to_resume t.look.part) taken (says_to t (talk t) taken peer (Get t.look.part [] (key_of t))) (sends_quiet taken peer (Line (text_of (Get t.look.part [] (key_of t)))))
   asks_quiet version taken peer Puts apart = sends_quiet taken peer (Line (text_of (Put [] (key_of t))))
   asks_quiet version taken peer Drops apart = absurd (apart refl)
 
   module _ (apart : t.w.part ≢ Drops) where
     goes_quiet : (peer : ℕ) → Quiet (goes_to t peer)
-    goes_quiet peer = if_found Quiet (end_with t peer).opened (asks t t.w.version None peer t.w.part) (sends_to t (talk t) None peer (Opening ∷ []))
+    goes_quiet peer = if_either Quiet (end_with t peer).opened (asks t t.w.version None peer t.w.part) (sends_to t (talk t) None peer (Opening ∷ []))
         (λ e. asks_quiet t.w.version None peer t.w.part apart) (λ e. sends_quiet None peer Opening)
 
     get_quiet : (here filled : Bool) (source : Option ℕ) → ((here ≡ true) ⊎ (source ≡ None) → QuietBy) → Quiet (first_get t here filled source)
-    get_quiet true filled source by = if_found Quiet (is_move t.w.what.kind) (quietly (talk t) None) (ends t None (Got None None)) (λ e j kind none sent. by (inl refl)) (λ e. ends_quiet None (Got None None))
+    get_quiet true filled source by = if_either Quiet (is_move t.w.what.kind) (quietly (talk t) None) (ends t None (Got None None)) (λ e j kind none sent. by (inl refl)) (λ e. ends_quiet None (Got None None))
     get_quiet false true source by = ends_quiet None (TransferRefused failures.Busy)
     get_quiet false false None by = λ j kind none sent. by (inr refl)
     get_quiet false false (Some peer) by = goes_quiet peer

@@ -1,6 +1,8 @@
 -- A move that is still at its transfer, though its entries tell that this is done, is to end.
 use Rattle.std.proofs.Common.{◌≡◌, ◌≢◌, ℕ, Bool, true, false, List, [], ◌∷◌, ◌++◌, Option, Some, None, ◌⊎◌, inl, inr, refl, sym, ap, ◌∙◌, subst}
 use Rattle.std.specs.Prelude.{length, slice_get, not, ◌&&◌, ◌||◌, ◌==◌, fold, option_map}
+use Rattle.std.proofs.lemmas.Bool.{and_parts}
+use Rattle.annex_base.proofs.Conditions.{if_either}
 use Rattle.run_data.specs.declared.entry.Entry.{Entry}
 use Rattle.run_data.specs.declared.entry.EntryKind.{EntryKind}
 use Rattle.run_data.specs.declared.entry.EntryKind.TheVariants.{Gain, Share, Bar, Gone, Order, Talk, Fault, End as ends_job}
@@ -27,8 +29,6 @@ use Rattle.node_model.specs.JobStep.{Turn, end_with, is_there, me}
 use Rattle.node_model.specs.TransferStep.{next_source}
 use Rattle.node_model.specs.Turns.{by_partner}
 use Rattle.node_model.specs.Found.{JobKind}
-use Rattle.race_core.proofs.Plain.{and_true}
-use Rattle.race_core.proofs.Cases.{if_found}
 use Rattle.race_core.proofs.JobFacts.{partner_found}
 use Rattle.race_core.proofs.PartTurns.{HasIt}
 use Rattle.race_core.proofs.ServerEnds.{sent_same}
@@ -58,7 +58,7 @@ TakesHas taken = (f : FrameView) × (taken ≡ Some f) × ((m : Message) × (lin
 hears_was : (past : List Entry) (r : ℕ) (taken : Option FrameView) → hears_has_it past r taken ≡ true → TakesHas taken
 hears_was past r None e = absurd (cc)
 hears_was past r (Some f) e =
-    (f, refl, body_has f.body (option_map said_of (last_request past (up_of (way_of r f)))) (and_true (not f.up) (has_it (message_in f.body) (option_map said_of (last_request past (up_of (way_of r f))))) e).1)
+    (f, refl, body_has f.body (option_map said_of (last_request past (up_of (way_of r f)))) (and_parts (not f.up) (has_it (message_in f.body) (option_map said_of (last_request past (up_of (way_of r f))))) e).1)
 
 -- ---- what its work is then
 
@@ -68,7 +68,7 @@ claims_is w Gets Fresh = (true, refl)
 claims_is w part phase = (w.fills, refl)
 
 learns_is : (w : Work) (phase : Phase) (taken : Option FrameView) → (n : ℕ) × (learns w phase taken ≡ record w { version = n })
-learns_is w (Jobs.Greets peer) (Some f) = if_found (λ (x : Work). (n : ℕ) × (x ≡ record w { version = n })) (option_is w.what.peer peer)
+learns_is w (Jobs.Greets peer) (Some f) = if_either (λ (x : Work). (n : ℕ) × (x ≡ record w { version = n })) (option_is w.what.peer peer)
     (record w { version = Jobs.version_said w.version (line_in f.body) }) w (λ e. (Jobs.version_said w.version (line_in f.body), refl)) (λ e. (w.version, refl))
 learns_is w phase taken = (w.version, refl)
 
@@ -167,7 +167,7 @@ module _ (t : Turn) (m : Made) (does : by_partner t (partner t.w.what.peer t.w.p
           by (inr x) = absurd (let no_open : true ≡ false = sym open' ∙ closes x in cc)
 
       on_stuck : (j : ℕ) → m.kind ≡ Talk (Some j) → Tells → IsStuck (talks_on (rows_of t) (me t) y e (Some peer))
-      on_stuck j kind tells = if_found IsStuck (end_after (job_end y peer) (t.ends (job_end y peer)) e).opened (talks (rows_of t) (me t) y e m.sent) (closed_part (me t) y peer y.part)
+      on_stuck j kind tells = if_either IsStuck (end_after (job_end y peer) (t.ends (job_end y peer)) e).opened (talks (rows_of t) (me t) y e m.sent) (closed_part (me t) y peer y.part)
           (λ h. open_stuck j kind tells h) (λ h off. closed_stuck (me t) y peer t.w.part refl apart one)
 
     talk_stuck : (j : ℕ) → m.kind ≡ Talk (Some j) → Tells → IsStuck (talks_on (rows_of t) (me t) y e (partner t.w.what.peer t.w.phase))
@@ -190,7 +190,7 @@ module _ (t : Turn) (m : Made) (does : by_partner t (partner t.w.what.peer t.w.p
       (talk_stuck first.0 then'.0 j is tells) off
     where
       at : ((is_quiet m.taken m.sent && not (has_stepped past r t.w.number)) || hears_has_it past r m.taken) ≡ true
-      at = (and_true (j == t.w.number) ((is_quiet m.taken m.sent && not (has_stepped past r t.w.number)) || hears_has_it past r m.taken) starts).1
+      at = (and_parts (j == t.w.number) ((is_quiet m.taken m.sent && not (has_stepped past r t.w.number)) || hears_has_it past r m.taken) starts).1
 
       tells : Tells
       tells = go (is_quiet m.taken m.sent) refl at

@@ -4,6 +4,8 @@ use Rattle.std.specs.Prelude.{bytes_eq, codes, ◌+◌, if◌then◌else◌, ◌
 use Rattle.std.specs.List.{list_all}
 use Rattle.annex_base.specs.Lists.{Each, Member}
 use Rattle.annex_base.specs.declared.kinds.Call.{Call}
+use Rattle.annex_base.proofs.Conditions.{if_either}
+use Rattle.annex_base.proofs.Lists.{Each-member}
 use Rattle.annex_base.specs.declared.kinds.Call.TheVariants as calls
 use Rattle.run_data.specs.declared.entry.Entry.{Entry}
 use Rattle.run_data.specs.declared.entry.EntryKind.{EntryKind}
@@ -20,7 +22,7 @@ use Rattle.p2p_wire.specs.declared.message.Message.TheVariants.{AlreadyHave, Aut
 use Rattle.p2p_wire.specs.Messages.{message_of, text_of}
 use Rattle.node_model.specs.SetUp.{SetUp}
 use Rattle.node_model.specs.Jobs.{Part, Gets, Puts, Drops, Phase, Fresh, Next, Opens, Greets, GetsData, GetsBytes, GetsWord, PutsAnswer, PutsBytes, PutsOffer, PutsWord, job_end, partner, is_move}
-use Rattle.node_model.specs.Calls.{to_commit, to_release}
+use Rattle.node_model.specs.Calls.{to_commit, to_release, to_resume}
 use Rattle.node_model.specs.Look.{Made, failing, waiting}
 use Rattle.node_model.specs.JobStep.{Turn, attempts, by_me, end_with, ends, farewells, hears, is_there, key_of, owns_share, quietly, says_to, sends_to, talk, wrong}
 use Rattle.node_model.specs.Sessions.{reaches}
@@ -28,8 +30,7 @@ use Rattle.node_model.specs.SessionStep.{bytes_left}
 use Rattle.node_model.specs.Requests.{asks, goes_to}
 use Rattle.node_model.specs.TransferStep.{first_get, first_put, gains, next_get, next_source, puts_from, puts_piece, takes_bytes, takes_get, takes_put}
 use Rattle.node_model.specs.Turns.{awaits, by_partner, first_step, goes, goes_on, has_room, is_awaiting, needs, next_step, outcome_of, takes, takes_answer, takes_frame, takes_text, with_partner}
-use Rattle.race_core.proofs.Cases.{if_found, unless_found}
-use Rattle.race_core.proofs.Plain.{each_member}
+use Rattle.race_core.proofs.Cases.{unless_found}
 use Rattle.race_core.proofs.JobSteps.{Stepped, turn_at}
 
 abbrev IsEnd : EntryKind → Type 0
@@ -62,16 +63,16 @@ ends_tells t taken outcome =
 
 asks_tells : (t : Turn) (version : ℕ) (taken : Option FrameView) (peer : ℕ) (part : Part) → Transfers part → Place t peer → Tells t (asks t version taken peer part)
 asks_tells t version taken peer Gets is place =
-    attempts_tells t (calls.PartSize ∷ []) taken (says_to t (talk t) taken peer (Get t.look.part [] (key_of t))) (one_tells t (talk t) taken peer (Line (text_of (Get t.look.part [] (key_of t)))) place)
+    attempts_tells t (to_resume t.look.part) taken (says_to t (talk t) taken peer (Get t.look.part [] (key_of t))) (one_tells t (talk t) taken peer (Line (text_of (Get t.look.part [] (key_of t)))) place)
 asks_tells t version taken peer Puts is place = one_tells t (talk t) taken peer (Line (text_of (Put [] (key_of t)))) place
 asks_tells t version taken peer Drops is place = absurd is
 
 goes_to_tells : (t : Turn) (peer : ℕ) → Transfers t.w.part → Place t peer → Tells t (goes_to t peer)
-goes_to_tells t peer is place = if_found (Tells t) (end_with t peer).opened (asks t t.w.version None peer t.w.part) (sends_to t (talk t) None peer (Opening ∷ []))
+goes_to_tells t peer is place = if_either (Tells t) (end_with t peer).opened (asks t t.w.version None peer t.w.part) (sends_to t (talk t) None peer (Opening ∷ []))
     (λ o. asks_tells t t.w.version None peer t.w.part is place) (λ o. one_tells t (talk t) None peer Opening place)
 
 first_get_tells : (t : Turn) (here filled : Bool) (source : Option ℕ) → Transfers t.w.part → next_source t ≡ source → Tells t (first_get t here filled source)
-first_get_tells t true filled source part is = if_found (Tells t) (is_move t.w.what.kind) (quietly (talk t) None) (ends t None (Got None None)) (λ e. inr tt) (λ e. ends_tells t None (Got None None))
+first_get_tells t true filled source part is = if_either (Tells t) (is_move t.w.what.kind) (quietly (talk t) None) (ends t None (Got None None)) (λ e. inr tt) (λ e. ends_tells t None (Got None None))
 first_get_tells t false true source part is = ends_tells t None (TransferRefused failures.Busy)
 first_get_tells t false false None part is = inr tt
 first_get_tells t false false (Some peer) part is = goes_to_tells t peer part (inr (inl is))
@@ -116,7 +117,7 @@ module _ (t : Turn) (f : FrameView) (peer : ℕ) (part : Transfers t.w.part) (pl
 
   bytes_tells : (n : ℕ) (phase : Phase) → Tells t (takes_bytes t f peer n phase)
   bytes_tells n (GetsBytes p start size left) =
-      if_found (Tells t) (nat_lt 0 n && nat_le n left) (attempts t (calls.Append ∷ []) (Some f) (quietly (talk t) (Some f))) (wrong t f peer)
+      if_either (Tells t) (nat_lt 0 n && nat_le n left) (attempts t (calls.Append ∷ []) (Some f) (quietly (talk t) (Some f))) (wrong t f peer)
       (λ e. attempts_tells t (calls.Append ∷ []) (Some f) (quietly (talk t) (Some f)) (inr tt)) (λ e. wrong_tells)
   bytes_tells n phase = wrong_tells
 
@@ -134,12 +135,12 @@ module _ (t : Turn) (f : FrameView) (peer : ℕ) (part : Transfers t.w.part) (pl
   from_tells n =
       let data' = says_to t (talk t) (Some f) peer (Data (bytes_left (t.content (key_of t)) n)) in
       let there = reaches (t.content (key_of t)) n in
-      attempts_tells t (calls.Size ∷ []) (Some f) (if there then data' else wrong t f peer) (if_found (Tells t) there data' (wrong t f peer) (λ e. one_tells t (talk t) (Some f) peer (Line (text_of (Data (bytes_left (t.content (key_of t)) n)))) place) (λ e. wrong_tells))
+      attempts_tells t (calls.Size ∷ []) (Some f) (if there then data' else wrong t f peer) (if_either (Tells t) there data' (wrong t f peer) (λ e. one_tells t (talk t) (Some f) peer (Line (text_of (Data (bytes_left (t.content (key_of t)) n)))) place) (λ e. wrong_tells))
 
   put_tells : (phase : Phase) (m : Message) → Tells t (takes_put t f peer phase m)
   put_tells (PutsOffer p) AlreadyHave = inr tt
   put_tells (PutsOffer p) Failure = inr tt
-  put_tells (PutsOffer p) (Error text) = if_found (Tells t) (bytes_eq text (codes "busy")) (hears t f) (wrong t f peer) (λ e. inr tt) (λ e. wrong_tells)
+  put_tells (PutsOffer p) (Error text) = if_either (Tells t) (bytes_eq text (codes "busy")) (hears t f) (wrong t f peer) (λ e. inr tt) (λ e. wrong_tells)
   put_tells (PutsOffer p) (PutFrom n) = from_tells n
   put_tells (PutsAnswer p start) Success = inr tt
   put_tells (PutsAnswer p start) Failure = inr tt
@@ -152,7 +153,7 @@ module _ (t : Turn) (f : FrameView) (peer : ℕ) (part : Transfers t.w.part) (pl
 
   takes_tells : (phase : Phase) (m : Message) → Tells t (takes t f peer phase m)
   takes_tells (Opens p) (AuthSuccess id) = one_tells t (talk t) (Some f) peer (Line (text_of (Version 3))) place
-  takes_tells (Greets p) (Version n) = if_found (Tells t) (nat_le n 3) (asks t n (Some f) peer t.w.part) (wrong t f peer) (λ e. asks_tells t n (Some f) peer t.w.part part place) (λ e. wrong_tells)
+  takes_tells (Greets p) (Version n) = if_either (Tells t) (nat_le n 3) (asks t n (Some f) peer t.w.part) (wrong t f peer) (λ e. asks_tells t n (Some f) peer t.w.part part place) (λ e. wrong_tells)
   takes_tells phase m = answer_tells t.w.part part phase m
 
   text_tells : (m : Option Message) → Tells t (takes_text t f peer m)
@@ -200,7 +201,7 @@ pub transfers_tell : (s : SetUp) (past : List Entry) (e : Entry) (x : Stepped s 
     → (g : FrameView) → Member g e.sent → Place (turn_at s past e x) g.peer
 transfers_tell s past e x part goes_on g m = elim (partner_tells (turn_at s past e x) x.made part (partner x.w.what.peer x.w.phase) refl x.does) [
   | inl end ↦ absurd (ended x.made.kind (ap (λ (y : Entry). y.kind) x.is) end)
-  | inr all ↦ each_member (λ g. Place (turn_at s past e x) g.peer) x.made.sent g all (subst (Member g) (ap (λ (y : Entry). y.sent) x.is) m)
+  | inr all ↦ Each-member (λ g. Place (turn_at s past e x) g.peer) x.made.sent g all (subst (Member g) (ap (λ (y : Entry). y.sent) x.is) m)
 ]
   where
     ended : (kind : EntryKind) → e.kind ≡ kind → IsEnd kind → ⊥

@@ -2,6 +2,9 @@
 -- what is taken is a prefix of what is sent.
 use Rattle.std.proofs.Common.{◌≡◌, ℕ, zero, suc, ◌+◌, ◌<◌, ◌≤◌, Bool, true, false, cond, List, [], ◌∷◌, ◌++◌, length, take, Option, Some, None, ◌⊎◌, inl, inr, refl, sym, ap, ◌∙◌, subst, arith, append_assoc, append-nil, length-append, add-one}
 use Rattle.std.specs.Prelude.{filter, map, slice_get, if◌then◌else◌}
+use Rattle.std.proofs.lemmas.Option.{same_Some}
+use Rattle.std.proofs.lemmas.List.Elements.{filter-append}
+use Rattle.annex_base.proofs.Lists.{slice_get-left}
 use Rattle.run_data.specs.declared.entry.Entry.{Entry}
 use Rattle.run_data.specs.declared.entry.FrameView.{FrameView}
 use Rattle.run_model.specs.Past.{Always, Occurs, is_of}
@@ -9,18 +12,9 @@ use Rattle.run_model.specs.Said.{Said, message_in, is_request}
 use Rattle.race_core.proofs.Ways.{is_answer, answers}
 use Rattle.run_model.specs.Frames.{Way, Flying, MayTake, flying, is_on, on_way, sender_of, taker_of, sent, sent_if, says, taken, taken_if, up_of, requests, last_of, last_request}
 use Rattle.race_core.proofs.Own.{AtMostOne}
-use Rattle.race_core.proofs.Flights.{some_inj, get_none, sending, always_before}
-use Rattle.race_core.proofs.Plain.{get_left}
+use Rattle.race_core.proofs.Flights.{get_none, sending, always_before}
 
 -- ---- lists
-
-filter_append : {X : Type 0} (p : X → Bool) (xs ys : List X) → filter p (xs ++ ys) ≡ filter p xs ++ filter p ys
-filter_append p [] ys = refl
-filter_append p (x ∷ xs) ys = go (filter_append p xs ys) (p x)
-  where
-    go : filter p (xs ++ ys) ≡ filter p xs ++ filter p ys → (b : Bool) → cond b (x ∷ filter p (xs ++ ys)) (filter p (xs ++ ys)) ≡ cond b (x ∷ filter p xs) (filter p xs) ++ filter p ys
-    go ih true = ap (λ zs. x ∷ zs) ih
-    go ih false = ih
 
 filter_map : {X Y : Type 0} (p : Y → Bool) (f : X → Y) (xs : List X) → filter p (map f xs) ≡ map f (filter (λ x. p (f x)) xs)
 filter_map p f [] = refl
@@ -33,7 +27,7 @@ filter_map p f (x ∷ xs) = go (filter_map p f xs) (p (f x))
 -- where an element stands that passes the test, among those that do
 filter_get : {X : Type 0} (p : X → Bool) (xs : List X) (n : ℕ) (x : X) → slice_get xs n ≡ Some x → p x ≡ true → slice_get (filter p xs) (length (filter p (take n xs))) ≡ Some x
 filter_get p [] n x h t = absurd (get_none n x h)
-filter_get p (y ∷ xs) zero x h t = let same : y ≡ x = some_inj y x h in go (p y) (subst (λ z. p z ≡ true) (sym same) t)
+filter_get p (y ∷ xs) zero x h t = let same : y ≡ x = same_Some y x h in go (p y) (subst (λ z. p z ≡ true) (sym same) t)
   where
     go : (b : Bool) → b ≡ true → slice_get (cond b (y ∷ filter p xs) (filter p xs)) 0 ≡ Some x
     go true e = h
@@ -46,7 +40,7 @@ filter_get p (y ∷ xs) (suc n) x h t = go (filter_get p xs n x h t) (p y)
 
 take_suc : {X : Type 0} (xs : List X) (n : ℕ) (x : X) → slice_get xs n ≡ Some x → (take (suc n) xs ≡ take n xs ++ x ∷ []) × (n < length xs)
 take_suc [] n x h = absurd (get_none n x h)
-take_suc (y ∷ xs) zero x h = let same : y ≡ x = some_inj y x h in (ap (λ z. z ∷ []) same, omega arith)
+take_suc (y ∷ xs) zero x h = let same : y ≡ x = same_Some y x h in (ap (λ z. z ∷ []) same, omega arith)
 take_suc (y ∷ xs) (suc n) x h = let t = take_suc xs n x h in (ap (λ zs. y ∷ zs) t.0, more t.1)
   where
     more : n < length xs → suc n < length (y ∷ xs)
@@ -121,7 +115,7 @@ taken_step q e past w all old = let t = sent_more e past w in step t.0 t.1
             is = ap (λ b. q (message_in b)) t.body_is
 
             parts : length (filter (of_flying q) (take (taken past w) (sent past w) ++ t.it ∷ [])) ≡ taken_if q past w + length (filter (of_flying q) (t.it ∷ []))
-            parts = ap length (filter_append (of_flying q) (take (taken past w) (sent past w)) (t.it ∷ []))
+            parts = ap length (filter-append (of_flying q) (take (taken past w) (sent past w)) (t.it ∷ []))
                 ∙ length-append (filter (of_flying q) (take (taken past w) (sent past w))) (filter (of_flying q) (t.it ∷ []))
                 ∙ ap (λ n. n + length (filter (of_flying q) (t.it ∷ []))) (sym old.count)
 
@@ -154,10 +148,10 @@ next_of q past w f all t ok =
 -- ---- the sender of a frame that passes a test
 
 pub sent_if-step : (q : Said → Bool) (e : Entry) (past : List Entry) (w : Way) → is_of (sender_of w) e ≡ true → sent_if q (e ∷ past) w ≡ sent_if q past w ++ map (flying e past) (filter (says q) (on_way w e))
-sent_if-step q e past w is = rw is (filter_append (of_flying q) (sent past w) (map (flying e past) (on_way w e)) ∙ ap (λ ys. sent_if q past w ++ ys) (filter_map (of_flying q) (flying e past) (on_way w e)))
+sent_if-step q e past w is = rw is (filter-append (of_flying q) (sent past w) (map (flying e past) (on_way w e)) ∙ ap (λ ys. sent_if q past w ++ ys) (filter_map (of_flying q) (flying e past) (on_way w e)))
 
 sent_if-more : (q : Said → Bool) (e : Entry) (past : List Entry) (w : Way) → (rest : List Flying) × (sent_if q (e ∷ past) w ≡ sent_if q past w ++ rest)
-sent_if-more q e past w = let t = sent_more e past w in (filter (of_flying q) t.0, ap (filter (of_flying q)) t.1 ∙ filter_append (of_flying q) (sent past w) t.0)
+sent_if-more q e past w = let t = sent_more e past w in (filter (of_flying q) t.0, ap (filter (of_flying q)) t.1 ∙ filter-append (of_flying q) (sent past w) t.0)
 
 -- what was sent before is a prefix
 pub sent_if-prefix : (q : Said → Bool) (past : List Entry) (x : Entry) (before : List Entry) (w : Way) → Occurs past x before → (rest : List Flying) × (sent_if q past w ≡ sent_if q before w ++ rest)
@@ -169,7 +163,7 @@ sent_if-prefix q (e ∷ past) x before w (inr o) =
     (t.0 ++ u.0, u.1 ∙ ap (λ xs. xs ++ u.0) t.1 ∙ append_assoc (sent_if q before w) t.0 u.0)
 
 get_last : {X : Type 0} (xs : List X) (y : X) (k : ℕ) (x : X) → slice_get (xs ++ y ∷ []) k ≡ Some x → (slice_get xs k ≡ Some x) ⊎ ((k ≡ length xs) × (y ≡ x))
-get_last [] y zero x h = inr (refl, some_inj y x h)
+get_last [] y zero x h = inr (refl, same_Some y x h)
 get_last [] y (suc k) x h = absurd (get_none k x h)
 get_last (z ∷ xs) y zero x h = inl h
 get_last (z ∷ xs) y (suc k) x h = elim (get_last xs y k x h) [ inl s ↦ inl s | inr s ↦ inr (step s.0, s.1) ]
@@ -208,7 +202,7 @@ turn_of past w f g down up one t answer awaits x before occurs turn asked reques
     let e = sent_if-prefix is_request past x before (up_of w) occurs in
     let at : slice_get (requests past (up_of w)) (taken_if is_answer past w) ≡ Some asked.it =
     subst (λ xs. slice_get xs (taken_if is_answer past w) ≡ Some asked.it) (sym e.1)
-    (get_left (requests before (up_of w)) e.0 (taken_if is_answer past w) asked.it (subst (λ k. slice_get (requests before (up_of w)) k ≡ Some asked.it) d c)) in
+    (slice_get-left (requests before (up_of w)) e.0 (taken_if is_answer past w) asked.it (subst (λ k. slice_get (requests before (up_of w)) k ≡ Some asked.it) d c)) in
     last_get (requests past (up_of w)) (taken_if is_answer past w) asked.it at awaits
 
 -- that entry is the one that sends the answer

@@ -3,6 +3,7 @@
 use Rattle.std.proofs.Common.{◌≡◌, ◌≢◌, ℕ, ◌+◌, ◌<◌, ◌≤◌, Bool, true, false, List, [], ◌∷◌, Option, Some, None, ◌⊎◌, inl, inr, refl, sym, ap, ◌∙◌, subst, arith}
 use Rattle.std.specs.Prelude.{if◌then◌else◌, ◌==◌, ◌&&◌, ◌||◌, not, length}
 use Rattle.std.specs.List.{list_any}
+use Rattle.std.proofs.lemmas.Bool.{eqb-true, and_left, or_from}
 use Rattle.annex_base.specs.Lists.{Member}
 use Rattle.annex_base.specs.declared.kinds.Word.{Word}
 use Rattle.run_data.specs.declared.entry.By.TheVariants.{Script}
@@ -35,7 +36,6 @@ use Rattle.node_model.specs.SessionStep.{Here, here}
 use Rattle.node_model.specs.Ends.{server_end}
 use Rattle.run_model.specs.Run.{OwnPart, OwnRun}
 use Rattle.node_model.specs.Found.{ByJob, ByOwed, BySession, JobKind, SessionKind}
-use Rattle.race_core.proofs.Plain.{eqb_true}
 use Rattle.race_core.proofs.StepFacts.{step_found}
 use Rattle.race_core.proofs.PhaseFacts.{BodyReads, GoodTo, PartReads, SentReads, is_fresh}
 use Rattle.race_core.proofs.JobNumbers.{begins_next}
@@ -62,12 +62,6 @@ abbrev pub has_asked : List Entry → ℕ → ℕ → Bool
 has_asked past r j = list_any (λ e. is_job r j e && (is_share e.kind || list_any (Frames.says asks_copy) e.sent)) past
 
 -- ---- entries that are no steps of a job
-
-off_and : (a b : Bool) → a ≡ false → (a && b) ≡ false
-off_and a b e = rw e refl
-
-pub off_or : (a b : Bool) → a ≡ false → b ≡ false → (a || b) ≡ false
-off_or a b p q = rw (p, q) refl
 
 come_sends : (s : SetUp) (past : List Entry) (lines : List (List ℕ)) (sent : List FrameView) (j : ℕ) (kind : EntryKind) → MayCome s (state_of s past) lines sent kind → option_is (job_of kind) j ≡ true → sent ≡ []
 come_sends s past lines sent j (Begin job what) x is = x.2
@@ -129,12 +123,12 @@ pub still_asks : (s : SetUp) (past : List Entry) (words : ℕ → Option Word) (
 still_asks s past words e own j still = go (option_is (job_of e.kind) j) refl
   where
     go : (b : Bool) → option_is (job_of e.kind) j ≡ b → (is_job s.number j e && asks_by e.kind e.sent) ≡ false
-    go false is = off_and (is_job s.number j e) (asks_by e.kind e.sent) (and_off (is_of s.number e) (option_is (job_of e.kind) j) is)
+    go false is = and_left (is_job s.number j e) (asks_by e.kind e.sent) (and_off (is_of s.number e) (option_is (job_of e.kind) j) is)
       where
         and_off : (a b : Bool) → b ≡ false → (a && b) ≡ false
         and_off true b h = h
         and_off false b h = refl
-    go true is = asks_off (is_job s.number j e) (asks_by e.kind e.sent) (off_or (is_share e.kind) (list_any (Frames.says asks_copy) e.sent) (no_step_share j e.kind still is)
+    go true is = asks_off (is_job s.number j e) (asks_by e.kind e.sent) (or_from (is_share e.kind) (list_any (Frames.says asks_copy) e.sent) (no_step_share j e.kind still is)
         (subst (λ fs. list_any (Frames.says asks_copy) fs ≡ false) (sym (still_sends s past words e own j still is)) refl))
       where
         asks_off : (a b : Bool) → b ≡ false → (a && b) ≡ false
@@ -150,7 +144,7 @@ still_decided place j (Bar job need key) still = let d : Decision = record { pla
 still_decided place j kind still = refl
 
 pub still_done : (j : ℕ) (kind : EntryKind) → is_step j kind ≡ false → done_kind j kind ≡ false
-still_done j (ends_job job outcome) still = off_and (job == j) (not (is_lost_ordered outcome)) still
+still_done j (ends_job job outcome) still = and_left (job == j) (not (is_lost_ordered outcome)) still
 still_done j kind still = refl
 
 -- ---- a job that has done nothing yet
@@ -164,7 +158,7 @@ pub unasked_after : (past : List Entry) (r : ℕ) (e : Entry) (j : ℕ) → is_o
     → Unasked past r j → Unasked (e ∷ past) r j
 unasked_after past r e j is no_bar no_ask x = record {
   undecided = rw is (ap (λ (d : Option Decision). decided_after (length past) j d e.kind) x.undecided ∙ no_bar);
-  unasked = off_or (is_job r j e && asks_by e.kind e.sent) (has_asked past r j) no_ask x.unasked;
+  unasked = or_from (is_job r j e && asks_by e.kind e.sent) (has_asked past r j) no_ask x.unasked;
 }
 
 pub unasked_other : (past : List Entry) (r : ℕ) (e : Entry) (j : ℕ) → is_of r e ≡ false → Unasked past r j → Unasked (e ∷ past) r j
@@ -174,7 +168,7 @@ pub done_other : (past : List Entry) (r : ℕ) (e : Entry) (j : ℕ) → is_of r
 done_other past r e j is x = rw is x
 
 pub done_after : (past : List Entry) (r : ℕ) (e : Entry) (j : ℕ) → done_kind j e.kind ≡ false → done past r j ≡ false → done (e ∷ past) r j ≡ false
-done_after past r e j no_end x = off_or (is_of r e && done_kind j e.kind) (done past r j) (both (is_of r e) (done_kind j e.kind) no_end) x
+done_after past r e j no_end x = or_from (is_of r e && done_kind j e.kind) (done past r j) (both (is_of r e) (done_kind j e.kind) no_end) x
   where
     both : (a b : Bool) → b ≡ false → (a && b) ≡ false
     both true b h = h
@@ -190,7 +184,7 @@ not_yet s past words e run own j later = elim (made_by s past words e own) [
     go : Stepped s past e → (b : Bool) → is_step j e.kind ≡ b → b ≡ false
     go x false is = refl
     go x true is =
-        let same : x.w.number ≡ j = eqb_true x.w.number j (subst (λ o. option_is o j ≡ true) (stepped_job s past e x) (step_is_job j e.kind is)) in
+        let same : x.w.number ≡ j = eqb-true x.w.number j (subst (λ o. option_is o j ≡ true) (stepped_job s past e x) (step_is_job j e.kind is)) in
         let below : x.w.number ≤ begun past s.number = number_begun s past run x.w (stepped_runs s past e x) in
         absurd (omega arith)
 
@@ -303,5 +297,5 @@ body_copies part (Line text) apart reads = line_copies part (message_of text) ap
 
 pub sent_copies : (part : Part) (sent : List FrameView) → part ≢ Drops → OneAtMost sent → SentReads part sent → list_any (Frames.says asks_copy) sent ≡ false
 sent_copies part [] apart one reads = refl
-sent_copies part (f ∷ []) apart one reads = off_or (asks_copy (message_in f.body)) false (body_copies part f.body apart reads) refl
+sent_copies part (f ∷ []) apart one reads = or_from (asks_copy (message_in f.body)) false (body_copies part f.body apart reads) refl
 sent_copies part (f ∷ g ∷ fs) apart one reads = absurd one

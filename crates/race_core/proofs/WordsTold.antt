@@ -1,8 +1,10 @@
 -- The word beside an answer that a job took from a repository: that of the sender of the answer to what it last awaited of it.
-use Rattle.std.proofs.Common.{◌≡◌, ℕ, Bool, true, false, List, [], ◌∷◌, Some, inl, inr, refl, sym, ap, ◌∙◌, arith}
-use Rattle.std.proofs.lemmas.Bool.Decides.{nat_tests}
+use Rattle.std.proofs.Common.{◌≡◌, ℕ, Bool, true, false, List, [], ◌∷◌, Some, inl, inr, refl, sym, ap, ◌∙◌}
 use Rattle.std.specs.Prelude.{if◌then◌else◌, ◌==◌, ◌&&◌, find, slice_get}
+use Rattle.std.proofs.lemmas.Bool.{eqb-true}
 use Rattle.annex_base.specs.Lists.{Member}
+use Rattle.annex_base.proofs.Lists.{find_member}
+use Rattle.annex_base.proofs.Conditions.{eqb_refl}
 use Rattle.run_data.specs.declared.entry.Entry.{Entry}
 use Rattle.run_data.specs.declared.entry.FrameView.{FrameView}
 use Rattle.run_model.specs.Past.{is_of}
@@ -14,11 +16,7 @@ use Rattle.run_model.specs.Words.{awaits_of, awaits_word, word_of, word_taken, w
 use Rattle.node_model.specs.Jobs.{Work}
 use Rattle.run_model.specs.States.{works}
 use Rattle.run_model.specs.Run.{OwnRun}
-use Rattle.race_core.proofs.Cases.{find_was}
 use Rattle.race_core.proofs.WorkNumbers.{same_number_same_work}
-
-same_self : (n : ℕ) → (n == n) ≡ true
-same_self n = grind (arith, nat_tests)
 
 -- ---- which work has a number
 
@@ -28,17 +26,14 @@ find_some (x ∷ ws) w m = go (λ n. find_some ws w n) (x.number == w.number) re
   where
     go : (Member w ws → (v : Work) × (find (λ x. x.number == w.number) ws ≡ Some v)) → (b : Bool) → (x.number == w.number) ≡ b → Member w (x ∷ ws) → (v : Work) × (find (λ y. y.number == w.number) (x ∷ ws) ≡ Some v)
     go more true is m = (x, rw is refl)
-    go more false is (inl same) = absurd (let both : true ≡ false = sym (same_self w.number) ∙ ap (λ (y : Work). y.number == w.number) same ∙ is in cc)
+    go more false is (inl same) = absurd (let both : true ≡ false = sym (eqb_refl w.number) ∙ ap (λ (y : Work). y.number == w.number) same ∙ is in cc)
     go more false is (inr n) = let z = more n in (z.0, rw is z.1)
-
-number_is : (a b : ℕ) → (a == b) ≡ true → a ≡ b
-number_is a b e = grind (arith, nat_tests)
 
 pub found_work : (s : SetUp) (past : List Entry) → OwnRun s past → (w : Work) → Member w (works past s.number) → find (λ x. x.number == w.number) (works past s.number) ≡ Some w
 found_work s past run w m =
     let z = find_some (works past s.number) w m in
-    let f = find_was (λ (x : Work). x.number == w.number) (works past s.number) z.0 z.1 in
-    z.1 ∙ ap (λ v. Some v) (same_number_same_work s past run z.0 w f.0 m (number_is z.0.number w.number f.1))
+    let f = find_member (λ (x : Work). x.number == w.number) (works past s.number) z.0 z.1 in
+    z.1 ∙ ap (λ v. Some v) (same_number_same_work s past run z.0 w f.0 m (eqb-true z.0.number w.number f.1))
 
 -- ---- the word
 
@@ -59,5 +54,5 @@ pub word_now : (s : SetUp) (past : List Entry) (e : Entry) (w : Work) (c : ℕ) 
     → e.taken ≡ Some f → f.peer ≡ c → word_told (e ∷ past) s.number w.number c ≡ word_of (slice_get (sent past (way_of s.number f)) (taken past (way_of s.number f)))
 word_now s past e w c f run m is job waits took peer =
     let on : awaits_of c (find (λ (x : Work). x.number == w.number) (works past s.number)) ≡ true = ap (awaits_of c) (found_work s past run w m) ∙ waits in
-    let at : (f.peer == c) ≡ true = ap (λ n. n == c) peer ∙ same_self c in
-    rw (is, job, same_self w.number, on, took, at) refl
+    let at : (f.peer == c) ≡ true = ap (λ n. n == c) peer ∙ eqb_refl c in
+    rw (is, job, eqb_refl w.number, on, took, at) refl

@@ -2,6 +2,7 @@
 use Rattle.std.proofs.Common.{◌≡◌, ℕ, ◌+◌, ◌<◌, ◌≤◌, Bool, true, false, List, [], ◌∷◌, Option, inl, inr, refl, sym, ap, ◌∙◌, subst, arith}
 use Rattle.std.specs.Prelude.{◌==◌, ◌||◌, filter, length, map, not}
 use Rattle.std.proofs.lemmas.Bool.Decides.{nat_tests}
+use Rattle.std.proofs.lemmas.List.{length-map}
 use Rattle.annex_base.specs.Lists.{Member}
 use Rattle.run_data.specs.declared.entry.Entry.{Entry}
 use Rattle.run_data.specs.declared.entry.EntryKind.{EntryKind}
@@ -15,7 +16,7 @@ use Rattle.run_model.specs.States.{state_of, works}
 use Rattle.node_model.specs.AnyTime.{MayCome}
 use Rattle.node_model.specs.Jobs.{Work, running}
 use Rattle.run_model.specs.Run.{IsStep, OwnPart, OwnRun}
-use Rattle.race_core.proofs.Plain.{each_map, length_map}
+use Rattle.race_core.proofs.Plain.{each_map}
 use Rattle.race_core.proofs.JobKept.{jobs_are}
 use Rattle.race_core.proofs.JobNumbers.{Falling, Numbered, jobs_numbered}
 use Rattle.race_core.proofs.StepFacts.{kind_found}
@@ -159,7 +160,7 @@ jobs_apart s (e ∷ past) run = go (jobs_apart s past run.1) (is_of s.number e) 
         let own = run.0 is in
         rw is (after_apart (jobs past s.number) e.kind
         (λ job what k. let few = begins_few s past own.0 e own.1 job what k in
-        let same : length (jobs past s.number) ≡ length (works past s.number) = ap length (sym (jobs_are past s.number)) ∙ length_map running (works past s.number) in omega arith) a)
+        let same : length (jobs past s.number) ≡ length (works past s.number) = ap length (sym (jobs_are past s.number)) ∙ length-map (works past s.number) running in omega arith) a)
 
 pub works_apart : (s : SetUp) (past : List Entry) → OwnRun s past → Apart (map running (works past s.number))
 works_apart s past run = subst Apart (sym (jobs_are past s.number)) (jobs_apart s past run)

@@ -3,6 +3,7 @@ use Rattle.std.proofs.Common.{◌≡◌, ◌⊎◌, Bool, true, false, filter, �
 use Rattle.std.specs.List.{flat_map, range_with_len}
 use Rattle.std.proofs.lemmas.Bool.{cases_lt}
 use Rattle.std.proofs.lemmas.List.Elements.{filter-append}
+use Rattle.annex_base.proofs.Numbers.{range_suc}
 
 -- one more number
 pub flat_map_suc : {A : Type 0} (f : ℕ → List A) (a n : ℕ) → flat_map f (range_with_len a (suc n)) ≡ flat_map f (range_with_len a n) ++ f (a + n)
@@ -54,12 +55,6 @@ flat_map_walked f len past from upto place far at =
           let count : min (from + (upto - from)) len - from ≡ place - from = omega arith in
           rw (← count) (sym (flat_map_within f len past from (upto - from)))
     ]
-
-range_suc : (a n : ℕ) → range_with_len a (suc n) ≡ range_with_len a n ++ (a + n) ∷ []
-range_suc a zero = rw add-zero refl
-range_suc a (suc n) =
-    let place : (a + 1) + n ≡ a + suc n = omega arith in
-    ap (λ (l : List ℕ). a ∷ l) (rw place at (range_suc (a + 1) n))
 
 range_more : (n : ℕ) → range_with_len 0 (n + 1) ≡ range_with_len 0 n ++ n ∷ []
 range_more n =

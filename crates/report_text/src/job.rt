@@ -1,3 +1,5 @@
+//! What a line says of its job.
+
 ghost use Rattle.std.specs.Prelude.{◌≡◌, ◌++◌, ◌∷◌, OnOk, option_copied};
 ghost use Rattle.report_text.specs.Report.{kind_text, way_text, peer_text, key_text, quoted, job_text, begun_text};
 

@@ -1,3 +1,5 @@
+//! The lines of the jobs that ended between two places of a run.
+
 ghost use Rattle.std.specs.Prelude.{◌≡◌, ◌++◌, OnOk, IsNone, IfSome, Option, Some, reverse, option_copied};
 ghost use Rattle.run_data.specs.declared.job.Job.{Job};
 ghost use Rattle.thin_model.specs.Past.{begun_job};

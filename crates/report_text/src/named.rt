@@ -1,3 +1,5 @@
+//! Identifiers as the names of their repositories.
+
 ghost use Rattle.std.specs.Prelude.{◌≡◌, ◌++◌, ◌∷◌, IfOk, OnOk, bytes_eq, filter, map, not};
 ghost use Rattle.std.specs.List.{flat_map, list_any};
 ghost use Rattle.annex_base.specs.RepoText.{repo_text};

@@ -1,3 +1,5 @@
+//! How a job ended.
+
 ghost use Rattle.std.specs.Prelude.{◌≡◌, ◌++◌, OnOk, codes, option_copied};
 ghost use Rattle.report_text.specs.Report.{transfer_word, transfer_word_of, start_text, from_text, outcome_text};
 

@@ -1,3 +1,5 @@
+//! The need and the evidence of a drop.
+
 ghost use Rattle.std.specs.Prelude.{◌≡◌, ◌++◌, OnOk};
 ghost use Rattle.report_text.specs.Report.{proof_text};
 

@@ -1,3 +1,5 @@
+//! The report of a script's run, line by line.
+
 ghost use Rattle.std.specs.Prelude.{◌≡◌, IfOk, length};
 ghost use Rattle.annex_base.specs.Lists.{Each};
 ghost use Rattle.report_text.specs.Report.{report};

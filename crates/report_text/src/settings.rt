@@ -1,3 +1,5 @@
+//! What a branch sets: numbers of copies, levels and groups.
+
 ghost use Rattle.std.specs.Prelude.{◌≡◌, ◌++◌, ◌<◌, length, IfOk, OnOk};
 ghost use Rattle.union_merge.specs.Branch.{lines_at};
 ghost use Rattle.trust_groups.specs.Settings.{settings};

@@ -1,3 +1,5 @@
+//! Why a transfer was refused.
+
 ghost use Rattle.std.specs.Prelude.{◌≡◌, ◌++◌, ◌∷◌, OnOk};
 ghost use Rattle.std.specs.List.{flat_map};
 ghost use Rattle.report_text.specs.Report.{joined, source_text, failure_text, transfer_text};

@@ -1,3 +1,5 @@
+//! The way through a run: which repositories have which keys at a place, and their branches there.
+
 ghost use Rattle.std.specs.Prelude.{◌≡◌, ◌≤◌, ◌<◌, ◌∷◌, ℕ, List, OnOk, IfOk, Some, length};
 ghost use Rattle.std.specs.Option.{option_copied};
 ghost use Rattle.annex_base.specs.Lists.{Each};

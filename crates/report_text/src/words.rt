@@ -1,3 +1,5 @@
+//! Names of repositories, and words in quotes.
+
 ghost use Rattle.std.specs.Prelude.{◌≡◌, ◌++◌, ◌∷◌, ◌==◌, OnOk};
 ghost use Rattle.std.specs.List.{flat_map, list_any};
 ghost use Rattle.report_text.specs.Report.{name_of, quoted, joined};

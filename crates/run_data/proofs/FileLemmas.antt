@@ -1,8 +1,10 @@
 -- A file is read off its path, and stands there.
-use Rattle.std.proofs.Common.{◌≡◌, ◌≢◌, ◌↔◌, ℕ, Bool, true, false, cond, List, [], ◌∷◌, Option, Some, None, IfSome, Result, Ok, Err, IfOk, refl, sym, ap, subst, ◌∙◌}
-use Rattle.std.specs.Prelude.{if◌then◌else◌, bytes_eq, find}
+use Rattle.std.proofs.Common.{◌≡◌, ◌≢◌, ◌↔◌, ℕ, Bool, true, false, List, [], Option, Some, None, IfSome, Result, Ok, Err, IfOk, refl, sym, ap, subst, ◌∙◌}
+use Rattle.std.specs.Prelude.{if◌then◌else◌, bytes_eq}
 use Rattle.std.specs.List.{list_all}
 use Rattle.std.proofs.lemmas.Slice.Eq.{bytes_eq-Decides}
+use Rattle.std.proofs.lemmas.Option.{none-some, same_Some}
+use Rattle.annex_base.proofs.Lists.{Each-always, find_member, find_none}
 use Rattle.annex_base.specs.declared.memory.NoMemory.{NoMemory}
 use Rattle.annex_key.specs.FileKey.{key_of_file}
 use Rattle.annex_key.specs.KeyFile.{file_text}
@@ -15,7 +17,7 @@ use Rattle.log_lines.specs.Files.{file_name, kind_named, named_kinds}
 use Rattle.run_data.specs.declared.entry.LogFile.{LogFile}
 use Rattle.run_data.specs.declared.entry.LogFile.TheVariants.{Location, Of, Other}
 use Rattle.run_data.specs.Files.{HasPath, file_by, file_of, file_path, kind_of, location_of, log_name}
-use Rattle.run_data.proofs.PathLemmas.{IsOneLine, no_newline, location_path_is_line, log_name-path, not_slash, no_location}
+use Rattle.run_data.proofs.PathLemmas.{IsSingle, no_newline, location_path_is_line, log_name-path, not_slash, no_location}
 
 -- what is read of a file name is a key's, and the other way round
 abbrev pub FilesNameKeys : Type 0
@@ -23,26 +25,14 @@ FilesNameKeys = (file key : List ℕ) → (key_of_file file ≡ Some key) ↔ (I
 
 -- ---- the kinds with a file of their own
 
-found_passes : (p : LogKind → Bool) (ks : List LogKind) (kind : LogKind) → find p ks ≡ Some kind → p kind ≡ true
-found_passes p [] kind found = cc
-found_passes p (k ∷ ks) kind found = go (p k) refl found (found_passes p ks kind)
-  where
-    go : (b : Bool) → p k ≡ b → cond b (Some k) (find p ks) ≡ Some kind → (find p ks ≡ Some kind → p kind ≡ true) → p kind ≡ true
-    go true is found later = let same : k ≡ kind = cc in ap p (sym same) ∙ is
-    go false is found later = later found
-
-none_passes : (p : LogKind → Bool) (ks : List LogKind) → ((kind : LogKind) → p kind ≡ false) → find p ks ≡ None
-none_passes p [] none = refl
-none_passes p (k ∷ ks) none = rw (none k) (none_passes p ks none)
-
 pub named_path : (path : List ℕ) (kind : LogKind) → kind_named path ≡ Some kind → file_name kind ≡ path
-named_path path kind found = (bytes_eq-Decides (file_name kind) path).0 (found_passes (λ k. bytes_eq (file_name k) path) named_kinds kind found)
+named_path path kind found = (bytes_eq-Decides (file_name kind) path).0 (find_member (λ k. bytes_eq (file_name k) path) named_kinds kind found).1
 
 -- what stands at a line isn't the kind without a file of its own
 pub named_other : (path : List ℕ) (kind : LogKind) → IsLine path → kind_named path ≡ Some kind → kind ≢ kinds.Location
 named_other path kind line found is = line.some (sym (named_path path kind found) ∙ ap file_name is)
 
-name_one_line : (kind : LogKind) → IsOneLine (file_name kind)
+name_one_line : (kind : LogKind) → IsSingle (file_name kind)
 name_one_line kinds.Location = refl
 name_one_line kinds.Trust = refl
 name_one_line kinds.Uuid = refl
@@ -127,7 +117,7 @@ unnamed key kind = go (bytes_eq (file_name kind) (location_path key)) refl
 
 pub file_of-location : FilesNameKeys → (key : List ℕ) → IsKeyText key → file_of (location_path key) ≡ Location key
 file_of-location names key is =
-    let kind : kind_named (location_path key) ≡ None = none_passes (λ k. bytes_eq (file_name k) (location_path key)) named_kinds (unnamed key) in
+    let kind : kind_named (location_path key) ≡ None = find_none (λ k. bytes_eq (file_name k) (location_path key)) named_kinds (Each-always (λ k. bytes_eq (file_name k) (location_path key) ≡ false) (unnamed key) named_kinds) in
     let found : key_of_file (log_name (location_path key)) ≡ Some key = (names (log_name (location_path key)) key).1 (is, log_name-path key) in
     let same : bytes_eq (location_path key) (location_path key) ≡ true = (bytes_eq-Decides (location_path key) (location_path key)).1 refl in
     ap (file_by (location_path key)) kind ∙ ap (location_of (location_path key)) found ∙ ap (λ (b : Bool). if b then Location key else Other (location_path key)) same
@@ -145,10 +135,7 @@ named_kind kinds.Mincopies other = refl
 
 -- .. and is another than that of a location log
 pub named_kind_other : (name : List ℕ) (kind : LogKind) → kind_named name ≡ Some kind → kind ≢ kinds.Location
-named_kind_other name kind found is = none_isnt kind (sym (ap kind_named (sym (named_path name kind found) ∙ ap file_name is)) ∙ found)
-  where
-    none_isnt : (kind : LogKind) → None ≡ Some kind → ⊥
-    none_isnt kind h = cc
+named_kind_other name kind found is = none-some kind (sym (ap kind_named (sym (named_path name kind found) ∙ ap file_name is)) ∙ found)
 
 pub named_found : (name : List ℕ) (o : Option LogKind) → o ≡ kind_named name → IfSome o (λ kind. (kind ≢ kinds.Location) × (file_name kind ≡ name))
 named_found name None is = tt
@@ -156,10 +143,7 @@ named_found name (Some kind) is = (named_kind_other name kind (sym is), named_pa
 
 -- no two kinds have one name
 pub one_kind : (j k : LogKind) → k ≢ kinds.Location → file_name j ≡ file_name k → j ≡ k
-one_kind j k other same = some_is j k (sym (named_kind j (λ is. name_some k other (sym same ∙ ap file_name is))) ∙ ap kind_named same ∙ named_kind k other)
-  where
-    some_is : (j k : LogKind) → Some j ≡ Some k → j ≡ k
-    some_is j k h = cc
+one_kind j k other same = same_Some j k (sym (named_kind j (λ is. name_some k other (sym same ∙ ap file_name is))) ∙ ap kind_named same ∙ named_kind k other)
 
 file_of-kind : (kind : LogKind) → kind ≢ kinds.Location → file_of (file_name kind) ≡ Of kind
 file_of-kind kind other = ap (file_by (file_name kind)) (named_kind kind other)

@@ -1,54 +1,33 @@
 -- The paths of the log files: each has a byte and no newline, and a location log stands in two directories.
-use Rattle.std.proofs.Common.{◌≡◌, ◌≢◌, inl, inr, ℕ, zero, suc, ◌+◌, ◌-◌, ◌<◌, ◌^◌, ◌/◌, ◌%◌, Bool, true, false, leb, not, ◌&&◌, ◌==◌, List, [], ◌∷◌, ◌++◌, take, drop, length, codes, slice_index, Option, Some, None, IfSome, Contains, refl, sym, ap, subst, ◌∙◌, true≢false, append_assoc, length-append, arith, rules}
+use Rattle.std.proofs.Common.{◌≡◌, ◌≢◌, inl, inr, ℕ, zero, suc, ◌+◌, ◌-◌, ◌<◌, ◌^◌, ◌/◌, ◌%◌, Bool, true, not, ◌&&◌, ◌==◌, List, [], ◌∷◌, ◌++◌, take, drop, length, codes, slice_index, Option, Some, None, IfSome, refl, sym, ap, subst, ◌∙◌, true≢false, append_assoc, length-append, arith}
 use Rattle.std.specs.List.{list_all, prefix_len, after_first}
 use Rattle.std.specs.Fmt.{decimal}
-use Rattle.std.specs.Str.Parse.{digits_value}
 use Rattle.std.proofs.Math.Seq.{take-append_seam, drop-append-add}
-use Rattle.std.proofs.lemmas.Bool.{cases_Bool}
-use Rattle.std.proofs.lemmas.Bool.Decides.{eqb_tells, nat_tests}
-use Rattle.std.proofs.lemmas.Fmt.{digits_decimal}
+use Rattle.std.proofs.lemmas.Bool.{cases_Bool, and_parts}
+use Rattle.std.proofs.lemmas.Bool.Decides.{nat_tests}
 use Rattle.std.proofs.lemmas.List.{take-append-drop}
-use Rattle.std.proofs.lemmas.List.Folds.{list_all-append}
-use Rattle.std.proofs.lemmas.Str.Parse.{IsNumeralModel, numerals_by_value}
 use Rattle.hex.specs.Hex.{lower_digits, encode_with, encode_lower}
 use Rattle.md5.specs.Md5.{md5}
 use Rattle.annex_base.specs.Lists.{Member}
 use Rattle.annex_key.specs.KeyText.{is_backend, is_backend_byte, is_upper, field_text, chunk_text, size_letter, mtime_letter, chunk_size_letter, chunk_letter, dash, IsKeyText}
 use Rattle.annex_key.specs.KeyFile.{ampersand, percent, colon, slash, escaped, file_text}
 use Rattle.annex_key.specs.View.{unchunked_text}
-use Rattle.annex_base.specs.Lines.{newline}
+use Rattle.annex_base.specs.Lines.{newline, is_not_newline, is_one_line}
+use Rattle.annex_base.proofs.Lists.{list_all_append, list_all_parts, list_all_weaker}
+use Rattle.annex_base.proofs.Lines.{one_line-by_test, one_line-decimal, one_line-members, one_line-passes}
 use Rattle.union_merge.specs.LineSet.{IsLine}
 use Rattle.hash_dirs.specs.LogPath.{location_path}
 use Rattle.run_data.specs.Files.{is_slash, log_name}
 
 -- ---- tests of all bytes
 
-pub both_true : (a b : Bool) → (a && b) ≡ true → (a ≡ true) × (b ≡ true)
-both_true true b h = (refl, h)
-both_true false b h = absurd cc
-
-true_both : (a b : Bool) → a ≡ true → b ≡ true → (a && b) ≡ true
-true_both a b x y = rw (x, y) refl
-
-pub all_append : (p : ℕ → Bool) (xs ys : List ℕ) → list_all p xs ≡ true → list_all p ys ≡ true → list_all p (xs ++ ys) ≡ true
-all_append p xs ys a b = list_all-append p xs ys ∙ true_both (list_all p xs) (list_all p ys) a b
-
-pub append_all : (p : ℕ → Bool) (xs ys : List ℕ) → list_all p (xs ++ ys) ≡ true → (list_all p xs ≡ true) × (list_all p ys ≡ true)
-append_all p xs ys e = both_true (list_all p xs) (list_all p ys) (sym (list_all-append p xs ys) ∙ e)
-
-all_weaker : (p q : ℕ → Bool) → ((b : ℕ) → p b ≡ true → q b ≡ true) → (bs : List ℕ) → list_all p bs ≡ true → list_all q bs ≡ true
-all_weaker p q weaker [] all = refl
-all_weaker p q weaker (b ∷ bs) all =
-    let both = both_true (p b) (list_all p bs) all in
-    rw (weaker b both.0, all_weaker p q weaker bs both.1) refl
-
 all_take : (p : ℕ → Bool) (n : ℕ) (xs : List ℕ) → list_all p xs ≡ true → (list_all p (take n xs) ≡ true) × (list_all p (drop n xs) ≡ true)
-all_take p n xs all = append_all p (take n xs) (drop n xs) (subst (λ (w : List ℕ). list_all p w ≡ true) (sym (take-append-drop n xs)) all)
+all_take p n xs all = list_all_parts p (take n xs) (drop n xs) (subst (λ (w : List ℕ). list_all p w ≡ true) (sym (take-append-drop n xs)) all)
 
 index_passes : (p : ℕ → Bool) (xs : List ℕ) (n : ℕ) → list_all p xs ≡ true → p 0 ≡ true → p (slice_index xs n) ≡ true
 index_passes p [] n all none = none
-index_passes p (x ∷ xs) zero all none = (both_true (p x) (list_all p xs) all).0
-index_passes p (x ∷ xs) (suc n) all none = index_passes p xs n (both_true (p x) (list_all p xs) all).1 none
+index_passes p (x ∷ xs) zero all none = (and_parts (p x) (list_all p xs) all).0
+index_passes p (x ∷ xs) (suc n) all none = index_passes p xs n (and_parts (p x) (list_all p xs) all).1 none
 
 digits_pass : (p : ℕ → Bool) → list_all p lower_digits ≡ true → p 0 ≡ true → (bytes : List ℕ) → list_all p (encode_with lower_digits bytes) ≡ true
 unfolding encode_with
@@ -60,84 +39,55 @@ digits_pass p all none (b ∷ bs) =
 
 -- ---- texts without a newline
 
-abbrev not_newline : ℕ → Bool
-not_newline b = not (b == 10)
+abbrev pub IsSingle : List ℕ → Type 0
+IsSingle xs = is_one_line xs ≡ true
 
-abbrev pub IsOneLine : List ℕ → Type 0
-IsOneLine xs = list_all not_newline xs ≡ true
-
-later_contains : (x : ℕ) (xs : List ℕ) (b : ℕ) → Contains xs b → Contains (x ∷ xs) b
-later_contains x xs b c = (suc c.0, omega (arith, c.1), c.2)
-
-one_line_by_bytes : (xs : List ℕ) → (Contains xs newline → ⊥) → IsOneLine xs
-one_line_by_bytes [] none = refl
-one_line_by_bytes (x ∷ xs) none = elim (eqb_tells x 10) [
-  | inl same ↦ absurd (none (0, omega arith, same.1))
-  | inr other ↦ rw other.0 (one_line_by_bytes xs (λ c. none (later_contains x xs newline c)))
-]
-
-pub no_newline : (xs : List ℕ) → IsOneLine xs → Member newline xs → ⊥
-no_newline [] all among = among
-no_newline (x ∷ xs) all (inl is) = true≢false (sym (both_true (not_newline x) (list_all not_newline xs) all).0 ∙ ap not_newline (sym is))
-no_newline (x ∷ xs) all (inr among) = no_newline xs (both_true (not_newline x) (list_all not_newline xs) all).1 among
+pub no_newline : (xs : List ℕ) → IsSingle xs → Member newline xs → ⊥
+no_newline xs single = one_line-members xs (one_line-by_test xs single)
 
 -- ---- a key
 
-is_digit : ℕ → Bool
-is_digit b = leb 48 b && leb b 57
-
-own : IsNumeralModel (λ ds. list_all is_digit ds ≡ true) (digits_value 10)
-unfolding is_digit
-own = numerals_by_value _ (search rules)
-
-digit_not_newline : (b : ℕ) → is_digit b ≡ true → not_newline b ≡ true
-unfolding is_digit
-digit_not_newline b is = grind (arith, nat_tests)
-
-decimal_one_line : (n : ℕ) → n < 2 ^ 64 → IsOneLine (decimal n)
-decimal_one_line n small = all_weaker is_digit not_newline digit_not_newline (decimal n) (digits_decimal own n small)
-
-backend_byte_not_newline : (b : ℕ) → is_backend_byte b ≡ true → not_newline b ≡ true
+backend_byte_not_newline : (b : ℕ) → is_backend_byte b ≡ true → is_not_newline b ≡ true
 backend_byte_not_newline b is = grind (arith, nat_tests)
 
 upper_is_backend_byte : (b : ℕ) → is_upper b ≡ true → is_backend_byte b ≡ true
 upper_is_backend_byte b is = rw is refl
 
-backend_one_line : (backend : List ℕ) → is_backend backend ≡ true → IsOneLine backend
+backend_one_line : (backend : List ℕ) → is_backend backend ≡ true → IsSingle backend
 backend_one_line [] is = refl
 backend_one_line (b ∷ bs) is =
-    let outer = both_true (is_upper b && list_all is_backend_byte bs) _ is in
-    let inner = both_true (is_upper b) (list_all is_backend_byte bs) outer.0 in
-    rw (backend_byte_not_newline b (upper_is_backend_byte b inner.0)) (all_weaker is_backend_byte not_newline backend_byte_not_newline bs inner.1)
+    let outer = and_parts (is_upper b && list_all is_backend_byte bs) _ is in
+    let inner = and_parts (is_upper b) (list_all is_backend_byte bs) outer.0 in
+    rw (backend_byte_not_newline b (upper_is_backend_byte b inner.0)) (list_all_weaker is_backend_byte is_not_newline backend_byte_not_newline bs inner.1)
 
-field_one_line : (letter : ℕ) (o : Option ℕ) → not_newline letter ≡ true → IfSome o (λ n. n < 2 ^ 64) → IsOneLine (field_text letter o)
+field_one_line : (letter : ℕ) (o : Option ℕ) → is_not_newline letter ≡ true → IfSome o (λ n. n < 2 ^ 64) → IsSingle (field_text letter o)
 field_one_line letter None is small = refl
-field_one_line letter (Some n) is small = rw is (decimal_one_line n small)
+field_one_line letter (Some n) is small = rw is (one_line-passes (decimal n) (one_line-decimal n))
 
-chunk_one_line : (o : Option (ℕ × ℕ)) → IfSome o (λ c. (c.0 < 2 ^ 64) × (c.1 < 2 ^ 64)) → IsOneLine (chunk_text o)
+chunk_one_line : (o : Option (ℕ × ℕ)) → IfSome o (λ c. (c.0 < 2 ^ 64) × (c.1 < 2 ^ 64)) → IsSingle (chunk_text o)
 chunk_one_line None small = refl
 chunk_one_line (Some c) small =
-    all_append not_newline (field_text chunk_size_letter (Some c.0)) (field_text chunk_letter (Some c.1))
+    list_all_append is_not_newline (field_text chunk_size_letter (Some c.0)) (field_text chunk_letter (Some c.1))
     (field_one_line chunk_size_letter (Some c.0) refl small.0)
     (field_one_line chunk_letter (Some c.1) refl small.1)
 
-key_one_line : (text : List ℕ) → IsKeyText text → IsOneLine text
+key_one_line : (text : List ℕ) → IsKeyText text → IsSingle text
 key_one_line text is =
     let k = is.parts in
-    let name : IsOneLine k.name = one_line_by_bytes k.name is.key.name.one_line in
+    let name : IsSingle k.name = one_line-passes k.name is.key.name.one_line in
     let end = dash ∷ dash ∷ k.name in
     let chunk = chunk_text k.chunk ++ end in
     let mtime = field_text mtime_letter k.mtime ++ chunk in
     let size = field_text size_letter k.size ++ mtime in
-    subst IsOneLine (sym is.spelled)
-    (all_append not_newline k.backend size (backend_one_line k.backend is.key.backend)
-    (all_append not_newline (field_text size_letter k.size) mtime (field_one_line size_letter k.size refl is.key.size)
-    (all_append not_newline (field_text mtime_letter k.mtime) chunk (field_one_line mtime_letter k.mtime refl is.key.mtime)
-    (all_append not_newline (chunk_text k.chunk) end (chunk_one_line k.chunk is.key.chunk) name))))
+    subst IsSingle (sym is.spelled)
+    (list_all_append is_not_newline k.backend size (backend_one_line k.backend is.key.backend)
+    (list_all_append is_not_newline (field_text size_letter k.size) mtime (field_one_line size_letter k.size refl is.key.size)
+    (list_all_append is_not_newline (field_text mtime_letter k.mtime) chunk (field_one_line mtime_letter k.mtime refl is.key.mtime)
+    (list_all_append is_not_newline (chunk_text k.chunk) end (chunk_one_line k.chunk is.key.chunk) name))))
 
 -- ---- its file
 
-escaped_one_line : (b : ℕ) → not_newline b ≡ true → IsOneLine (escaped b)
+escaped_one_line : (b : ℕ) → is_not_newline b ≡ true → IsSingle (escaped b)
 escaped_one_line b is =
     elim (cases_Bool (b == ampersand)) [
       | inl one ↦ rw one refl
@@ -153,11 +103,11 @@ escaped_one_line b is =
       ]
     ]
 
-file_one_line : (text : List ℕ) → IsOneLine text → IsOneLine (file_text text)
+file_one_line : (text : List ℕ) → IsSingle text → IsSingle (file_text text)
 file_one_line [] all = refl
 file_one_line (b ∷ bs) all =
-    let both = both_true (not_newline b) (list_all not_newline bs) all in
-    all_append not_newline (escaped b) (file_text bs) (escaped_one_line b both.0) (file_one_line bs both.1)
+    let both = and_parts (is_not_newline b) (list_all is_not_newline bs) all in
+    list_all_append is_not_newline (escaped b) (file_text bs) (escaped_one_line b both.0) (file_one_line bs both.1)
 
 -- ---- its location log
 
@@ -180,13 +130,13 @@ path_is key =
     ∙ append_assoc (first_of key) (slash ∷ (second_of key ++ slash ∷ file_text key)) (codes ".log")
     ∙ ap (λ (w : List ℕ). first_of key ++ slash ∷ w) (append_assoc (second_of key) (slash ∷ file_text key) (codes ".log"))
 
-path_one_line : (key : List ℕ) → IsOneLine key → IsOneLine (location_path key)
+path_one_line : (key : List ℕ) → IsSingle key → IsSingle (location_path key)
 path_one_line key is =
-    let dirs = dirs_pass not_newline refl refl key in
-    subst IsOneLine (sym (path_is key))
-    (all_append not_newline (first_of key) (slash ∷ (second_of key ++ slash ∷ (file_text key ++ codes ".log"))) dirs.0
-    (all_append not_newline (second_of key) (slash ∷ (file_text key ++ codes ".log")) dirs.1
-    (all_append not_newline (file_text key) (codes ".log") (file_one_line key is) refl)))
+    let dirs = dirs_pass is_not_newline refl refl key in
+    subst IsSingle (sym (path_is key))
+    (list_all_append is_not_newline (first_of key) (slash ∷ (second_of key ++ slash ∷ (file_text key ++ codes ".log"))) dirs.0
+    (list_all_append is_not_newline (second_of key) (slash ∷ (file_text key ++ codes ".log")) dirs.1
+    (list_all_append is_not_newline (file_text key) (codes ".log") (file_one_line key is) refl)))
 
 append_some : (xs : List ℕ) (y : ℕ) (ys : List ℕ) → xs ++ y ∷ ys ≢ []
 append_some [] y ys is = cc
@@ -207,7 +157,7 @@ not_slash b = not (is_slash b)
 slash_at : (a b : List ℕ) → list_all not_slash a ≡ true → prefix_len not_slash (a ++ slash ∷ b) ≡ length a
 slash_at [] b all = refl
 slash_at (x ∷ xs) b all =
-    let both = both_true (not_slash x) (list_all not_slash xs) all in rw (both.0, slash_at xs b both.1) (omega arith)
+    let both = and_parts (not_slash x) (list_all not_slash xs) all in rw (both.0, slash_at xs b both.1) (omega arith)
 
 after_slash : (a b : List ℕ) → list_all not_slash a ≡ true → after_first is_slash (a ++ slash ∷ b) ≡ b
 after_slash a b all = ap (λ n. drop (n + 1) (a ++ slash ∷ b)) (slash_at a b all) ∙ drop-append-add a (slash ∷ b) 1
@@ -229,5 +179,5 @@ log_name-path key =
 -- a path without a slash is none of a location log
 pub no_location : (key : List ℕ) → list_all not_slash (location_path key) ≡ true → ⊥
 no_location key all =
-    let parts = append_all not_slash (first_of key) (slash ∷ (second_of key ++ slash ∷ (file_text key ++ codes ".log"))) (subst (λ (w : List ℕ). list_all not_slash w ≡ true) (path_is key) all) in
+    let parts = list_all_parts not_slash (first_of key) (slash ∷ (second_of key ++ slash ∷ (file_text key ++ codes ".log"))) (subst (λ (w : List ℕ). list_all not_slash w ≡ true) (path_is key) all) in
     true≢false (sym parts.1)

@@ -1,6 +1,6 @@
 -- The log files of a branch: their paths and their kinds, and the file of a path (git-annex internals: branch files, location
 -- tracking).
-use Rattle.std.specs.Prelude.{◌≢◌, ℕ, ◌-◌, ◌==◌, Bool, if◌then◌else◌, List, [], ◌∷◌, length, take, Option, Some, None, find, bytes_eq}
+use Rattle.std.specs.Prelude.{◌≢◌, ℕ, ◌-◌, ◌==◌, Bool, if◌then◌else◌, List, length, take, Option, Some, None, bytes_eq}
 use Rattle.std.specs.List.{after_first}
 use Rattle.annex_key.specs.FileKey.{key_of_file}
 use Rattle.annex_key.specs.KeyText.{IsKeyText}

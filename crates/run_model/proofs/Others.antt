@@ -2,6 +2,7 @@
 use Rattle.std.proofs.Common.{◌≡◌, ℕ, Bool, false, List, ◌∷◌, Option, Some, None, refl, ap, ◌∙◌}
 use Rattle.std.specs.Prelude.{◌&&◌, if◌then◌else◌}
 use Rattle.std.specs.Option.{unwrap_or}
+use Rattle.annex_base.proofs.Functions.{funext}
 use Rattle.union_merge.specs.Branch.{Files, lines_at}
 use Rattle.trust_groups.specs.Settings.{settings}
 use Rattle.run_data.specs.declared.entry.Entry.{Entry}
@@ -12,10 +13,6 @@ use Rattle.node_model.specs.SetUp.{SetUp}
 use Rattle.run_model.specs.Past.{begun, clock_set, holds, is_of, made}
 use Rattle.run_model.specs.Logs.{before_step, branch, ever, in_drop, is_step, read_at, settings_of}
 use Rattle.run_model.specs.States.{owes, state_of, works}
-
--- functions that agree everywhere are one
-funext : {X Y : Type 0} (f g : X → Y) → ((x : X) → f x ≡ g x) → f ≡ g
-funext f g same i x = same x i
 
 first_none : {X : Type 0} (o : Option X) → first_of o None ≡ o
 first_none None = refl

@@ -2,6 +2,7 @@
 use Rattle.std.proofs.Common.{◌≡◌, ◌≢◌, ℕ, Bool, true, false, eqb, ◌<◌, List, [], ◌∷◌, ◌++◌, length, Some, None, refl, sym, ap, subst, ◌∙◌, append_assoc, arith}
 use Rattle.std.proofs.lemmas.List.{append-nil}
 use Rattle.std.proofs.lemmas.Bool.{eqb-true, eqb-false}
+use Rattle.std.proofs.lemmas.Option.{same_Some}
 use Rattle.script_lang.specs.Words.{space, Spells}
 use Rattle.script_lang.specs.Words.Spells.{Nothing}
 use Rattle.script_lang.specs.Reading.{begins, after_spaces, word_at}
@@ -18,9 +19,6 @@ cut_none line = record {
   back = λ all s. (all, refl, spells_after_spaces line all s);
 }
 
-some_is : {A : Type 0} (x y : A) → Some x ≡ Some y → x ≡ y
-some_is x y e = cc
-
 module _ (line rest : List ℕ) (found : List (List ℕ)) (cut : IsCut line found rest) (begun : begins space rest ≡ false) (some : rest ≢ []) where
   more_on : (x : List ℕ × List ℕ) → word_at rest ≡ Some x → (words : List (List ℕ)) → Spells (after_spaces x.1) words → Spells line ((found ++ x.0 ∷ []) ++ words)
   more_on x at words s =
@@ -31,7 +29,7 @@ module _ (line rest : List ℕ) (found : List (List ℕ)) (cut : IsCut line foun
   more_back x at all s =
       let b = cut.back all s in
       let f : FirstWord rest b.0 = first_word b.2 begun some in
-      let is : (f.word, f.rest) ≡ x = some_is _ x (sym f.found ∙ at) in
+      let is : (f.word, f.rest) ≡ x = same_Some _ x (sym f.found ∙ at) in
       let spelled : Spells (after_spaces x.1) f.words = spells_after_spaces x.1 f.words (subst (λ y. Spells y.1 f.words) is f.spells) in
       (f.words, b.1 ∙ ap (λ ws. found ++ ws) (f.all_are ∙ ap (λ y. y.0 ∷ f.words) is) ∙ sym (append_assoc found (x.0 ∷ []) f.words), spelled)
 

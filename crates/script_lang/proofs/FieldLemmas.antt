@@ -5,17 +5,12 @@ use Rattle.std.specs.Str.{bytes_eq}
 use Rattle.std.specs.Fmt.{decimal}
 use Rattle.std.proofs.lemmas.Bool.{cases_Bool, ltb-false, or_parts, or_from, true≢false}
 use Rattle.std.proofs.lemmas.Slice.Eq.{bytes_eq-Decides}
-use Rattle.std.proofs.lemmas.Option.{slice_get-get_or}
+use Rattle.std.proofs.lemmas.Option.{slice_get-get_or, same_Some}
 use Rattle.std.proofs.lemmas.List.Quantifiers.{position-Some}
 use Rattle.annex_base.specs.Decimal.{number_of}
 use Rattle.annex_base.proofs.DecimalLemmas.{number_is, number_some}
+use Rattle.annex_base.proofs.Options.{some_none}
 use Rattle.script_lang.specs.Lines.{Declared, name_in, name_of}
-
-some_is : {A : Type 0} (x y : A) → Some x ≡ Some y → x ≡ y
-some_is x y e = cc
-
-some_none : {A : Type 0} (x : A) → Some x ≡ None → ⊥
-some_none x e = cc
 
 -- ---- a number
 
@@ -26,7 +21,7 @@ spelled_number : (word : List ℕ) (n : ℕ) → n < 2 ^ 64 → word ≡ decimal
 spelled_number word n small is = ap number_of is ∙ number_is n small
 
 pub number_large : (word : List ℕ) (m greatest : ℕ) → Some m ≡ number_of word → greatest < m → greatest < 2 ^ 64 → (n : ℕ) → (n ≤ greatest) × (word ≡ decimal n) → ⊥
-number_large word m greatest e large fits n h = let same = some_is m n (e ∙ spelled_number word n (omega (arith, h.0, fits)) h.1) in omega (arith, same, h.0, large)
+number_large word m greatest e large fits n h = let same = same_Some m n (e ∙ spelled_number word n (omega (arith, h.0, fits)) h.1) in omega (arith, same, h.0, large)
 
 pub number_missing : (word : List ℕ) (greatest : ℕ) → None ≡ number_of word → greatest < 2 ^ 64 → (n : ℕ) → (n ≤ greatest) × (word ≡ decimal n) → ⊥
 number_missing word greatest e fits n h = some_none n (sym (spelled_number word n (omega (arith, h.0, fits)) h.1) ∙ sym e)

@@ -1,10 +1,8 @@
 -- The words in front of a line, and what follows them.
 use Rattle.std.proofs.Common.{◌≡◌, ℕ, List, [], ◌∷◌, ◌++◌, length, Some, refl, sym, ap, subst, ◌∙◌, arith}
+use Rattle.std.proofs.lemmas.Option.{same_Some}
 use Rattle.script_lang.specs.Words.{Spells, Begins, SpellsFront}
 use Rattle.script_lang.proofs.WordLemmas.{begins_spells, first_part, first_found}
-
-pair_is : (a c : List ℕ × List ℕ) → Some a ≡ Some c → a ≡ c
-pair_is a c e = cc
 
 -- a line begins in one way
 pub record SameFirst (word other rest after : List ℕ) : Type 0 where
@@ -13,7 +11,7 @@ pub record SameFirst (word other rest after : List ℕ) : Type 0 where
 
 pub begins_one : {line word rest other after : List ℕ} → Begins line word rest → Begins line other after → SameFirst word other rest after
 begins_one {word = word} {rest = rest} {other = other} {after = after} b c =
-    let is = pair_is (word, rest) (other, after) (sym (first_found b) ∙ first_found c) in
+    let is = same_Some (word, rest) (other, after) (sym (first_found b) ∙ first_found c) in
     record { same_word = ap (λ x. x.0) is; same_rest = ap (λ x. x.1) is }
 
 -- words in front, and then the words of the rest, are the words of the line

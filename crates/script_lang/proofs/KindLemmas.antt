@@ -2,6 +2,7 @@
 use Rattle.std.proofs.Common.{◌≡◌, ◌≢◌, true, false, true≢false, codes, Some, refl, sym, ap, ◌∙◌}
 use Rattle.std.specs.Str.{bytes_eq}
 use Rattle.std.proofs.lemmas.Slice.Eq.{bytes_eq-Decides}
+use Rattle.std.proofs.lemmas.Option.{same_Some}
 use Rattle.log_lines.specs.declared.entry.LogKind.{LogKind}
 use Rattle.log_lines.specs.declared.entry.LogKind.TheVariants as kinds
 use Rattle.log_lines.specs.Files.{file_name}
@@ -32,8 +33,5 @@ named kinds.GroupPreferred other = refl
 named kinds.Numcopies other = refl
 named kinds.Mincopies other = refl
 
-some_is : (j k : LogKind) → Some j ≡ Some k → j ≡ k
-some_is j k h = cc
-
 pub one_kind : (j k : LogKind) → j ≢ kinds.Location → k ≢ kinds.Location → file_name j ≡ file_name k → j ≡ k
-one_kind j k other another same = some_is j k (sym (named j other) ∙ ap kind_named same ∙ named k another)
+one_kind j k other another same = same_Some j k (sym (named j other) ∙ ap kind_named same ∙ named k another)

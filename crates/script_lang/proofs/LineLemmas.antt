@@ -2,6 +2,7 @@
 use Rattle.std.proofs.Common.{◌≡◌, ℕ, ◌<◌, ◌≤◌, Bool, List, [], ◌∷◌, ◌++◌, length, codes, Option, Some, None, Result, Ok, Err, refl, sym, ap, subst, ◌∙◌, append_assoc, arith}
 use Rattle.std.proofs.lemmas.Bool.{eqb-false}
 use Rattle.std.proofs.lemmas.List.{append-nil, length-append}
+use Rattle.std.proofs.lemmas.Option.{same_Some, none-some}
 use Rattle.annex_base.specs.RepoText.{repo_text}
 use Rattle.annex_base.specs.declared.memory.NoMemory.{NoMemory}
 use Rattle.run_data.specs.declared.entry.LogFile.TheVariants.{Location, Of, Other}
@@ -28,12 +29,6 @@ finds_along P Q on back (Ok None) none = λ c q. none c (back c q)
 finds_along P Q on back (Err e) p = tt
 
 -- ---- one more word in front
-
-pair_is : (a c : List ℕ × List ℕ) → Some a ≡ Some c → a ≡ c
-pair_is a c e = cc
-
-none_some : {A : Type 0} (x : A) → None ≡ Some x → ⊥
-none_some x e = cc
 
 -- a command of more words goes on with a word
 pub record GoesFurther (repos : List Declared) (words : List (List ℕ)) (line : List ℕ) (c : Command) : Type 0 where
@@ -64,11 +59,11 @@ module _ (repos : List Declared) (words : List (List ℕ)) (line : List ℕ) (c 
   cut_back : (x : List ℕ × List ℕ) → first_at line ≡ Some x → length words < length (words_of repos c) → GoesOn repos words line c → GoesOn repos (words ++ x.0 ∷ []) x.1 c
   cut_back x at low g =
       let f = goes_further g.more g.rest g.words_are g.front g.follows low in
-      subst (λ y. GoesOn repos (words ++ y.0 ∷ []) y.1 c) (pair_is (f.next, f.after) x (sym (first_found f.begins) ∙ at)) f.goes
+      subst (λ y. GoesOn repos (words ++ y.0 ∷ []) y.1 c) (same_Some (f.next, f.after) x (sym (first_found f.begins) ∙ at)) f.goes
 
   cut_none : first_at line ≡ None → length words < length (words_of repos c) → GoesOn repos words line c → ⊥
   cut_none none low g =
-      let f = goes_further g.more g.rest g.words_are g.front g.follows low in none_some (f.next, f.after) (sym none ∙ first_found f.begins)
+      let f = goes_further g.more g.rest g.words_are g.front g.follows low in none-some (f.next, f.after) (sym none ∙ first_found f.begins)
 
 -- ---- lines that go on raw
 

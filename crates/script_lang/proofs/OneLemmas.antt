@@ -5,12 +5,15 @@ use Rattle.std.specs.Str.{bytes_eq}
 use Rattle.std.specs.List.{list_any}
 use Rattle.std.proofs.lemmas.Bool.{cases_lt, eqb-false, true≢false}
 use Rattle.std.proofs.lemmas.List.{append-nil, length-append, append_cancel_left, get_or_append_left, get_or_at}
+use Rattle.std.proofs.lemmas.Fmt.{decimal_injective}
+use Rattle.std.proofs.lemmas.Option.{none-some}
 use Rattle.annex_base.specs.RepoText.{IsId, repo_text}
 use Rattle.annex_base.specs.declared.kinds.Level.{Level}
 use Rattle.annex_base.specs.declared.kinds.Level.TheVariants as levels
 use Rattle.annex_base.proofs.RepoLemmas.{one_id, parsed-repo_text}
 use Rattle.annex_base.proofs.DecimalLemmas.{number_is}
 use Rattle.annex_base.specs.Decimal.{number_of}
+use Rattle.annex_base.proofs.Lists.{cons_first}
 use Rattle.log_lines.specs.declared.entry.LogKind.{LogKind}
 use Rattle.log_lines.specs.declared.entry.LogKind.TheVariants as kinds
 use Rattle.log_lines.specs.Files.{file_name}
@@ -87,19 +90,13 @@ start_distinct r = reads_distinct r distinct_none
 
 -- ---- the fields of a command
 
-some_is : {A : Type 0} (x y : A) → Some x ≡ Some y → x ≡ y
-some_is x y e = cc
-
 same_id : (id jd : List ℕ) → IsId id → IsId jd → repo_text id ≡ repo_text jd → id ≡ jd
 same_id id jd is js e = sym (one_id (repo_text id) (repo_text jd) id is refl (sym e) {found = jd} (parsed-repo_text jd js))
-
-same_number : (m n : ℕ) → m < 2 ^ 64 → n < 2 ^ 64 → decimal m ≡ decimal n → m ≡ n
-same_number m n small_m small_n e = some_is m n (sym (number_is m small_m) ∙ ap number_of e ∙ number_is n small_n)
 
 same_offset : (options : List (List ℕ)) (m n : ℕ) → m ≤ 100000000000 → n ≤ 100000000000 → IsOffset options m → IsOffset options n → m ≡ n
 same_offset [] m n small_m small_n is js = is ∙ sym js
 same_offset (o ∷ []) m n small_m small_n is js =
-    same_number m n (omega arith) (omega arith) (append_cancel_left (codes "offset=") (decimal m) (decimal n) (sym is ∙ js))
+    decimal_injective m n (omega arith) (omega arith) (append_cancel_left (codes "offset=") (decimal m) (decimal n) (sym is ∙ js))
 same_offset (o ∷ p ∷ options) m n small_m small_n is js = absurd is
 
 made : JobKind → List ℕ → Option (List ℕ) → Option ℕ → Job
@@ -194,14 +191,14 @@ module _ (repos : List Declared) (closed : Bool) (distinct : AreDistinct repos) 
   same_numcopies r i (Numcopies q j) s t m k =
       let f = same_front repos line (Numcopies r i) (Numcopies q j) s t refl in
       let number : r ≡ q = distinct.same r q m.0 k.0 (ap (λ ws. word ws 1) f.same_words) in
-      ap (λ x. Numcopies x i) number ∙ ap (λ x. Numcopies q x) (same_number i j (omega (arith, m.1)) (omega (arith, k.1)) (ap (λ ws. word ws 2) f.same_words))
+      ap (λ x. Numcopies x i) number ∙ ap (λ x. Numcopies q x) (decimal_injective i j (omega (arith, m.1)) (omega (arith, k.1)) (ap (λ ws. word ws 2) f.same_words))
   same_numcopies r i d s t m k = absurd (apart_lines repos line (Numcopies r i) d s t refl)
 
   same_mincopies : (r i : ℕ) → IsOne (Mincopies r i)
   same_mincopies r i (Mincopies q j) s t m k =
       let f = same_front repos line (Mincopies r i) (Mincopies q j) s t refl in
       let number : r ≡ q = distinct.same r q m.0 k.0 (ap (λ ws. word ws 1) f.same_words) in
-      ap (λ x. Mincopies x i) number ∙ ap (λ x. Mincopies q x) (same_number i j (omega (arith, m.1)) (omega (arith, k.1)) (ap (λ ws. word ws 2) f.same_words))
+      ap (λ x. Mincopies x i) number ∙ ap (λ x. Mincopies q x) (decimal_injective i j (omega (arith, m.1)) (omega (arith, k.1)) (ap (λ ws. word ws 2) f.same_words))
   same_mincopies r i d s t m k = absurd (apart_lines repos line (Mincopies r i) d s t refl)
 
   same_trust : (r target : ℕ) (level : Level) → IsOne (Trust r target level)
@@ -267,7 +264,7 @@ module _ (repos : List Declared) (closed : Bool) (distinct : AreDistinct repos) 
   same_compact r d s t m k = absurd (apart_lines repos line (Compact r) d s t refl)
 
   same_wait : (n : ℕ) → IsOne (Wait n)
-  same_wait n (Wait i) s t m k = ap (λ x. Wait x) (same_number n i m k (ap (λ ws. word ws 1) (same_front repos line (Wait n) (Wait i) s t refl).same_words))
+  same_wait n (Wait i) s t m k = ap (λ x. Wait x) (decimal_injective n i m k (ap (λ ws. word ws 1) (same_front repos line (Wait n) (Wait i) s t refl).same_words))
   same_wait n d s t m k = absurd (apart_lines repos line (Wait n) d s t refl)
 
   same_presence : (key : List ℕ) → IsOne (ShowPresence key)
@@ -347,24 +344,18 @@ abbrev first_byte : List ℕ → ℕ
 first_byte [] = 0
 first_byte (b ∷ bs) = b
 
-cons_head : (x y : ℕ) (xs ys : List ℕ) → x ∷ xs ≡ y ∷ ys → x ≡ y
-cons_head x y xs ys e = cc
-
-none_some : {A : Type 0} (x : A) → None ≡ Some x → ⊥
-none_some x e = cc
-
 plain_hash : (w line rest : List ℕ) → IsPlain w → w ++ line ≡ hash ∷ rest → first_byte w ≡ hash
 plain_hash [] line rest is e = absurd (is.some refl)
-plain_hash (b ∷ bs) line rest is e = cons_head b hash (bs ++ line) rest e
+plain_hash (b ∷ bs) line rest is e = cons_first b hash (bs ++ line) rest e
 
 begins_hash : {line w after : List ℕ} → Begins line w after → (rest : List ℕ) → line ≡ hash ∷ rest → first_byte w ≡ hash
-begins_hash (AfterSpace line w after b) rest e = absurd (let h = cons_head space hash line rest e in omega arith)
+begins_hash (AfterSpace line w after b) rest e = absurd (let h = cons_first space hash line rest e in omega arith)
 begins_hash (WithPlain w after is br) rest e = plain_hash w after rest is e
-begins_hash (WithQuoted w after q br) rest e = absurd (let h = cons_head quote hash (w ++ quote ∷ after) rest e in omega arith)
+begins_hash (WithQuoted w after q br) rest e = absurd (let h = cons_first quote hash (w ++ quote ∷ after) rest e in omega arith)
 
 begins_nothing : (w after : List ℕ) → Begins [] w after → ⊥
 unfolding first_at
-begins_nothing w after b = none_some (w, after) (first_found b)
+begins_nothing w after b = none-some (w, after) (first_found b)
 
 no_hash : (repos : List Declared) (c : Command) → first_byte (word (words_of repos c) 0) ≡ hash → ⊥
 no_hash repos (Compact r) e = omega arith

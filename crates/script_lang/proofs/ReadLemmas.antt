@@ -2,6 +2,7 @@
 use Rattle.std.proofs.Common.{◌≡◌, ◌⊎◌, inl, inr, ℕ, ◌+◌, ◌≤◌, Bool, true, false, not, ◌||◌, List, [], ◌∷◌, ◌++◌, length, refl, sym, ap, subst, ◌∙◌, append_assoc, add_assoc, add-zero, zero-add, arith}
 use Rattle.std.specs.Str.{IsUtf8}
 use Rattle.std.proofs.lemmas.List.{append-nil, length-append}
+use Rattle.annex_base.proofs.Lists.{cons_first, cons_rest, nil_cons, cons_nil}
 use Rattle.script_lang.specs.declared.command.Command.{Command}
 use Rattle.script_lang.specs.Lines.{Declared, declared_by, declared, SpellsLine, MayStand}
 use Rattle.script_lang.specs.Script.{IsSkipped, is_repo, is_closed, Says, Reads, AllStand, most_repositories, waited, waited_by, most_time}
@@ -117,18 +118,6 @@ pub record Taken (before : List Command) (line : List ℕ) (lines : List (List �
 abbrev pub First : List Command → List ℕ → List (List ℕ) → List Command → Type 0
 First before line lines commands = (IsUtf8 line × IsSkipped line × Reads before lines commands) ⊎ Taken before line lines commands
 
-cons_first : (x y : List ℕ) (xs ys : List (List ℕ)) → x ∷ xs ≡ y ∷ ys → x ≡ y
-cons_first x y xs ys e = cc
-
-cons_rest : (x y : List ℕ) (xs ys : List (List ℕ)) → x ∷ xs ≡ y ∷ ys → xs ≡ ys
-cons_rest x y xs ys e = cc
-
-nil_first : (y : List ℕ) (ys : List (List ℕ)) → [] ≡ y ∷ ys → ⊥
-nil_first y ys e = cc
-
-first_nil : (y : List ℕ) (ys : List (List ℕ)) → y ∷ ys ≡ [] → ⊥
-first_nil y ys e = cc
-
 first_skip : (before : List Command) (l : List ℕ) (ls : List (List ℕ)) (commands : List Command) → IsUtf8 l → IsSkipped l → Reads before ls commands
     → (line : List ℕ) (lines : List (List ℕ)) → l ∷ ls ≡ line ∷ lines → First before line lines commands
 first_skip before l ls commands u s r line lines e =
@@ -148,14 +137,14 @@ first_taken before l c ls commands s r line lines e =
 
 pub first_of : {before : List Command} {all : List (List ℕ)} {commands : List Command} → Reads before all commands
     → (line : List ℕ) (lines : List (List ℕ)) → all ≡ line ∷ lines → First before line lines commands
-first_of (End before) line lines e = absurd (nil_first line lines e)
+first_of (End before) line lines e = absurd (nil_cons line lines e)
 first_of (Skip before l ls commands u s r) line lines e = first_skip before l ls commands u s r line lines e
 first_of (Line before l c ls commands s r) line lines e = first_taken before l c ls commands s r line lines e
 
 pub none_of : {before : List Command} {all : List (List ℕ)} {commands : List Command} → Reads before all commands → all ≡ [] → commands ≡ []
 none_of (End before) e = refl
-none_of (Skip before l ls commands u s r) e = absurd (first_nil l ls e)
-none_of (Line before l c ls commands s r) e = absurd (first_nil l ls e)
+none_of (Skip before l ls commands u s r) e = absurd (cons_nil l ls e)
+none_of (Line before l c ls commands s r) e = absurd (cons_nil l ls e)
 
 -- lines in two parts
 pub record Parts (before : List Command) (xs ys : List (List ℕ)) (commands : List Command) : Type 0 where

@@ -3,6 +3,7 @@ use Rattle.std.proofs.Common.{◌≡◌, ◌≢◌, ℕ, Bool, true, false, eqb,
 use Rattle.std.specs.List.{list_all}
 use Rattle.std.proofs.lemmas.Bool.{eqb-false, true≢false}
 use Rattle.std.proofs.lemmas.List.Folds.{list_all-map}
+use Rattle.std.proofs.lemmas.Option.{same_Some, none-some}
 use Rattle.log_lines.specs.LineText.{is_group}
 use Rattle.log_lines.specs.declared.entry.LogKind.{LogKind}
 use Rattle.log_lines.specs.Files.{file_name}
@@ -15,12 +16,6 @@ use Rattle.script_lang.specs.Reading.{first_at, IsNamed, AreNamed, GoesOn, Opens
 use Rattle.script_lang.proofs.WordLemmas.{first_found, found_first, spells_one}
 use Rattle.script_lang.proofs.FormLemmas.{word, mark}
 use Rattle.script_lang.proofs.KindLemmas.{not_location}
-
-pair_is : (a c : List ℕ × List ℕ) → Some a ≡ Some c → a ≡ c
-pair_is a c e = cc
-
-none_some : {A : Type 0} (x : A) → None ≡ Some x → ⊥
-none_some x e = cc
 
 -- words in front begin as the command's words do
 on_mark : (repos : List Declared) (w v : List ℕ) (words : List (List ℕ)) (after : List ℕ) (c : Command) → GoesOn repos (w ∷ v ∷ words) after c
@@ -153,14 +148,14 @@ module _ (repos : List Declared) (closed : Bool) where
   -- ---- location logs that are none
 
   pub location_wordless : (name after : List ℕ) → first_at after ≡ None → (c : Command) → Opens repos closed (codes "log" ∷ name ∷ codes "location" ∷ []) after c → ⊥
-  location_wordless name after none c o = none_some _ (sym none ∙ (location_is name after c o).found)
+  location_wordless name after none c o = none-some _ (sym none ∙ (location_is name after c o).found)
 
   pub location_keyless : (name after key rest : List ℕ) → first_at after ≡ Some (key, rest) → ((k : List ℕ) → (k ≡ key) × IsPlainKey k → ⊥)
       → (c : Command) → Opens repos closed (codes "log" ∷ name ∷ codes "location" ∷ []) after c → ⊥
   location_keyless name after key rest found none c o =
-      let i = location_is name after c o in none i.key (ap (λ x. x.0) (pair_is (i.key, i.rest) (key, rest) (sym i.found ∙ found)), i.plain)
+      let i = location_is name after c o in none i.key (ap (λ x. x.0) (same_Some (i.key, i.rest) (key, rest) (sym i.found ∙ found)), i.plain)
 
   pub location_without_line : (name after key rest : List ℕ) → first_at after ≡ Some (key, rest) → ((t : List ℕ) → (rest ≡ space ∷ t) × (t ≢ []) → ⊥)
       → (c : Command) → Opens repos closed (codes "log" ∷ name ∷ codes "location" ∷ []) after c → ⊥
   location_without_line name after key rest found none c o =
-      let i = location_is name after c o in none i.line (sym (ap (λ x. x.1) (pair_is (i.key, i.rest) (key, rest) (sym i.found ∙ found))) ∙ i.raw, i.some)
+      let i = location_is name after c o in none i.line (sym (ap (λ x. x.1) (same_Some (i.key, i.rest) (key, rest) (sym i.found ∙ found))) ∙ i.raw, i.some)

@@ -3,6 +3,7 @@ use Rattle.std.proofs.Common.{◌≡◌, inl, inr, ℕ, suc, ◌+◌, ◌<◌, �
 use Rattle.std.proofs.lemmas.Bool.{cases_order}
 use Rattle.std.proofs.lemmas.List.{append-nil, length-append}
 use Rattle.std.specs.Str.{IsUtf8}
+use Rattle.annex_base.proofs.Lists.{cons_first, cons_rest}
 use Rattle.script_lang.specs.declared.command.Command.{Command}
 use Rattle.script_lang.specs.declared.command.Command.TheVariants.{Repo, Wait}
 use Rattle.script_lang.specs.Lines.{declared}
@@ -65,12 +66,6 @@ record Between (xs ys us vs : List (List ℕ)) : Type 0 where
   pub middle : List (List ℕ)
   pub longer : us ≡ xs ++ middle
   pub shorter : ys ≡ middle ++ vs
-
-cons_first : (x y : List ℕ) (xs ys : List (List ℕ)) → x ∷ xs ≡ y ∷ ys → x ≡ y
-cons_first x y xs ys e = cc
-
-cons_rest : (x y : List ℕ) (xs ys : List (List ℕ)) → x ∷ xs ≡ y ∷ ys → xs ≡ ys
-cons_rest x y xs ys e = cc
 
 between : (xs ys us vs : List (List ℕ)) → xs ++ ys ≡ us ++ vs → length xs ≤ length us → Between xs ys us vs
 between [] ys us vs e low = record { middle = us; longer = refl; shorter = e }

@@ -3,6 +3,8 @@ use Rattle.std.proofs.Common.{◌≡◌, ◌≢◌, inl, inr, ℕ, suc, ◌+◌,
 use Rattle.std.specs.List.{prefix_len, list_all}
 use Rattle.std.proofs.lemmas.Bool.{cond_both, and_parts, and_from, cases_Bool, eqb-true, eqb-false, eq-eqb, ne_eqb, not-false, not-true}
 use Rattle.std.proofs.lemmas.List.{take-append-drop, take_at, drop_at, length-drop, length-append}
+use Rattle.std.proofs.lemmas.Option.{same_Some, none-some}
+use Rattle.annex_base.proofs.Lists.{cons_rest, cons_first, nil_cons}
 use Rattle.script_lang.specs.Words.{space, quote, IsBreak, IsPlain, Spells, Begins}
 use Rattle.script_lang.specs.Words.Spells.{Nothing, Space, Plain, Quoted}
 use Rattle.script_lang.specs.Words.Begins.{AfterSpace, WithPlain, WithQuoted}
@@ -95,9 +97,6 @@ first_word (Quoted word line words all br s) no_space some = record { word = wor
 
 -- ---- what was found is the first word
 
-some_is : {A : Type 0} (x y : A) → Some x ≡ Some y → x ≡ y
-some_is x y e = cc
-
 Quoted_is : List ℕ → List ℕ × List ℕ → Type 0
 Quoted_is bytes x = (bytes ≡ x.0 ++ quote ∷ x.1) × (list_all is_not_quote x.0 ≡ true) × IsBreak x.1
 
@@ -108,7 +107,7 @@ closed_is word (b ∷ after) x e all stops =
     elim (cases_Bool (is_break after)) [
       | inl ends ↦
           let is : Some (word, after) ≡ Some x = rw ends at e in
-          subst (λ y. (word ++ b ∷ after ≡ y.0 ++ quote ∷ y.1) × (list_all is_not_quote y.0 ≡ true) × IsBreak y.1) (some_is (word, after) x is)
+          subst (λ y. (word ++ b ∷ after ≡ y.0 ++ quote ∷ y.1) × (list_all is_not_quote y.0 ≡ true) × IsBreak y.1) (same_Some (word, after) x is)
           (ap (λ c. word ++ c ∷ after) (eqb-true b quote (not-false _ stops)), all, break_is after ends)
       | inr goes ↦ let is : None ≡ Some x = rw goes at e in absurd cc
     ]
@@ -143,7 +142,7 @@ word_begins (b ∷ bs) x e no_space some =
           rw (eqb-true b quote quoted, is.0) (WithQuoted x.0 x.1 is.1 is.2)
       | inr unquoted ↦
           let n = prefix_len is_not_space (b ∷ bs) in
-          let is : (take n (b ∷ bs), drop n (b ∷ bs)) ≡ x = some_is _ x (rw unquoted at e) in
+          let is : (take n (b ∷ bs), drop n (b ∷ bs)) ≡ x = same_Some _ x (rw unquoted at e) in
           let at_space = eqb-false b space no_space in
           subst (λ l. Begins l x.0 x.1) (take-append-drop n (b ∷ bs))
           (subst (λ y. Begins (take n (b ∷ bs) ++ drop n (b ∷ bs)) y.0 y.1) is
@@ -177,7 +176,7 @@ word_shorter (b ∷ bs) x e no_space some =
       | inl quoted ↦ quoted_shorter b bs x (rw quoted at e)
       | inr unquoted ↦
           let n = prefix_len is_not_space (b ∷ bs) in
-          let is : (take n (b ∷ bs), drop n (b ∷ bs)) ≡ x = some_is _ x (rw unquoted at e) in
+          let is : (take n (b ∷ bs), drop n (b ∷ bs)) ≡ x = same_Some _ x (rw unquoted at e) in
           subst (λ y. length y.1 < length (b ∷ bs)) is (plain_shorter b bs (eqb-false b space no_space))
     ]
 
@@ -186,27 +185,18 @@ word_shorter (b ∷ bs) x e no_space some =
 pub after_spaces_shorter : (line : List ℕ) → length (after_spaces line) ≤ length line
 after_spaces_shorter line = omega (arith, length-drop (prefix_len is_space line) line)
 
-cons_tail : (x y : ℕ) (xs ys : List ℕ) → x ∷ xs ≡ y ∷ ys → xs ≡ ys
-cons_tail x y xs ys e = cc
-
-cons_head : (x y : ℕ) (xs ys : List ℕ) → x ∷ xs ≡ y ∷ ys → x ≡ y
-cons_head x y xs ys e = cc
-
-nil_cons : (x : ℕ) (xs : List ℕ) → [] ≡ x ∷ xs → ⊥
-nil_cons x xs e = cc
-
 quote_space : (xs ys : List ℕ) → quote ∷ xs ≡ space ∷ ys → ⊥
-quote_space xs ys e = let h = cons_head quote space xs ys e in omega (arith, h)
+quote_space xs ys e = let h = cons_first quote space xs ys e in omega (arith, h)
 
 not_space_is : (b : ℕ) (bs : List ℕ) → list_all is_not_space (b ∷ bs) ≡ true → eqb b space ≡ false
 not_space_is b bs all = not-true _ (and_parts (is_not_space b) (list_all is_not_space bs) all).0
 
 plain_at_space : (word line rest : List ℕ) → IsPlain word → word ++ line ≡ space ∷ rest → ⊥
 plain_at_space [] line rest is e = is.some refl
-plain_at_space (b ∷ bs) line rest is e = eqb-false b space (not_space_is b bs is.no_space) (cons_head b space (bs ++ line) rest e)
+plain_at_space (b ∷ bs) line rest is e = eqb-false b space (not_space_is b bs is.no_space) (cons_first b space (bs ++ line) rest e)
 
 spells_along : (line rest : List ℕ) (words : List (List ℕ)) → Spells line words → space ∷ line ≡ space ∷ rest → Spells rest words
-spells_along line rest words s e = subst (λ l. Spells l words) (cons_tail space space line rest e) s
+spells_along line rest words s e = subst (λ l. Spells l words) (cons_rest space space line rest e) s
 
 spells_after : {line : List ℕ} {words : List (List ℕ)} → Spells line words → (rest : List ℕ) → line ≡ space ∷ rest → Spells rest words
 spells_after Nothing rest e = absurd (nil_cons space rest e)
@@ -256,7 +246,7 @@ nothing_spelled (Quoted word line words all br s) e = absurd cc
 same_first : (line word rest : List ℕ) (words all : List (List ℕ)) → word_at line ≡ Some (word, rest) → FirstWord line all
     → ((more : List (List ℕ)) → Spells rest more → words ≡ more) → word ∷ words ≡ all
 same_first line word rest words all found f one =
-    let is : (f.word, f.rest) ≡ (word, rest) = some_is _ (word, rest) (sym f.found ∙ found) in
+    let is : (f.word, f.rest) ≡ (word, rest) = same_Some _ (word, rest) (sym f.found ∙ found) in
     let spelled : Spells rest f.words = subst (λ y. Spells y.1 f.words) is f.spells in
     ap (λ ws. word ∷ ws) (one f.words spelled) ∙ ap (λ y. y.0 ∷ f.words) (sym is) ∙ sym f.all_are
 
@@ -304,13 +294,10 @@ first_found (AfterSpace line word rest b) = ap word_in (after_space line) ∙ fi
 first_found (WithPlain word rest is br) = plain_first word rest is br
 first_found (WithQuoted word rest all br) = quoted_first word rest all br
 
-none_some : {A : Type 0} (x : A) → None ≡ Some x → ⊥
-none_some x e = cc
-
 -- what is found begins the line
 pub found_first : (line : List ℕ) (x : List ℕ × List ℕ) → first_at line ≡ Some x → Begins line x.0 x.1
 unfolding first_at
-found_first [] x e = absurd (none_some x e)
+found_first [] x e = absurd (none-some x e)
 found_first (b ∷ bs) x e =
     elim (cases_Bool (eqb b space)) [
       | inl is ↦

@@ -1,3 +1,5 @@
+//! Why a text is no script, and the limits of scripts.
+
 ghost use Rattle.std.specs.Prelude.{◌≡◌};
 ghost use Rattle.script_lang.specs.Script.{quantity_name, limit_of};
 

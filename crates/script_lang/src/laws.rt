@@ -1,3 +1,5 @@
+//! The law that a text has one reading.
+
 ghost use Rattle.std.specs.Prelude.{◌≡◌, List, ℕ};
 ghost use Rattle.script_lang.specs.declared.command.Command.{Command};
 ghost use Rattle.script_lang.specs.Script.{IsScript, IsBadLine, IsCrowded, IsLate};

@@ -1,3 +1,5 @@
+//! The lines of a text, read one after another.
+
 ghost use Rattle.std.specs.Prelude.{◌≡◌, ◌≤◌, ◌+◌, ◌<◌, ◌^◌, ◌∷◌, ◌++◌, [], ◌&&◌, ◌||◌, not, nat_le, length, map, OnOk, MatchResult, IsTrue, ◌↔◌};
 ghost use Rattle.std.specs.Str.{IsUtf8};
 ghost use Rattle.script_lang.specs.Lines.{declared, declared_by};

@@ -1,3 +1,5 @@
+//! Scripts: a text as the list of its commands.
+
 ghost use Rattle.std.specs.Prelude.{◌≡◌, ◌⊎◌, List, ℕ, IfOk, MatchResult, map};
 ghost use Rattle.script_lang.specs.declared.command.Command.{Command};
 ghost use Rattle.script_lang.specs.declared.fault.ScriptFault.TheVariants as faults;

@@ -1,3 +1,5 @@
+//! The words that say what a line is.
+
 ghost use Rattle.std.specs.Prelude.{◌≡◌};
 ghost use Rattle.script_lang.specs.Reading.{Found};
 ghost use Rattle.script_lang.specs.Verbs.{pair_word, triple_word, quadruple_word, rest_word, triple_show_word, quadruple_show_word};

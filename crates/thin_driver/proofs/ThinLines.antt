@@ -11,6 +11,7 @@ use Rattle.annex_base.specs.declared.kinds.Level.{Level}
 use Rattle.annex_base.specs.declared.kinds.Level.TheVariants as levels
 use Rattle.annex_base.specs.StampText.{stamp_text, digits_after_point, fraction_text}
 use Rattle.annex_base.specs.Lines.{newline}
+use Rattle.annex_base.proofs.Lists.{list_all_append}
 use Rattle.log_lines.specs.declared.entry.LogKind.{LogKind}
 use Rattle.log_lines.specs.declared.entry.LogKind.TheVariants as kinds
 use Rattle.log_lines.specs.declared.entry.Topic.{Topic}
@@ -20,17 +21,15 @@ use Rattle.log_lines.specs.declared.entry.Value.TheVariants as values
 use Rattle.log_lines.specs.declared.entry.Entry.{Entry}
 use Rattle.log_lines.specs.LineText.{space, stamp_mark, topic_text, value_text, spaced_value, level_letter, stamp_first, stamp_last, line_text, repo_line_text, number_line_text}
 use Rattle.log_lines.specs.Reading.{is_not_newline}
-use Rattle.log_lines.proofs.WordLemmas.{all_append}
-use Rattle.log_lines.proofs.Steps.{both_true}
 use Rattle.union_merge.specs.LineSet.{IsLine}
-use Rattle.std.proofs.lemmas.Bool.{true≢false}
+use Rattle.std.proofs.lemmas.Bool.{true≢false, and_parts}
 
 -- no byte is a newline
 abbrev pub IsSingle : List ℕ → Type 0
 IsSingle bytes = list_all is_not_newline bytes ≡ true
 
 pub single_append : (xs ys : List ℕ) → IsSingle xs → IsSingle ys → IsSingle (xs ++ ys)
-single_append xs ys h k = all_append is_not_newline xs ys h k
+single_append xs ys h k = list_all_append is_not_newline xs ys h k
 
 single_cons : (b : ℕ) (bs : List ℕ) → is_not_newline b ≡ true → IsSingle bs → IsSingle (b ∷ bs)
 single_cons b bs h k = rw h k
@@ -152,7 +151,7 @@ first_some time = some_right (stamp_text time) (space ∷ []) (one_some space []
 no_newline : (line : List ℕ) → IsSingle line → ¬ Member newline line
 no_newline [] single = λ among. among
 no_newline (b ∷ bs) single = λ among.
-    let both = both_true (is_not_newline b) (list_all is_not_newline bs) single in
+    let both = and_parts (is_not_newline b) (list_all is_not_newline bs) single in
     elim among [
       | inl same ↦ true≢false (sym both.0 ∙ ap is_not_newline (sym same))
       | inr later ↦ no_newline bs both.1 later

@@ -4,10 +4,10 @@ use Rattle.std.specs.Prelude.{if◌then◌else◌, bytes_eq}
 use Rattle.std.specs.List.{list_any}
 use Rattle.std.proofs.lemmas.Bool.{cases_Bool}
 use Rattle.annex_base.specs.Lists.{Each, Member}
-use Rattle.log_lines.proofs.CompactLemmas.{filter_member, member_filter}
 use Rattle.union_merge.specs.LineSet.{IsLine, IsLineSet, union}
 use Rattle.union_merge.specs.Branch.{Files, IsBranch, file_at, lines_at, merged_file}
 use Rattle.annex_base.specs.ByteOrder.{IsInOrder}
+use Rattle.annex_base.proofs.Lists.{Member-filter_parts, Member-filter_from}
 use Rattle.union_merge.proofs.SetLemmas.{Member-union, union-left, union-right, union-in_order, union-is}
 use Rattle.union_merge.proofs.BranchLemmas.{Paths, lines_at-tied, lines_at-other, lines_at-missing, lines_at-is_set, empty-is_branch, with_file-is_branch, tail-is_branch, first_apart, merged_file-is_branch}
 use Rattle.union_merge.proofs.MergeLemmas.{lines_at-merged_file_same, lines_at-merged_file_other}
@@ -63,7 +63,7 @@ thin_branch repos (e ∷ past) thin q =
 union_unknown : (xs ys : Lines) → IsInOrder xs → union xs (filter (λ line. not (list_any (bytes_eq line) xs)) ys) ≡ union xs ys
 union_unknown xs ys sorted = union-is xs ys (union xs new) sorted (union-in_order xs new sorted) (λ z among. elim (Member-union z xs new among) [
   | inl left ↦ inl left
-  | inr right ↦ inr (filter_member unknown_line ys z right).0
+  | inr right ↦ inr (Member-filter_parts unknown_line ys z right).0
 ]) (λ z left. union-left z xs new left) there
   where
     unknown_line : List ℕ → Bool
@@ -75,7 +75,7 @@ union_unknown xs ys sorted = union-is xs ys (union xs new) sorted (union-in_orde
     there : (z : List ℕ) → Member z ys → Member z (union xs new)
     there z among = elim (cases_Bool (list_any (bytes_eq z) xs)) [
       | inl known ↦ union-left z xs new (any_member z xs known)
-      | inr other ↦ union-right z xs new (member_filter unknown_line ys z among (ap not other))
+      | inr other ↦ union-right z xs new (Member-filter_from unknown_line ys z among (ap not other))
     ]
 
 some_same : (past : List Entry) (r : ℕ) (file : LogFile) (new : Lines) → kept (log_some past r file new) r (file_path file) ≡ union (kept past r (file_path file)) new

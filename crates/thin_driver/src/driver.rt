@@ -1,3 +1,5 @@
+//! The run of a script so far, and how an entry is added to it.
+
 ghost use Rattle.std.specs.Prelude.{◌≡◌, ◌<◌, ◌^◌, length, []};
 
 use crate::tally::Tally;

@@ -1,3 +1,5 @@
+//! The evidence of a drop, as its outcome states it.
+
 ghost use Rattle.std.specs.Prelude.{◌≡◌, ◌&&◌, ◌==◌, ◌<◌, ◌^◌, length, filter, IfOk};
 ghost use Rattle.std.specs.List.{range_with_len, list_any};
 ghost use Rattle.drop_proof.specs.declared.rule.Side.TheVariants.{Local};

@@ -1,3 +1,5 @@
+//! The numbers of a repository's next job and entry.
+
 ghost use Rattle.std.specs.Prelude.{◌≡◌, ◌+◌, IfOk, if◌then◌else◌};
 ghost use Rattle.thin_model.specs.Past.{is_begin};
 

@@ -19,7 +19,8 @@ use Rattle.log_lines.specs.declared.entry.Value.TheVariants as values
 use Rattle.log_lines.specs.LineText.{IsRepoLine, IsLevelBody}
 use Rattle.log_lines.specs.Newest.{newest_of}
 use Rattle.log_lines.specs.Keeping.{Says}
-use Rattle.log_lines.proofs.NewestLemmas.{newest_of_none}
+use Rattle.log_lines.proofs.NewestLemmas.{newest_of_none, newest_reading}
+use Rattle.log_lines.proofs.PutLemmas.{found_by_topic}
 use Rattle.hash_dirs.specs.LogPath.{location_path}
 use Rattle.log_lines.specs.Files.{file_name}
 use Rattle.trust_groups.specs.Settings.{Lines, claims, is_present, level, level_in, settings, value_in}
@@ -73,7 +74,7 @@ present_is (values.Number n) h = cc
 -- of a repository that isn't dead, the claim is what its newest status says
 claimed_said : (lines : Lines) (key id : List ℕ) → level lines id ≢ levels.Dead → list_any (λ x. bytes_eq x id) (claims lines key) ≡ true → present_said (lines (location_path key)) id ≡ true
 claimed_said lines key id alive h =
-    let is : IsClaimed lines key id = (claims_exact lines key id).0 (any_member id (claims lines key) h) in
+    let is : IsClaimed lines key id = (claims_exact newest_reading found_by_topic lines key id).0 (any_member id (claims lines key) h) in
     ap (λ o. has_present (value_in o)) is.newest ∙ ap is_present is.present
 
 said_claimed : (lines : Lines) (key id : List ℕ) → level lines id ≢ levels.Dead → present_said (lines (location_path key)) id ≡ true → list_any (λ x. bytes_eq x id) (claims lines key) ≡ true
@@ -81,7 +82,7 @@ said_claimed lines key id alive h = go (newest_of kinds.Location (lines (locatio
   where
     go : (o : Option LogEntry) → newest_of kinds.Location (lines (location_path key)) (topics.Repo id) ≡ o → has_present (value_in o) ≡ true → list_any (λ x. bytes_eq x id) (claims lines key) ≡ true
     go None is present = cc
-    go (Some e) is present = member_any id (claims lines key) ((claims_exact lines key id).1 (record { entry = e; newest = is; present = present_is e.value present; alive = alive }))
+    go (Some e) is present = member_any id (claims lines key) ((claims_exact newest_reading found_by_topic lines key id).1 (record { entry = e; newest = is; present = present_is e.value present; alive = alive }))
 
 -- ---- standings
 

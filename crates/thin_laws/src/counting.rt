@@ -1,3 +1,5 @@
+//! How many repositories have the content of a key.
+
 ghost use Rattle.std.specs.Prelude.{◌≡◌};
 ghost use Rattle.thin_model.specs.Safety.{copies_at};
 

@@ -4,11 +4,11 @@ use Rattle.std.proofs.lemmas.Bool.Decides.{eqb_tells}
 use Rattle.annex_base.specs.ByteOrder.{IsInOrder}
 use Rattle.annex_base.specs.Lists.{Member, Each}
 use Rattle.annex_base.proofs.TextOrder.{order_nil, order_cons, order_head, order_tail, BeforeAll-member, BeforeAll-from_members}
-use Rattle.annex_base.proofs.Lists.{Each-member, Each-from_members}
+use Rattle.annex_base.proofs.Lists.{Each-member, Each-from_members, Member-filter_parts}
+use Rattle.annex_base.proofs.Conditions.{by_test}
 use Rattle.log_lines.specs.declared.entry.LogKind.{LogKind}
 use Rattle.log_lines.specs.Newest.{compacted}
-use Rattle.log_lines.proofs.NewerLemmas.{by_test}
-use Rattle.log_lines.proofs.CompactLemmas.{filter_member, compacted_among}
+use Rattle.log_lines.proofs.CompactLemmas.{compacted_among}
 use Rattle.union_merge.specs.LineSet.{IsLine, IsLineSet, union}
 use Rattle.union_merge.specs.Branch.{Files, IsBranch, file_at, lines_at, with_file, merged_file}
 use Rattle.union_merge.proofs.SetLemmas.{Member-union, union-left, union-right, union-in_order, union-is, union-nil}
@@ -41,7 +41,7 @@ filter_in_order p [] sorted = order_nil
 filter_in_order p (x ∷ xs) sorted =
     let rest = filter_in_order p xs (order_tail x xs sorted) in
     by_test (p x)
-    (λ t. rw t (order_cons x (filter p xs) (BeforeAll-from_members x (filter p xs) (λ y among. BeforeAll-member x y xs (order_head x xs sorted) (filter_member p xs y among).0)) rest))
+    (λ t. rw t (order_cons x (filter p xs) (BeforeAll-from_members x (filter p xs) (λ y among. BeforeAll-member x y xs (order_head x xs sorted) (Member-filter_parts p xs y among).0)) rest))
     (λ t. rw t rest)
 
 pub compacted_lines : (kind : LogKind) (lines : Lines) → IsLineSet lines → Each IsLine (compacted kind lines)

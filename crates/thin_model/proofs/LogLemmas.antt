@@ -3,11 +3,12 @@ use Rattle.std.proofs.Common.{◌≡◌, ◌≢◌, ◌⊎◌, inl, inr, ℕ, tr
 use Rattle.std.specs.Str.{bytes_eq}
 use Rattle.std.proofs.lemmas.Bool.{cases_Bool}
 use Rattle.std.proofs.lemmas.Slice.Eq.{bytes_eq-Decides}
+use Rattle.annex_base.proofs.Lists.{Member-append_cases, Member-append_left, Member-append_right}
 use Rattle.log_lines.specs.declared.entry.LogKind.{LogKind}
 use Rattle.log_lines.specs.declared.entry.LogKind.TheVariants as kinds
 use Rattle.log_lines.specs.Newest.{newest, ReadAlike}
 use Rattle.log_lines.proofs.NewestLemmas.{alike_by_members}
-use Rattle.log_lines.proofs.CompactLemmas.{member_append, append_first, append_second, compacted_alike, alike_both}
+use Rattle.log_lines.proofs.CompactLemmas.{compacted_alike, alike_both}
 use Rattle.union_merge.specs.LineSet.{union}
 use Rattle.union_merge.specs.Branch.{Files, file_at, or_none, lines_at, with_file, merged_file}
 use Rattle.union_merge.proofs.SetLemmas.{Member-union, union-left, union-right}
@@ -57,8 +58,8 @@ location_is_of key (Other name) is = inr refl
 
 union_alike : (kind : LogKind) (xs ys : Lines) → ReadAlike kind (union xs ys) (ys ++ xs)
 union_alike kind xs ys = alike_by_members kind (union xs ys) (ys ++ xs) (λ z. (
-  λ among. elim (Member-union z xs ys among) [ inl one ↦ append_second ys xs z one | inr other ↦ append_first ys xs z other ],
-  λ among. elim (member_append ys xs z among) [ inl other ↦ union-right z xs ys other | inr one ↦ union-left z xs ys one ],
+  λ among. elim (Member-union z xs ys among) [ inl one ↦ Member-append_right ys xs z one | inr other ↦ Member-append_left ys xs z other ],
+  λ among. elim (Member-append_cases ys xs z among) [ inl other ↦ union-right z xs ys other | inr one ↦ union-left z xs ys one ],
 ))
 
 log_alike : (kind : LogKind) (path : List ℕ) (file : LogFile) (files : Files) (lines all : Lines) → ReadAlike kind (lines_at files path) all → ReadAlike kind (lines_at (merged_file files (file_path file) lines) path) (added_by path (Log file) lines ++ all)

@@ -1,3 +1,5 @@
+//! Which repositories have the content of which keys.
+
 ghost use Rattle.std.specs.Prelude.{◌≡◌, ◌<◌, ◌≤◌, ℕ, List, [], ◌∷◌, false, IfOk, OnOk, OnErr};
 ghost use Rattle.std.specs.BTreeSet.{contains};
 ghost use Rattle.run_data.specs.declared.entry.Entry.{Entry};

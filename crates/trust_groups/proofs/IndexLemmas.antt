@@ -10,12 +10,13 @@ use Rattle.std.proofs.lemmas.Cmp.{nat_list_cmp_total, tied_itself}
 use Rattle.std.proofs.lemmas.Map.Steps.{set_value_same}
 use Rattle.std.proofs.lemmas.Map.Text.{is_eq-slice_cmp}
 use Rattle.std.proofs.lemmas.Slice.Eq.{bytes_eq-Decides}
+use Rattle.std.proofs.lemmas.Option.{none-some}
+use Rattle.std.proofs.lemmas.Bool.{false_from_ne_true}
 use Rattle.annex_base.specs.ByteOrder.{text_cmp}
 use Rattle.log_lines.specs.Index.{Index}
-use Rattle.log_lines.proofs.Steps.{none_some, false_by}
-use Rattle.log_lines.proofs.NewerLemmas.{by_test}
-use Rattle.log_lines.proofs.PutLemmas.{by_order}
 use Rattle.annex_base.specs.ByteOrder.{path_cmp}
+use Rattle.annex_base.proofs.Conditions.{by_test}
+use Rattle.annex_base.proofs.TextOrder.{by_order}
 use Rattle.trust_groups.specs.Adding.{indices_with}
 use Rattle.trust_groups.specs.Reads.{Indices, index_at, seen}
 
@@ -56,10 +57,10 @@ own_path : (x : List ℕ) → is_eq (text_cmp x x) ≡ true
 own_path x = ap is_eq (tied_itself nat_list_cmp_total x)
 
 apart : (x y z : List ℕ) → (x ≡ y → ⊥) → is_eq (text_cmp x z) ≡ true → is_eq (text_cmp y z) ≡ false
-apart x y z other h = false_by (is_eq (text_cmp y z)) (λ t. other (same_path x z h ∙ sym (same_path y z t)))
+apart x y z other h = false_from_ne_true (is_eq (text_cmp y z)) (λ t. other (same_path x z h ∙ sym (same_path y z t)))
 
 pub set_own : (es : Indices) (path : List ℕ) (old index : Index) → index_at es path ≡ Some old → index_at (indices_with es path index) path ≡ Some index
-set_own [] path old index h = absurd (none_some old h)
+set_own [] path old index h = absurd (none-some old h)
 set_own (e ∷ es) path old index h =
     by_test (is_eq (text_cmp path e.0)) (λ t. rw (t, t) refl) (λ t. rw (t, t) (set_own es path old index (rw t at h)))
 

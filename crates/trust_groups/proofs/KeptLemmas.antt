@@ -1,18 +1,17 @@
 -- The claims and grouped repositories of entries, and that they are those of the branch which the entries were read of.
 use Rattle.std.proofs.Common.{◌≡◌, ◌≢◌, ℕ, Bool, not, ◌&&◌, List, [], ◌∷◌, ◌++◌, filter, Option, Some, None, Result, Ok, Err, IfOk, refl, sym, ap, ◌∙◌, append_assoc}
 use Rattle.std.specs.List.Sorted.{IsStrictlySortedBy}
+use Rattle.std.proofs.lemmas.Bool.{and_parts}
 use Rattle.annex_base.specs.ByteOrder.{text_cmp}
 use Rattle.annex_base.specs.Lists.{Member}
 use Rattle.annex_base.specs.declared.kinds.Level.{Level}
+use Rattle.annex_base.proofs.Conditions.{by_test}
+use Rattle.annex_base.proofs.Lists.{Member-filter_parts}
 use Rattle.annex_base.specs.declared.kinds.Level.TheVariants as levels
 use Rattle.log_lines.specs.declared.entry.LogKind.TheVariants as kinds
 use Rattle.log_lines.specs.declared.entry.Topic.TheVariants as topics
 use Rattle.log_lines.specs.declared.entry.Entry.{Entry}
 use Rattle.log_lines.specs.Newest.{newest}
-use Rattle.log_lines.proofs.Steps.{both_true}
-use Rattle.log_lines.proofs.NewerLemmas.{by_test}
-use Rattle.log_lines.proofs.PutLemmas.{IsRising}
-use Rattle.log_lines.proofs.CompactLemmas.{filter_member}
 use Rattle.log_lines.specs.Files.{file_name}
 use Rattle.hash_dirs.specs.LogPath.{location_path}
 use Rattle.trust_groups.specs.Settings.{Lines, level, is_present, repo_of, repos_of, are_dead, is_claim, claims, has_groups, settings}
@@ -22,7 +21,7 @@ use Rattle.trust_groups.specs.Kept.{level_among, groups_among, text_among, numbe
 use Rattle.trust_groups.specs.Reads.{Indices, IsIndexOf, Reads, entries_at, entries_or_none, index_at, kind_at}
 use Rattle.trust_groups.specs.View.{entries_of, settings_of}
 use Rattle.trust_groups.proofs.PathLemmas.{location_kind}
-use Rattle.trust_groups.proofs.RepoLemmas.{repos_member, repos_sorted}
+use Rattle.trust_groups.proofs.RepoLemmas.{IsRising, repos_member, repos_sorted}
 use Rattle.trust_groups.proofs.ClaimLemmas.{not_dead}
 
 pub ok_then : {T E : Type 0} {P Q : T → Type 0} (r : Result T E) → IfOk r P → ((v : T) → P v → Q v) → IfOk r Q
@@ -69,8 +68,8 @@ claims_among-sorted level es rising = repos_sorted (claims_by level) es rising
 pub claims_among-alive : (level : List ℕ → Level) (es : List Entry) (repo : List ℕ) → Member repo (claims_among level es) → level repo ≢ levels.Dead
 claims_among-alive level es repo among =
     let found = repos_member (filter (claims_by level) es) repo among in
-    let stands = filter_member (claims_by level) es found.entry found.among in
-    let both = both_true (is_present found.entry.value) (not (any_dead level (repo_of found.entry.topic))) stands.1 in
+    let stands = Member-filter_parts (claims_by level) es found.entry found.among in
+    let both = and_parts (is_present found.entry.value) (not (any_dead level (repo_of found.entry.topic))) stands.1 in
     not_dead (level repo) (ap (λ t. not (any_dead level (repo_of t))) (sym found.topic) ∙ both.1)
 
 -- ---- settings that have read lines

@@ -1,16 +1,15 @@
 -- What merges, compactions and a branch's own lines keep.
-use Rattle.std.proofs.Common.{◌≡◌, ◌≢◌, inl, inr, ℕ, List, [], ◌∷◌, ◌++◌, refl, sym, ap, subst, bytes_eq}
+use Rattle.std.proofs.Common.{◌≡◌, ◌≢◌, ◌↔◌, ◌⊎◌, inl, inr, ℕ, List, [], ◌∷◌, ◌++◌, refl, sym, ap, subst, bytes_eq}
 use Rattle.annex_base.specs.Lists.{Member, Each}
+use Rattle.annex_base.proofs.Lists.{Member-append_cases, Member-append_left, Member-append_right}
+use Rattle.annex_base.proofs.Conditions.{by_test}
 use Rattle.log_lines.specs.declared.entry.LogKind.{LogKind}
 use Rattle.log_lines.specs.declared.entry.LogKind.TheVariants as kinds
 use Rattle.log_lines.specs.Newest.{newest}
 use Rattle.log_lines.specs.Keeping.{SameLines, Keeps}
 use Rattle.log_lines.specs.Keeping.Keeps.{Empty, Add, Merge, Arrange, Compact}
-use Rattle.log_lines.proofs.CompactLemmas.{member_append, append_first, append_second}
 use Rattle.union_merge.specs.LineSet.{union}
 use Rattle.union_merge.specs.Branch.{Files, IsBranch, lines_at, merged_branch, merged_branches}
-use Rattle.union_merge.proofs.SetLemmas.{Member-union, union-left, union-right}
-use Rattle.union_merge.proofs.MergeLemmas.{lines_at-merged_branch, merged_branches-order}
 use Rattle.log_lines.specs.Files.{file_name}
 use Rattle.hash_dirs.specs.LogPath.{location_path}
 use Rattle.trust_groups.specs.Settings.{Lines, settings}
@@ -18,7 +17,6 @@ use Rattle.trust_groups.specs.Alike.{SameFiles, KeepsFiles, MayCompact, Compacts
 use Rattle.trust_groups.specs.Reads.{lines_with}
 use Rattle.trust_groups.proofs.SameLemmas.{settings-same}
 use Rattle.std.proofs.lemmas.Slice.Eq.{bytes_eq-Decides}
-use Rattle.log_lines.proofs.NewerLemmas.{by_test}
 
 own_lines : (kind : LogKind) (lines : List (List ℕ)) → Keeps kind lines lines
 own_lines kind lines = Add [] [] lines Empty
@@ -60,25 +58,35 @@ other_file lines path line none = settings-same (lines_with lines path line) lin
   locations = λ key. ap (newest kinds.Location) (elsewhere lines path line (location_path key) (none.locations key));
 })
 
-both_lines : (xs ys : List (List ℕ)) → SameLines (xs ++ ys) (union xs ys)
-both_lines xs ys line = (
-  λ among. elim (member_append xs ys line among) [ inl left ↦ union-left line xs ys left | inr right ↦ union-right line xs ys right ],
-  λ among. elim (Member-union line xs ys among) [ inl left ↦ append_first xs ys line left | inr right ↦ append_second xs ys line right ],
+-- the laws of unions and of merges, as the lemmas take them
+abbrev HasBoth : Type 0
+HasBoth = (xs ys : List (List ℕ)) (line : List ℕ) → Member line (union xs ys) ↔ (Member line xs ⊎ Member line ys)
+
+abbrev MergesByPath : Type 0
+MergesByPath = (xs ys : Files) (path : List ℕ) → IsBranch xs → IsBranch ys → lines_at (merged_branch xs ys) path ≡ union (lines_at xs path) (lines_at ys path)
+
+abbrev AnyOrder : Type 0
+AnyOrder = (start : Files) (xs ys : List Files) → IsBranch start → Each IsBranch xs → Each IsBranch ys → ((b : Files) → Member b xs ↔ Member b ys) → merged_branches start xs ≡ merged_branches start ys
+
+both_lines : HasBoth → (xs ys : List (List ℕ)) → SameLines (xs ++ ys) (union xs ys)
+both_lines both xs ys line = (
+  λ among. elim (Member-append_cases xs ys line among) [ inl left ↦ (both xs ys line).1 (inl left) | inr right ↦ (both xs ys line).1 (inr right) ],
+  λ among. elim ((both xs ys line).0 among) [ inl left ↦ Member-append_left xs ys line left | inr right ↦ Member-append_right xs ys line right ],
 )
 
-merged_lines : (kind : LogKind) (xs ys : Files) (ever others : Lines) (path : List ℕ) → IsBranch xs → IsBranch ys
+merged_lines : HasBoth → MergesByPath → (kind : LogKind) (xs ys : Files) (ever others : Lines) (path : List ℕ) → IsBranch xs → IsBranch ys
     → Keeps kind (lines_at xs path) (ever path) → Keeps kind (lines_at ys path) (others path) → Keeps kind (lines_at (merged_branch xs ys) path) (ever path ++ others path)
-merged_lines kind xs ys ever others path one two first second =
+merged_lines both merges kind xs ys ever others path one two first second =
     let ours = lines_at xs path in
     let theirs = lines_at ys path in
-    subst (λ lines. Keeps kind lines (ever path ++ others path)) (sym (lines_at-merged_branch path xs ys one two))
-    (Arrange (ours ++ theirs) (ever path ++ others path) (union ours theirs) (both_lines ours theirs) (Merge ours (ever path) theirs (others path) first second))
+    subst (λ lines. Keeps kind lines (ever path ++ others path)) (sym (merges xs ys path one two))
+    (Arrange (ours ++ theirs) (ever path ++ others path) (union ours theirs) (both_lines both ours theirs) (Merge ours (ever path) theirs (others path) first second))
 
-pub merged_files : (xs ys : Files) (ever others : Lines) → IsBranch xs → IsBranch ys → KeepsFiles (lines_at xs) ever → KeepsFiles (lines_at ys) others → KeepsFiles (lines_at (merged_branch xs ys)) (λ path. ever path ++ others path)
-merged_files xs ys ever others one two first second = record {
-  files = λ kind other. merged_lines kind xs ys ever others (file_name kind) one two (first.files kind other) (second.files kind other);
-  locations = λ key. merged_lines kinds.Location xs ys ever others (location_path key) one two (first.locations key) (second.locations key);
+pub merged_files : HasBoth → MergesByPath → (xs ys : Files) (ever others : Lines) → IsBranch xs → IsBranch ys → KeepsFiles (lines_at xs) ever → KeepsFiles (lines_at ys) others → KeepsFiles (lines_at (merged_branch xs ys)) (λ path. ever path ++ others path)
+merged_files both merges xs ys ever others one two first second = record {
+  files = λ kind other. merged_lines both merges kind xs ys ever others (file_name kind) one two (first.files kind other) (second.files kind other);
+  locations = λ key. merged_lines both merges kinds.Location xs ys ever others (location_path key) one two (first.locations key) (second.locations key);
 }
 
-pub any_order : (start : Files) (xs ys : List Files) → IsBranch start → Each IsBranch xs → Each IsBranch ys → ((b : Files) → (Member b xs → Member b ys) × (Member b ys → Member b xs)) → settings (lines_at (merged_branches start xs)) ≡ settings (lines_at (merged_branches start ys))
-any_order start xs ys is first second same = ap (λ b. settings (lines_at b)) (merged_branches-order start xs ys is first second (λ b. (same b).0) (λ b. (same b).1))
+pub any_order : AnyOrder → (start : Files) (xs ys : List Files) → IsBranch start → Each IsBranch xs → Each IsBranch ys → ((b : Files) → Member b xs ↔ Member b ys) → settings (lines_at (merged_branches start xs)) ≡ settings (lines_at (merged_branches start ys))
+any_order order start xs ys is first second same = ap (λ b. settings (lines_at b)) (order start xs ys is first second same)

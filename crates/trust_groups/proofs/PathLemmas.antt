@@ -4,10 +4,10 @@ use Rattle.std.specs.List.{list_all}
 use Rattle.std.specs.Option.{unwrap_or}
 use Rattle.std.proofs.lemmas.List.Folds.{list_all-append}
 use Rattle.std.proofs.lemmas.Slice.Eq.{bytes_eq-Decides}
+use Rattle.std.proofs.lemmas.Bool.{false_from_ne_true}
 use Rattle.log_lines.specs.declared.entry.LogKind.{LogKind}
 use Rattle.log_lines.specs.declared.entry.LogKind.TheVariants as kinds
 use Rattle.log_lines.specs.Files.{file_name, named_kinds, kind_among}
-use Rattle.log_lines.proofs.Steps.{false_by}
 use Rattle.hash_dirs.specs.LogPath.{location_path}
 use Rattle.trust_groups.specs.Reads.{kind_at}
 
@@ -41,7 +41,7 @@ name_has_no_slash kinds.Numcopies = refl
 name_has_no_slash kinds.Mincopies = refl
 
 name_apart : (kind : LogKind) (key : List ℕ) → bytes_eq (file_name kind) (location_path key) ≡ false
-name_apart kind key = false_by (bytes_eq (file_name kind) (location_path key)) (λ t.
+name_apart kind key = false_from_ne_true (bytes_eq (file_name kind) (location_path key)) (λ t.
     true≢false (sym (name_has_no_slash kind) ∙ ap (list_all not_slash) ((bytes_eq-Decides (file_name kind) (location_path key)).0 t) ∙ location_has_slash key))
 
 none_among : (ks : List LogKind) (key : List ℕ) → kind_among ks (location_path key) ≡ None

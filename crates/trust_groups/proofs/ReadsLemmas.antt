@@ -10,17 +10,17 @@ use Rattle.std.specs.Map.{keys_of}
 use Rattle.std.specs.BTreeMap.{insert_entry}
 use Rattle.std.proofs.lemmas.Map.Text.{is_eq-slice_cmp}
 use Rattle.std.proofs.lemmas.List.{append-nil, take_more}
+use Rattle.std.proofs.lemmas.List.Sums.{fold-append}
 use Rattle.std.proofs.lemmas.Slice.Eq.{bytes_eq-Decides}
+use Rattle.std.proofs.lemmas.Bool.{false_from_ne_true, false≢true}
 use Rattle.annex_base.specs.ByteOrder.{text_cmp}
 use Rattle.log_lines.specs.declared.entry.Entry.{Entry}
 use Rattle.log_lines.specs.declared.entry.LogKind.{LogKind}
-use Rattle.log_lines.specs.Newest.{newest}
+use Rattle.log_lines.specs.Newest.{newest, put_if}
+use Rattle.log_lines.specs.Reading.{entry_of}
 use Rattle.log_lines.specs.Index.{Index, empty_index, index_with, index_of}
-use Rattle.log_lines.proofs.Steps.{false_by}
-use Rattle.log_lines.proofs.OrderLemmas.{other}
-use Rattle.log_lines.proofs.NewerLemmas.{by_test}
-use Rattle.log_lines.proofs.NewestLemmas.{newest_more}
 use Rattle.annex_base.specs.ByteOrder.{path_cmp}
+use Rattle.annex_base.proofs.Conditions.{by_test}
 use Rattle.union_merge.specs.FileView as view
 use Rattle.union_merge.specs.Branch.{Files, IsBranch, lines_at}
 use Rattle.trust_groups.specs.Settings.{Lines}
@@ -34,11 +34,11 @@ abbrev indexed : LogKind → List Entry → Index
 indexed kind es = record { kind = kind; entries = es }
 
 index_more : (kind : LogKind) (lines : List (List ℕ)) (line : List ℕ) → index_with (index_of kind lines) line ≡ index_of kind (lines ++ line ∷ [])
-index_more kind lines line = ap (indexed kind) (sym (newest_more kind lines line))
+index_more kind lines line = ap (indexed kind) (sym (fold-append (λ es l. put_if es (entry_of kind l)) [] lines (line ∷ [])))
 
 nil_is : (es : List Entry) → is_nil es ≡ true → es ≡ []
 nil_is [] h = refl
-nil_is (e ∷ es) h = other h
+nil_is (e ∷ es) h = absurd (false≢true h)
 
 pub some_entries : (es : List Entry) → (es ≡ [] → ⊥) → is_nil es ≡ false
 some_entries [] h = absurd (h refl)
@@ -56,7 +56,7 @@ own_or_other : (es : Indices) (path line : List ℕ) (lines : Lines) → IsIndex
 own_or_other es path line lines own rest q =
     by_test (bytes_eq path q)
     (λ t. rw t (subst (λ (p : List ℕ). IsIndexOf (index_at es p) (kind_at p) (lines p ++ line ∷ [])) ((bytes_eq-Decides path q).0 t) own))
-    (λ t. rw t (rest q (λ same. other (sym t ∙ (bytes_eq-Decides path q).1 same))))
+    (λ t. rw t (rest q (λ same. absurd (false≢true (sym t ∙ (bytes_eq-Decides path q).1 same)))))
 
 pub known_reads : (es : Indices) (path line : List ℕ) (index : Index) (lines : Lines) → index_at es path ≡ Some index → Reads es lines → Reads (indices_with es path (index_with index line)) (lines_with lines path line)
 known_reads es path line index lines found reads =
@@ -125,7 +125,7 @@ front_back path f fs before past =
     let none : lines_at fs path ≡ [] = ap (lines_at fs) (sym same) ∙ absent f.0 fs past in
     rw (t, here, none) (append-nil (before ++ f.1)))
     (λ t.
-    let elsewhere : is_eq (text_cmp path f.0) ≡ false = is_eq-slice_cmp path f.0 ∙ false_by (bytes_eq path f.0) (λ s. other (sym t ∙ (bytes_eq-Decides f.0 path).1 (sym ((bytes_eq-Decides path f.0).0 s)))) in
+    let elsewhere : is_eq (text_cmp path f.0) ≡ false = is_eq-slice_cmp path f.0 ∙ false_from_ne_true (bytes_eq path f.0) (λ s. absurd (false≢true (sym t ∙ (bytes_eq-Decides f.0 path).1 (sym ((bytes_eq-Decides path f.0).0 s))))) in
     rw (t, elsewhere) refl)
 
 from_sorted : (lines : Lines) (fs : Files) → IsStrictlySortedBy text_cmp (keys_of fs) → (path : List ℕ) → lines_from lines fs path ≡ lines path ++ lines_at fs path

@@ -1,19 +1,29 @@
 -- The repositories that entries speak of: which they are, and that they stand in order.
-use Rattle.std.proofs.Common.{◌≡◌, inl, inr, ℕ, Bool, List, [], ◌∷◌, ◌++◌, filter, refl, sym, ap, subst, ◌∙◌}
+use Rattle.std.proofs.Common.{◌≡◌, inl, inr, ℕ, Bool, List, [], ◌∷◌, ◌++◌, filter, map, refl, sym, ap, subst, ◌∙◌}
 use Rattle.std.specs.declared.cmp.Ordering.TheVariants.{Less}
 use Rattle.std.specs.List.{AllByRecursion}
 use Rattle.std.specs.List.Sorted.{IsStrictlySortedBy}
 use Rattle.annex_base.specs.ByteOrder.{text_cmp}
 use Rattle.annex_base.specs.Lists.{Member}
+use Rattle.annex_base.proofs.Conditions.{by_test}
+use Rattle.annex_base.proofs.Lists.{Member-append_cases, Member-append_left, Member-append_right}
 use Rattle.log_lines.specs.declared.entry.Topic.{Topic}
 use Rattle.log_lines.specs.declared.entry.Topic.TheVariants as topics
 use Rattle.log_lines.specs.declared.entry.Entry.{Entry}
 use Rattle.log_lines.specs.Newest.{topic_cmp}
-use Rattle.log_lines.proofs.OrderLemmas.{other}
-use Rattle.log_lines.proofs.NewerLemmas.{by_test}
-use Rattle.log_lines.proofs.PutLemmas.{IsRising, ArePast, rising_parts}
-use Rattle.log_lines.proofs.CompactLemmas.{member_append, append_first, append_second}
 use Rattle.trust_groups.specs.Settings.{repo_of, repos_of}
+
+-- the topics rise
+abbrev pub IsRising : List Entry → Type 0
+IsRising es = IsStrictlySortedBy topic_cmp (map (λ e. e.topic) es)
+
+-- each topic is past this one
+abbrev ArePast : Topic → List Entry → Type 0
+ArePast t es = AllByRecursion (λ u. topic_cmp t u ≡ Less) (map (λ e. e.topic) es)
+
+rising_parts : (e : Entry) (es : List Entry) → IsRising (e ∷ es) → ArePast e.topic es × IsRising es
+unfolding IsStrictlySortedBy
+rising_parts e es rising = rising
 
 -- ---- which they are
 
@@ -34,7 +44,7 @@ pub record Speaks (es : List Entry) (repo : List ℕ) : Type 0 where
 
 pub repos_member : (es : List Entry) (repo : List ℕ) → Member repo (repos_of es) → Speaks es repo
 repos_member [] repo among = absurd among
-repos_member (e ∷ es) repo among = elim (member_append (repo_of e.topic) (repos_of es) repo among) [
+repos_member (e ∷ es) repo among = elim (Member-append_cases (repo_of e.topic) (repos_of es) repo among) [
   | inl here ↦ record { entry = e; among = inl refl; topic = repo_of_member e.topic repo here }
   | inr there ↦ let rest = repos_member es repo there in record { entry = rest.entry; among = inr rest.among; topic = rest.topic }
 ]
@@ -42,8 +52,8 @@ repos_member (e ∷ es) repo among = elim (member_append (repo_of e.topic) (repo
 pub member_repos : (es : List Entry) (repo : List ℕ) (e : Entry) → Member e es → e.topic ≡ topics.Repo repo → Member repo (repos_of es)
 member_repos [] repo e among topic = absurd among
 member_repos (x ∷ xs) repo e (inl is) topic =
-    append_first (repo_of x.topic) (repos_of xs) repo (member_repo_of x.topic repo (ap (λ (y : Entry). y.topic) (sym is) ∙ topic))
-member_repos (x ∷ xs) repo e (inr among) topic = append_second (repo_of x.topic) (repos_of xs) repo (member_repos xs repo e among topic)
+    Member-append_left (repo_of x.topic) (repos_of xs) repo (member_repo_of x.topic repo (ap (λ (y : Entry). y.topic) (sym is) ∙ topic))
+member_repos (x ∷ xs) repo e (inr among) topic = Member-append_right (repo_of x.topic) (repos_of xs) repo (member_repos xs repo e among topic)
 
 -- ---- they stand in order
 

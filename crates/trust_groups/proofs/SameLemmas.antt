@@ -4,9 +4,8 @@ use Rattle.log_lines.specs.declared.entry.LogKind.{LogKind}
 use Rattle.log_lines.specs.declared.entry.LogKind.TheVariants as kinds
 use Rattle.log_lines.specs.declared.entry.Topic.{Topic}
 use Rattle.log_lines.specs.declared.entry.Topic.TheVariants as topics
-use Rattle.log_lines.specs.Newest.{newest, entry_at, ReadAlike}
-use Rattle.log_lines.proofs.NewestLemmas.{alike_by_members}
-use Rattle.log_lines.proofs.CompactLemmas.{compacted_alike, kept_alike}
+use Rattle.log_lines.specs.Newest.{newest, entry_at, ReadAlike, compacted}
+use Rattle.log_lines.specs.Keeping.{Keeps, SameLines}
 use Rattle.log_lines.specs.Files.{file_name}
 use Rattle.hash_dirs.specs.LogPath.{location_path}
 use Rattle.trust_groups.specs.Settings.{Lines, location_entries, entry_in, value_in, level_in, text_in, groups_in, number_in, level, is_dead, is_present, repo_of, repos_of, are_dead, is_claim, claims, has_groups, settings}
@@ -54,24 +53,35 @@ settings-same x y same =
 
 -- ---- files with the same lines, and files that additions, merges and compactions left
 
-pub files_read_alike : (x y : Lines) → SameFiles x y → SameReading x y
-files_read_alike x y same = record {
-  files = λ kind other. alike_by_members kind (x (file_name kind)) (y (file_name kind)) (same (file_name kind));
-  locations = λ key. alike_by_members kinds.Location (x (location_path key)) (y (location_path key)) (same (location_path key));
+-- the laws of logs, as the lemmas take them: what lines say depends on which they are, compaction keeps it, and so do
+-- additions and merges
+abbrev pub ReadBySet : Type 0
+ReadBySet = (kind : LogKind) (xs ys : List (List ℕ)) → SameLines xs ys → ReadAlike kind xs ys
+
+abbrev pub ReadCompacted : Type 0
+ReadCompacted = (kind : LogKind) (lines : List (List ℕ)) → ReadAlike kind (compacted kind lines) lines
+
+abbrev pub ReadKept : Type 0
+ReadKept = (kind : LogKind) (kept ever : List (List ℕ)) → Keeps kind kept ever → ReadAlike kind kept ever
+
+pub files_read_alike : ReadBySet → (x y : Lines) → SameFiles x y → SameReading x y
+files_read_alike by_set x y same = record {
+  files = λ kind other. by_set kind (x (file_name kind)) (y (file_name kind)) (same (file_name kind));
+  locations = λ key. by_set kinds.Location (x (location_path key)) (y (location_path key)) (same (location_path key));
 }
 
-pub kept_read_alike : (kept ever : Lines) → KeepsFiles kept ever → SameReading kept ever
-kept_read_alike kept ever keeps = record {
-  files = λ kind other. kept_alike kind (keeps.files kind other);
-  locations = λ key. kept_alike kinds.Location (keeps.locations key);
+pub kept_read_alike : ReadKept → (kept ever : Lines) → KeepsFiles kept ever → SameReading kept ever
+kept_read_alike alike kept ever keeps = record {
+  files = λ kind other. alike kind (kept (file_name kind)) (ever (file_name kind)) (keeps.files kind other);
+  locations = λ key. alike kinds.Location (kept (location_path key)) (ever (location_path key)) (keeps.locations key);
 }
 
-may_compact_alike : (kind : LogKind) (old new : List (List ℕ)) → MayCompact kind old new → ReadAlike kind old new
-may_compact_alike kind old new (inl same) = ap (newest kind) (sym same)
-may_compact_alike kind old new (inr less) = sym (ap (newest kind) less ∙ compacted_alike kind old)
+may_compact_alike : ReadCompacted → (kind : LogKind) (old new : List (List ℕ)) → MayCompact kind old new → ReadAlike kind old new
+may_compact_alike alike kind old new (inl same) = ap (newest kind) (sym same)
+may_compact_alike alike kind old new (inr less) = sym (ap (newest kind) less ∙ alike kind old)
 
-pub compacted_read_alike : (old new : Lines) → CompactsFiles old new → SameReading old new
-compacted_read_alike old new compacts = record {
-  files = λ kind other. may_compact_alike kind (old (file_name kind)) (new (file_name kind)) (compacts.files kind other);
-  locations = λ key. may_compact_alike kinds.Location (old (location_path key)) (new (location_path key)) (compacts.locations key);
+pub compacted_read_alike : ReadCompacted → (old new : Lines) → CompactsFiles old new → SameReading old new
+compacted_read_alike alike old new compacts = record {
+  files = λ kind other. may_compact_alike alike kind (old (file_name kind)) (new (file_name kind)) (compacts.files kind other);
+  locations = λ key. may_compact_alike alike kinds.Location (old (location_path key)) (new (location_path key)) (compacts.locations key);
 }

@@ -22,7 +22,9 @@ use crate::levels::{Levels, level_among};
 use annex_base::{Level, NoMemory, RepoId};
 use annex_key::Key;
 use hash_dirs::location_path;
-use log_lines::{LogKind, Newest, Statement, Topic, Value};
+use log_lines::{
+    LogKind, Newest, Statement, Topic, Value, entries_are_found_by_topic, readings_are_exact,
+};
 use std::alloc::Global;
 use std::collections::btree_map::Iter;
 use union_merge::Branch;
@@ -112,6 +114,9 @@ pub fn claims_of(
     ensures sorted { IfOk result (λ v. IsStrictlySortedBy text_cmp v.items) }
     ensures alive { IfOk result (λ v. (repo : List ℕ) → Member repo v.items → level_of levels.now repo ≢ Dead) }
 {
+    // laws, for the proof that these are the claimed ones
+    readings_are_exact();
+    entries_are_found_by_topic();
     let path = location_path(alloc, key)?;
     let lines = lines_of(branch, path.bytes());
     let log = Newest::read(alloc, LogKind::Location, lines)?;

@@ -14,7 +14,9 @@ ghost use Rattle.trust_groups.specs.Kept.{groups_among, grouped_among};
 use crate::files::lines_of;
 use crate::values::{groups_in, level_in};
 use annex_base::{Level, NoMemory, RepoId};
-use log_lines::{GroupList, LogKind, Newest, Statement, Topic, Value, newest_of};
+use log_lines::{
+    GroupList, LogKind, Newest, Statement, Topic, Value, entries_are_found_by_topic, newest_of,
+};
 use std::alloc::Global;
 use std::collections::btree_map::Iter;
 use union_merge::Branch;
@@ -86,6 +88,8 @@ fn grouped_among(alloc: Global, index: &Newest) -> Result<Vec<RepoId>, NoMemory>
     ensures sorted { IfOk result (λ v. IsStrictlySortedBy text_cmp v.items) }
     ensures each { IfOk result (λ v. (repo : List ℕ) → Member repo v.items ↔ (groups_among index.now.entries repo ≢ [])) }
 {
+    // a law, for the proof that each repository stands there
+    entries_are_found_by_topic();
     let entries = index.entries();
     grouped_by(alloc, entries)
 }

@@ -13,7 +13,7 @@ use Rattle.annex_cli.proofs.due.report_due.Goals as goal
 pub report-requires-clause-logged : goal.report-requires-clause-logged
 report-requires-clause-logged c =
     let run_is = c.in_ok-run.ensures.exact ∙ ap run_of c.lines.ensures.same in
-    thin_logged c.in_ok-run.run' (script_is_thin c.args._bytes.now c.args.script.now c.in_ok-run.run' c.requires.short c.requires.script c.requires.program run_is c.in_ok-run.ensures.few)
+    thin_logged c.in_ok-run.run' (script_is_thin c.script_runs_are_thin.ensures c.args._bytes.now c.args.script.now c.in_ok-run.run' c.requires.short c.requires.script c.requires.program run_is c.in_ok-run.ensures.few)
 
 pub report-requires-clause-known : goal.report-requires-clause-known
 report-requires-clause-known c =
@@ -36,7 +36,7 @@ returns-clause-good c = λ _ other says.
     let script : List Command = c.args.script.now in
     let run_is : c.in_ok-run.run' ≡ run_of script = c.in_ok-run.ensures.exact ∙ ap run_of c.lines.ensures.same in
     let one : script ≡ other = c.scripts_have_one_reading.ensures.script c.args._bytes.now script other c.requires.script says in
-    let thin_run : IsThinRun c.in_ok-run.run' = script_is_thin c.args._bytes.now script c.in_ok-run.run' c.requires.short c.requires.script c.requires.program run_is c.in_ok-run.ensures.few in
+    let thin_run : IsThinRun c.in_ok-run.run' = script_is_thin c.script_runs_are_thin.ensures c.args._bytes.now script c.in_ok-run.run' c.requires.short c.requires.script c.requires.program run_is c.in_ok-run.ensures.few in
     let thin : IsThinRun (run_of script) = subst (λ (run : Run). IsThinRun run) run_is thin_run in
     subst (λ (commands : List Command). IsGood (run_of commands)) one
     (record { thin = thin; safe = c.thin_runs_are_safe.ensures (run_of script) thin; causes = c.thin_refusals_have_causes.ensures (run_of script) thin })

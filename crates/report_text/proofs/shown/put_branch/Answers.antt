@@ -4,6 +4,7 @@ use Rattle.run_data.specs.declared.entry.LogFile.{LogFile}
 use Rattle.script_lang.specs.declared.command.Command.{Command}
 use Rattle.script_lang.specs.declared.command.Command.TheVariants.{ShowClaims, ShowLocation, ShowLog, ShowLogs, ShowNumbers, ShowLevel}
 use Rattle.std.specs.List.{flat_map}
+use Rattle.std.proofs.lemmas.Option.{same_Some}
 use Rattle.union_merge.specs.Branch.{Files, lines_at}
 use Rattle.hash_dirs.specs.LogPath.{location_path}
 use Rattle.trust_groups.specs.Settings.{claims, settings}
@@ -12,15 +13,12 @@ use Rattle.report_text.specs.Report.{branch_at, shown, claims_text, location_tex
 use Rattle.report_text.specs.Walk.{shown_repo}
 use Rattle.report_text.proofs.shown.put_branch.Goals as goal
 
-same_some : (a b : ℕ) → Some a ≡ Some b → a ≡ b
-same_some a b h = cc
-
 -- the line's branch is that of the repository that the line names
 line_shown : (run : Run) (place repo r : ℕ) (command line : Command) (branch : Files) (text : Files → List ℕ) (old new : List ℕ)
     → command ≡ line → shown_repo line ≡ Some r → text (branch_at run place r) ≡ shown run place line
     → shown_repo command ≡ Some repo → branch ≡ branch_at run place repo → new ≡ old ++ text branch → new ≡ old ++ shown run place command
 line_shown run place repo r command line branch text old new is names shows named at put =
-    let same : r ≡ repo = same_some r repo (sym names ∙ ap shown_repo (sym is) ∙ named) in
+    let same : r ≡ repo = same_Some r repo (sym names ∙ ap shown_repo (sym is) ∙ named) in
     put ∙ ap (λ (b : Files). old ++ text b) (at ∙ ap (branch_at run place) (sym same)) ∙ ap (λ (l : List ℕ). old ++ l) (shows ∙ ap (shown run place) (sym is))
 
 pub returns-in_ok-put_claims-in-ShowClaims : goal.returns-in_ok-put_claims-in-ShowClaims

@@ -33,4 +33,4 @@ returns-clause-claimed c =
     ∙ ap (λ (n : Index). claims_among (level_among n.entries) c.in_ok-log.log.entries) c.index.ensures
     ∙ ap (λ (n : Index). claims_among level n.entries) c.in_ok-log.ensures
     ∙ claims_read lines key level c.lines_of-lines.result.now same file in
-    subst (λ (repos : List (List ℕ)). Member repo repos ↔ IsClaimed lines key repo) (sym exact) (claims_exact lines key repo))
+    subst (λ (repos : List (List ℕ)). Member repo repos ↔ IsClaimed lines key repo) (sym exact) (claims_exact c.readings_are_exact.ensures.reading c.entries_are_found_by_topic.ensures lines key repo))

@@ -16,4 +16,4 @@ pub returns-clause-each : goal.returns-clause-each
 returns-clause-each c =
     let es = c.args.index.now.entries in
     ok_then c.grouped_by.result c.grouped_by.ensures (λ v is repo.
-    subst (λ (repos : List (List ℕ)). Member repo repos ↔ (groups_among es repo ≢ [])) (sym (is ∙ ap grouped_among c.entries-entries.ensures.value)) (grouped_among-exact es repo c.entries-entries.ensures.order))
+    subst (λ (repos : List (List ℕ)). Member repo repos ↔ (groups_among es repo ≢ [])) (sym (is ∙ ap grouped_among c.entries-entries.ensures.value)) (grouped_among-exact c.entries_are_found_by_topic.ensures es repo c.entries-entries.ensures.order))

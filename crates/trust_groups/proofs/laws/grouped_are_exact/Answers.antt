@@ -2,7 +2,7 @@ use Rattle.trust_groups.proofs.ClaimLemmas.{grouped_exact, grouped_sorted}
 use Rattle.trust_groups.proofs.laws.grouped_are_exact.Goals as goal
 
 pub returns-clause-each : goal.returns-clause-each
-returns-clause-each c = grouped_exact
+returns-clause-each c = grouped_exact c.readings_are_exact.ensures.reading c.entries_are_found_by_topic.ensures
 
 pub returns-clause-sorted : goal.returns-clause-sorted
-returns-clause-sorted c = grouped_sorted
+returns-clause-sorted c = grouped_sorted c.readings_are_exact.ensures.reading

@@ -11,7 +11,7 @@ pub returns-clause-added : goal.returns-clause-added
 returns-clause-added c = added_files
 
 pub returns-clause-merged : goal.returns-clause-merged
-returns-clause-merged c = merged_files
+returns-clause-merged c = merged_files c.unions_have_the_lines_of_both.ensures.either c.merges_have_the_files_of_both.ensures.lines
 
 pub returns-clause-order : goal.returns-clause-order
-returns-clause-order c = any_order
+returns-clause-order c = any_order c.any_order_of_merges_gives_one_branch.ensures.start

@@ -9,8 +9,8 @@ returns-clause-read c = settings_read
 
 pub returns-clause-kept : goal.returns-clause-kept
 returns-clause-kept c = λ indices read kept ever reads same keeps.
-    let all = settings_read indices read reads ∙ settings-same read ever (files_read_alike read ever same) in
-    (all ∙ sym (settings-same kept ever (kept_read_alike kept ever keeps)), all)
+    let all = settings_read indices read reads ∙ settings-same read ever (files_read_alike c.readings_depend_on_the_set.ensures read ever same) in
+    (all ∙ sym (settings-same kept ever (kept_read_alike c.compaction_keeps_the_reading.ensures.kept kept ever keeps)), all)
 
 pub returns-clause-other : goal.returns-clause-other
 returns-clause-other c = other_file

@@ -1,0 +1,5 @@
+use Rattle.log_lines.proofs.PutLemmas.{found_by_topic}
+use Rattle.log_lines.proofs.laws.entries_are_found_by_topic.Goals as goal
+
+pub returns : goal.returns
+returns c = found_by_topic

@@ -1,0 +1,29 @@
+use Rattle.std.proofs.Common.{◌≡◌, ℕ, ◌+◌, ◌≤◌, length, sym, ◌∙◌, ap, subst, arith}
+use Rattle.std.specs.Prelude.{vec_len}
+use Rattle.p2p_wire.specs.Streams.{Unread, Says, Gives, after_told, past, told, told_by, raw_after, line_len, line_of}
+use Rattle.p2p_wire.proofs.StreamLemmas.{given_len, said_len}
+use Rattle.p2p_wire.proofs.decoder.Decoder.pass.Goals as goal
+
+pub overflow_sub-left : goal.overflow_sub-left
+overflow_sub-left c =
+    let is : told c.args.self.now ≡ Gives c.in-Data.raw.items = sym c.requires ∙ ap told_by c.in-Data.is in
+    let short = given_len c.args.self.now c.in-Data.raw.items is in
+    let same : c.self.inside.left ≡ c.args.self.now.left = ap (λ (u : Unread). u.left) c.self.view_is in
+    omega (arith, c.len.ensures, c.in-Data.raw.ok.0, short.1, same)
+
+pub advance-requires-in-Data : goal.advance-requires-in-Data
+advance-requires-in-Data c =
+    let is : told c.args.self.now ≡ Gives c.in-Data.raw.items = sym c.requires ∙ ap told_by c.in-Data.is in
+    let short = given_len c.args.self.now c.in-Data.raw.items is in
+    omega (arith, c.len-in-Data.ensures, c.in-Data.raw.ok.0, short.0)
+
+pub returns-in-Message : goal.returns-in-Message
+returns-in-Message c =
+    let is : told c.args.self.now ≡ Says c.in-Message.message = sym c.requires ∙ ap told_by c.in-Message.is in
+    let long = said_len c.args.self.now c.in-Message.message is in
+    let count : c.line_len-end.result + 1 ≡ length (line_of c.in-Message.message) = ap (λ n. n + 1) c.line_len-end.ensures.place ∙ long in
+    c.advance.ensures
+    ∙ ap (λ (u : Unread). past u (c.line_len-end.result + 1) c.raw_after.result) c.line_len-end.ensures.same
+    ∙ ap (λ n. past c.args.self.now n c.raw_after.result) count
+    ∙ ap (past c.args.self.now (length (line_of c.in-Message.message))) c.raw_after.ensures
+    ∙ ap (after_told c.args.self.now) (sym (ap told_by c.in-Message.is))

@@ -1,0 +1,5 @@
+use Rattle.p2p_wire.proofs.AccountLemmas.{accounts}
+use Rattle.p2p_wire.proofs.laws.answers_account_for_the_bytes.Goals as goal
+
+pub returns : goal.returns
+returns c events = accounts events

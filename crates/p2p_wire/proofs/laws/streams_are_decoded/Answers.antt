@@ -1,0 +1,5 @@
+use Rattle.p2p_wire.proofs.DecodeLemmas.{decodes}
+use Rattle.p2p_wire.proofs.laws.streams_are_decoded.Goals as goal
+
+pub returns : goal.returns
+returns c items events more each is = decodes items events more each is
