@@ -5,7 +5,7 @@ use Rattle.std.specs.Map.{lookup}
 use Rattle.std.specs.Option.{option_map}
 use Rattle.std.proofs.lemmas.Option.{same_Some}
 use Rattle.annex_base.specs.Lists.{Each}
-use Rattle.annex_base.proofs.Conditions.{bytes_eq-true}
+use Rattle.annex_base.proofs.Conditions.{bytes_eq-refl, bytes_eq-true}
 use Rattle.annex_base.proofs.Lists.{Each-from_All}
 use Rattle.drop_proof.specs.declared.rule.Need.{Need}
 use Rattle.run_data.specs.declared.entry.By.{By}
@@ -16,8 +16,8 @@ use Rattle.object_store.specs.declared.keeper.HoldRecord.{HoldRecord}
 use Rattle.object_store.specs.Stores.{with_record, without_record}
 use Rattle.content_lock.specs.Rows.{AreAfter, Rows, bar_at}
 use Rattle.content_lock.specs.Stored.{Agrees, AgreesInEnds, AreRecordsOf, Label, label_in, label_of, record_of, with_new}
-use Rattle.content_lock.specs.Tokens.{BarView, HasBar, Owns, ShareView, keep_numbered, others_of}
-use Rattle.content_lock.proofs.TokenLemmas.{others_own_new, owns_new}
+use Rattle.content_lock.specs.Tokens.{BarView, HasBar, HasShare, Owns, ShareView, keep_numbered, others_of}
+use Rattle.content_lock.proofs.TokenLemmas.{given_new, others_own_new, owns_new}
 
 -- ---- records
 
@@ -82,6 +82,11 @@ module _ (was now : Rows) (number end : ℕ) (owner : By) (key given : List ℕ)
       subst (λ (hs : List Hold). Owns owner (Some (record { number = number; key = key; owner = owner })) hs) (sym after.holds)
       (subst (λ (k : List ℕ). Owns owner (Some (record { number = number; key = k; owner = owner })) (new_hold ∷ was.holds)) same (owns_new new_hold was.holds refl less owns))
 
+  pub share_given : HasShare now.holds (record { number = number; key = key; owner = owner })
+  share_given =
+      subst (λ (hs : List Hold). HasShare hs (record { number = number; key = key; owner = owner })) (sym after.holds)
+      (subst (λ (k : List ℕ). HasShare (new_hold ∷ was.holds) (record { number = number; key = k; owner = owner })) same (given_new new_hold was.holds refl))
+
   pub share_others : (by : By) (share : Option ShareView) → same_owner owner by ≡ false → Owns by share was.holds → Owns by share now.holds
   share_others by share differ owns = subst (Owns by share) (sym after.holds) (others_own_new new_hold was.holds by share less differ owns)
 
@@ -97,6 +102,10 @@ bar_others was now key job after free other has =
         let some : None ≡ Some other.job = sym none ∙ has in
         absurd cc
     go false differ = has
+
+pub bar_given : (was now : Rows) (key : List ℕ) (job : ℕ) → ((need : Need) → AreAfter (kinds.Bar job need key) was now) → HasBar now (record { key = key; job = job })
+bar_given was now key job after =
+    (after (record { n = 0; m = 0 })).bars key ∙ ap (λ (b : Bool). if b then Some job else bar_at was key) (bytes_eq-refl key)
 
 abbrev Bars : Type 0
 Bars = List (List ℕ × ℕ)

@@ -139,11 +139,15 @@ others_new h hs less =
 pub off_again : (h : Hold) (hs : List Hold) → All (λ x. x.number < h.number) hs → others_of h.number (h ∷ hs) ≡ hs
 off_again h hs less = others_new h hs (Each-from_All (λ x. x.number < h.number) hs less)
 
+pub given_new : (h : Hold) (hs : List Hold) → h.kept ≡ false → HasShare (h ∷ hs) (share_of h)
+given_new h hs unkept =
+    ap (λ (b : Bool). option_map share_of (if b && not h.kept then Some h else find (opens h.number) hs)) (eqb_refl h.number)
+    ∙ ap (λ (b : Bool). option_map share_of (if not b then Some h else find (opens h.number) hs)) unkept
+
 pub owns_new : (h : Hold) (hs : List Hold) → h.kept ≡ false → All (λ x. x.number < h.number) hs → Owns h.owner None hs → Owns h.owner (Some (share_of h)) (h ∷ hs)
 owns_new h hs unkept less owns = record {
   owner = refl;
-  given = ap (λ (b : Bool). option_map share_of (if b && not h.kept then Some h else find (opens h.number) hs)) (eqb_refl h.number)
-      ∙ ap (λ (b : Bool). option_map share_of (if not b then Some h else find (opens h.number) hs)) unkept;
+  given = given_new h hs unkept;
   kept = let same = off_again h hs less in ap (map (keep_of h.owner)) same ∙ owns.kept ∙ sym same;
 }
 

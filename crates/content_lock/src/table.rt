@@ -110,6 +110,7 @@ impl LockTable {
     /// From now on the key is being filled, until the fill is given back.
     pub fn fill(&mut self, key: &Key) -> Result<Fill, FillRefused>
         ensures token { IfOk result (λ f. f ≡ key.now) }
+        ensures given { OnOk result (is_filling self.new key.now ≡ true) }
         ensures ok { OnOk result ((k : List ℕ) → is_filling self.new k ≡ (bytes_eq key.now k || is_filling self.old k)) }
         ensures free { OnOk result (is_filling self.old key.now ≡ false) }
         ensures busy { IsErrOf result FillRefused.Busy → is_filling self.old key.now ≡ true }
@@ -178,6 +179,7 @@ impl LockTable {
         requires early { now + 600000 < 2 ^ 62 }
         requires fresh { All (λ h. h.number < number) self.old.holds }
         ensures token { IfOk result (λ s. s ≡ record { number = number; key = key.now; owner = owner }) }
+        ensures given { OnOk result (HasShare self.new.holds (record { number = number; key = key.now; owner = owner })) }
         ensures after { OnOk result (AreAfter (kinds.Share number (now + hold_time) owner key.now) self.old self.new) }
         ensures recorded { OnOk result (K.records keeper.new ≡ with_new (record { number = number; key = key.now; end = now + hold_time }) (K.records keeper.old)) }
         ensures free { OnOk result (LooksSo Look.Present (HasContent (K.contents keeper.old) key.now) (bar_at self.old key.now)) }
@@ -309,6 +311,7 @@ impl LockTable {
         now: u64,
     ) -> Result<Bar, BarRefused>
         ensures token { IfOk result (λ b. b ≡ record { key = key.now; job = job }) }
+        ensures given { OnOk result (HasBar self.new (record { key = key.now; job = job })) }
         ensures after { OnOk result ((need : Need) → AreAfter (kinds.Bar job need key.now) self.old self.new) }
         ensures free { OnOk result (IsFree (HasContent (K.contents keeper.old) key.now) (bar_at self.old key.now) (filter (blocks key.now now) self.old.holds)) }
         ensures why { IfErr result (λ e. NotBarred e (HasContent (K.contents keeper.old) key.now) (bar_at self.old key.now) (filter (blocks key.now now) self.old.holds)) }
