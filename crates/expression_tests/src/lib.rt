@@ -1,5 +1,11 @@
-//! Tests of globs, and later of the expressions that use them, which call public functions as a user would.
+//! Tests of globs and of the expressions that use them, which call public functions as a user would.
 #![tactic(auto)]
 
+#[cfg(test)]
+mod expr_faults;
+#[cfg(test)]
+mod expr_trees;
+#[cfg(test)]
+mod expr_truth;
 #[cfg(test)]
 mod glob_match_tests;

@@ -8,7 +8,7 @@ one_more n f fs = ap (λ k. drop k (f ∷ fs)) (same n) where
   same : (n : ℕ) → 1 + n + 1 ≡ suc (n + 1)
   same n = omega arith
 
-passed : (p : Frame → Bool) (f : Frame) (fs : List Frame) → p f ≡ false → (find p (f ∷ fs) ≡ find p fs) × (after_first p (f ∷ fs) ≡ after_first p fs)
+pub passed : (p : Frame → Bool) (f : Frame) (fs : List Frame) → p f ≡ false → (find p (f ∷ fs) ≡ find p fs) × (after_first p (f ∷ fs) ≡ after_first p fs)
 passed p f fs fails = (rw fails refl, rw fails (one_more (prefix_len (λ x. not (p x)) fs) f fs))
 
 -- the first frame is passed over

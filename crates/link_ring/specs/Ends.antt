@@ -1,12 +1,12 @@
 -- The ends of connections. What an end knows grows by its own looks and by what is carried to it (own).
-use Rattle.std.specs.Prelude.{ℕ, ◌+◌, ◌-◌, ◌≤◌, Bool, not, nat_le, nat_lt, if◌then◌else◌, List, [], ◌∷◌, ◌++◌, length, filter, Option, Some, None}
+use Rattle.std.specs.Prelude.{ℕ, ◌+◌, ◌-◌, ◌≤◌, Bool, not, nat_le, nat_lt, ◌&&◌, if◌then◌else◌, List, [], ◌∷◌, ◌++◌, length, filter, Option, Some, None}
 use Rattle.std.specs.List.{find, after_first}
 use Rattle.link_ring.specs.declared.frame.Frame.{Frame}
 use Rattle.link_ring.specs.declared.frame.Body.{Body}
 use Rattle.link_ring.specs.declared.frame.Body.TheVariants as bodies
 use Rattle.link_ring.specs.declared.end.Phase.{Phase}
 use Rattle.link_ring.specs.declared.end.Phase.TheVariants.{Closed, Opening, Open}
-use Rattle.link_ring.specs.Frames.{is_close, is_old}
+use Rattle.link_ring.specs.Frames.{is_close, is_closed, is_old}
 
 -- an end: the opening that it is at; the frames that it knows to be at hand; those that it sent and that weren't carried
 -- yet; and how many of the eight places of its way aren't free, as far as it knows
@@ -24,14 +24,9 @@ fresh = record { epoch = 0; phase = Closed; at_hand = []; on_way = []; used = 0 
 abbrev pub free : EndView → ℕ
 free e = 8 - e.used
 
-abbrev pub is_open : Phase → Bool
-is_open Closed = Bool.false
-is_open Opening = Bool.false
-is_open Open = Bool.true
-
--- a Close needs an open end, which keeps a place for it; each other frame needs two free places
+-- a Close needs an end that isn't closed, and one free place, which an open end keeps for it; each other frame needs two
 abbrev pub accepts : EndView → Frame → Bool
-accepts e f = if is_close f then is_open e.phase else nat_le 2 (free e)
+accepts e f = if is_close f then not (is_closed e.phase) && nat_le 1 (free e) else nat_le 2 (free e)
 
 abbrev pub begun : Phase → Phase
 begun Closed = Closed
@@ -76,6 +71,10 @@ after_close e = record e { phase = Closed }
 pub record ArePaired (a b : EndView) : Type 0 where
   pub first : length b.at_hand + length a.on_way ≤ a.used
   pub second : length a.at_hand + length b.on_way ≤ b.used
+
+-- what is paired with the one is paired with the other
+abbrev pub StaysPaired : EndView → EndView → Type 0
+StaysPaired old new = (other : EndView) → ArePaired old other → ArePaired new other
 
 -- an end after frames were carried between it and the other one
 abbrev pub carried : EndView → EndView → EndView

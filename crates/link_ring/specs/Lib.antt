@@ -1,3 +1,5 @@
 pub mod Frames
 pub mod Ends
 pub mod Invariant
+pub mod Ways
+pub mod Places

@@ -1,5 +1,5 @@
 //! Frames and ends go from thread to thread.
-use crate::{Body, End, Frame, Phase};
+use crate::{Body, End, Frame, Links, Phase};
 use annex_base::crosses;
 
 fn cross_threads() {
@@ -7,4 +7,5 @@ fn cross_threads() {
     crosses::<Frame>();
     crosses::<Phase>();
     crosses::<End>();
+    crosses::<Links>();
 }

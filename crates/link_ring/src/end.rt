@@ -1,8 +1,8 @@
 //! One end of a connection.
-ghost use Rattle.std.specs.Prelude.{◌≡◌, ◌≤◌, ◌<◌, ◌+◌, ◌-◌, ◌++◌, vec_len, ◌^◌, ◌↔◌, [], false, not, nat_le, IfOk, IfErr, IsErr, OnOk, OnErr, filter, nat_lt, vec_capacity};
+ghost use Rattle.std.specs.Prelude.{◌≡◌, ◌≤◌, ◌<◌, ◌+◌, ◌-◌, ◌++◌, vec_len, ◌^◌, ◌↔◌, [], true, false, not, nat_le, IfOk, IfErr, IsErr, IsOk, OnOk, OnErr, filter, nat_lt, vec_capacity};
 ghost use Rattle.std.specs.List.{find, after_first};
 ghost use Rattle.link_ring.specs.Frames.{is_old, is_close};
-ghost use Rattle.link_ring.specs.Ends.{ArePaired, carried, fresh, accepts, after_send, next_frame, after_take, after_open, after_close, free, phase_after_send};
+ghost use Rattle.link_ring.specs.Ends.{ArePaired, StaysPaired, carried, fresh, accepts, after_send, next_frame, after_take, after_open, after_close, free, phase_after_send};
 
 use crate::frame::{Body, Frame};
 use annex_base::NoMemory;
@@ -89,7 +89,7 @@ fn phase_after_send(phase: Phase, frame: &Frame) -> Phase
 
 impl End {
     /// An end that was never opened.
-    pub(crate) fn new(alloc: Global) -> Result<End, NoMemory>
+    pub fn new(alloc: Global) -> Result<End, NoMemory>
         ensures { IfOk result (λ e. e ≡ fresh) }
     {
         Ok(End {
@@ -115,31 +115,41 @@ impl End {
         self.phase
     }
 
-    /// Whether there is room for a frame other than a Close.
+    fn free(&self) -> usize
+        ensures { result ≡ free self.now }
+    {
+        PLACES - self.used
+    }
+
+    /// Whether there is room for a frame other than a Close: two free places, one of which is kept for the Close.
     pub fn room(&mut self) -> bool
         ensures room { result ≡ nat_le 2 (free self.old) }
         ensures same { self.new ≡ self.old }
     {
-        self.used + 2 <= PLACES
+        self.free() >= 2
     }
 
     fn accepts(&self, frame: &Frame) -> bool
         ensures { result ≡ accepts self.now frame.now }
     {
+        let free = self.free();
         if frame.is_close() {
-            self.phase == Phase::Open
+            self.phase != Phase::Closed && free >= 1
         } else {
-            self.used + 2 <= PLACES
+            free >= 2
         }
     }
 
-    /// Sends a frame. A Close is handed back where the end isn't open, another frame where fewer than two places are
-    /// free.
+    /// Sends a frame. A Close is handed back where the end is closed, or has no place free, which an open end has;
+    /// another frame where fewer than two places are free.
     pub fn send(&mut self, frame: Frame) -> Result<(), Frame>
         ensures ok { OnOk result (self.new ≡ after_send self.old frame) }
         ensures err { OnErr result (self.new ≡ self.old) }
         ensures same { IfErr result (λ back. back ≡ frame) }
         ensures handed_back { IsErr result ↔ (accepts self.old frame ≡ false) }
+        ensures close { is_close frame ≡ true → self.old.phase ≡ Phase.Open → IsOk result }
+        ensures places { self.new.used ≤ 8 }
+        ensures paired { StaysPaired self.old self.new }
     {
         if !self.accepts(&frame) {
             return Err(frame);
@@ -155,6 +165,7 @@ impl End {
     pub fn take(&mut self) -> Option<Frame>
         ensures frame { result ≡ next_frame self.old }
         ensures end { self.new ≡ after_take self.old }
+        ensures paired { StaysPaired self.old self.new }
     {
         let frame = take_first(&mut self.at_hand, self.epoch, self.phase)?;
         match &frame.body {
@@ -171,7 +182,8 @@ impl End {
     /// Begins the next epoch, and drops what is at hand of those before.
     pub fn open(&mut self)
         requires { self.old.epoch < 2 ^ 32 - 1 }
-        ensures { self.new ≡ after_open self.old }
+        ensures end { self.new ≡ after_open self.old }
+        ensures paired { StaysPaired self.old self.new }
     {
         drop_old(&mut self.at_hand, self.epoch);
         self.epoch += 1;
@@ -180,7 +192,8 @@ impl End {
 
     /// Closes the end without a word to the other one.
     pub fn close(&mut self)
-        ensures { self.new ≡ after_close self.old }
+        ensures end { self.new ≡ after_close self.old }
+        ensures paired { StaysPaired self.old self.new }
     {
         self.phase = Phase::Closed;
     }
@@ -204,6 +217,7 @@ pub fn carry(a: &mut End, b: &mut End)
     requires { ArePaired a.old b.old }
     ensures first { a.new ≡ carried a.old b.old }
     ensures second { b.new ≡ carried b.old a.old }
+    ensures paired { ArePaired a.new b.new }
 {
     arrive(&mut a.on_way, &mut b.at_hand);
     arrive(&mut b.on_way, &mut a.at_hand);

@@ -4,6 +4,10 @@
 mod crossing;
 mod end;
 mod frame;
+mod laws;
+mod links;
 
 pub use end::{End, Phase, carry};
 pub use frame::{Body, Frame};
+pub use laws::{ends_stay_paired, frames_keep_their_order};
+pub use links::{Links, end_place, make_links};

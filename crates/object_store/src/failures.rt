@@ -1,7 +1,8 @@
 //! How many calls of a store are still to fail, and how many have failed.
 ghost use Rattle.std.specs.Prelude.{◌≡◌, ◌≤◌, if◌then◌else◌, nat_lt, OnOk, OnErr};
 ghost use Rattle.annex_base.specs.Causes.{next_count};
-ghost use Rattle.object_store.specs.Calls.{call_number, one_more, one_fewer};
+ghost use Rattle.object_store.specs.Calls.{one_more, one_fewer};
+ghost use Rattle.annex_base.specs.Calls.{call_number};
 ghost use Rattle.object_store.specs.CallCounts.{calls_left, no_calls};
 
 use annex_base::{Call, NoMemory};

@@ -1,7 +1,7 @@
 -- What a client sends and awaits: each request's message, and the one table of the answers that are permitted (git-annex P2P
 -- protocol, version 3; that a File is empty, the answer `ERROR busy`, and that a server may answer each version up to the
 -- asked one are the project's own).
-use Rattle.std.specs.Prelude.{ℕ, if◌then◌else◌, [], Option, Some, None, nat_le, bytes_eq, codes}
+use Rattle.std.specs.Prelude.{ℕ, ◌<◌, ◌^◌, if◌then◌else◌, [], Option, Some, None, nat_le, bytes_eq, codes}
 use Rattle.p2p_wire.specs.declared.message.Message.{Message}
 use Rattle.p2p_wire.specs.declared.message.Message.TheVariants as wire
 use Rattle.p2p_client.specs.declared.dialog.Answer.{Answer}
@@ -24,6 +24,12 @@ message_for (requests.Remove key) = wire.Remove key
 message_for (requests.RemoveBefore n key) = wire.RemoveBefore n key
 message_for (requests.Get n key) = wire.Get n [] key
 message_for (requests.Put key) = wire.Put [] key
+
+-- the request's number is one of the protocol
+abbrev pub HasNumber : Request → Type 0
+HasNumber (requests.RemoveBefore n key) = n < 2 ^ 63
+HasNumber (requests.Get n key) = n < 2 ^ 63
+HasNumber request = Unit {0}
 
 -- what is awaited after it
 abbrev pub awaited_after : Request → Awaited

@@ -1,10 +1,12 @@
 //! A client's dialogue with a server.
-ghost use Rattle.std.specs.Prelude.{◌≡◌, ◌==◌, IfOk, IsOk, bytes_eq, codes};
-ghost use Rattle.p2p_client.specs.Dialogue.{awaited_after, awaited_then, message_for, permitted, took_by};
+ghost use Rattle.std.specs.Prelude.{◌≡◌, ◌==◌, None, IfOk, IsOk, bytes_eq, codes};
+ghost use Rattle.annex_key.specs.View.{first_fault};
+ghost use Rattle.p2p_wire.specs.Streams.{IsLine};
+ghost use Rattle.p2p_client.specs.Dialogue.{HasNumber, awaited_after, awaited_then, message_for, permitted, took_by};
 
 use annex_base::{NoMemory, RepoId, Text};
-use annex_key::Key;
-use p2p_wire::Message;
+use annex_key::{Key, key_texts_have_no_fault};
+use p2p_wire::{Message, sent_messages_have_lines};
 use std::alloc::Global;
 use std::marker::Model;
 
@@ -109,6 +111,34 @@ fn awaited_after(request: &Request) -> Awaited
     }
 }
 
+// For the proof: that a key's text has no fault.
+fn is_sound(key: &Key)
+    ensures { first_fault key.now ≡ None }
+{
+    key_texts_have_no_fault();
+    let _text = key.text();
+}
+
+// For the proof: the keys of a request are sound, and its message has a line.
+fn is_sent(request: &Request)
+    ensures { HasNumber request.now → IsLine (message_for request.now) }
+{
+    sent_messages_have_lines();
+    match request {
+        Request::CheckPresent(key)
+        | Request::Lock(key)
+        | Request::Unlock(key)
+        | Request::Remove(key)
+        | Request::RemoveBefore(_, key)
+        | Request::Get { key, .. }
+        | Request::Put(key) => is_sound(key),
+        Request::Version(version) => {
+            let _version = *version;
+        }
+        Request::GetTimestamp => {}
+    }
+}
+
 fn message_for(alloc: Global, request: Request) -> Message
     ensures { result ≡ message_for request }
 {
@@ -199,9 +229,11 @@ impl Dialog {
     pub fn ask(&mut self, alloc: Global, request: Request) -> Result<Message, NoMemory>
         requires { self.old ≡ Awaited.Nothing }
         ensures message { IfOk result (λ message. message ≡ message_for request) }
+        ensures line { HasNumber request → IfOk result IsLine }
         ensures awaited { self.new ≡ awaited_after request }
         ensures memory { IsOk result }
     {
+        is_sent(&request);
         self.awaited = awaited_after(&request);
         Ok(message_for(alloc, request))
     }

@@ -4,3 +4,4 @@ pub mod SpellingLemmas
 pub mod FillLemmas
 pub mod NumberLemmas
 pub mod ContentLemmas
+pub mod FieldLemmas

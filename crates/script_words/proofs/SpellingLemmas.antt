@@ -1,9 +1,9 @@
 -- What is found in a line is what is written there.
-use Rattle.std.proofs.Common.{◌≡◌, ◌≢◌, ◌⊎◌, inl, inr, ℕ, zero, suc, ◌+◌, ◌≤◌, Bool, true, false, List, [], ◌∷◌, ◌++◌, length, take, drop, refl, sym, ap, subst, ◌∙◌, arith, append_assoc, drop-drop}
-use Rattle.std.specs.Prelude.{not, ◌==◌, ◌||◌}
-use Rattle.std.specs.List.{prefix_len, list_all, list_any}
+use Rattle.std.proofs.Common.{◌≡◌, ◌≢◌, inl, inr, ℕ, suc, ◌+◌, true, false, List, [], ◌∷◌, ◌++◌, length, take, drop, refl, sym, ap, subst, ◌∙◌, arith, append_assoc, drop-drop}
+use Rattle.std.specs.Prelude.{◌==◌}
+use Rattle.std.specs.List.{prefix_len, list_all}
 use Rattle.std.specs.Str.{is_utf8}
-use Rattle.std.proofs.lemmas.Bool.{cond_both, and_parts, and_from, eqb-true, not-false, true≢false}
+use Rattle.std.proofs.lemmas.Bool.{and_parts, and_from, eqb-true, not-false}
 use Rattle.std.proofs.lemmas.List.{take-append-drop, take_at, drop_at, length-append, append-nil}
 use Rattle.std.proofs.lemmas.List.Folds.{length-prefix_len}
 use Rattle.std.proofs.Math.ListN.{drop_of_length-le}
@@ -11,7 +11,6 @@ use Rattle.annex_base.specs.Lines.{space, is_space, is_not_space}
 use Rattle.annex_base.proofs.Conditions.{if_is, by_test}
 use Rattle.script_words.proofs.FrontLemmas.{one_add, not_true, or_parts, front_passes, Stops, rest_stops, front_len, all_len}
 use Rattle.script_words.specs.Places.{LineWord}
-use Rattle.script_words.specs.declared.words.NextWord.{NextWord}
 use Rattle.script_words.specs.declared.words.NextWord.TheVariants.{NoWord, BadWord, Word}
 use Rattle.script_words.specs.Words.{quote, is_not_quote, is_break, closes, text_word, quoted_word, plain_word, word_from, after_spaces, next_word, has_space, printed_word}
 use Rattle.script_words.specs.Spelling.{begins_quoted, Spells, IsNext, IsBlank}

@@ -1,5 +1,5 @@
 -- Numbers up to a bound.
-use Rattle.std.specs.Prelude.{ℕ, List, Option, Some, None, nat_le, nat_lt, if◌then◌else◌}
+use Rattle.std.specs.Prelude.{ℕ, List, Option, Some, None, nat_le, if◌then◌else◌}
 use Rattle.annex_base.specs.Decimal.{number_of}
 use Rattle.annex_base.specs.OptionSteps.{◌>>=◌}
 

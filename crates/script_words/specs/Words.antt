@@ -4,7 +4,7 @@ use Rattle.std.specs.Prelude.{ℕ, ◌+◌, ◌<◌, ◌≤◌, Bool, true, fals
 use Rattle.std.specs.List.{prefix_len, list_any}
 use Rattle.std.specs.Str.{is_utf8}
 use Rattle.annex_base.specs.Lines.{space, is_space, is_not_space}
-use Rattle.script_words.specs.Places.{Cursor, LineWord}
+use Rattle.script_words.specs.Places.{Cursor}
 use Rattle.script_words.specs.declared.words.NextWord.{NextWord}
 use Rattle.script_words.specs.declared.words.NextWord.TheVariants.{NoWord, BadWord, Word}
 

@@ -1,7 +1,7 @@
 //! Contents as a script describes them.
-ghost use Rattle.std.specs.Prelude.{◌≡◌, ◌≤◌, ◌<◌, ◌^◌, IfOk, length, Option};
+ghost use Rattle.std.specs.Prelude.{◌≡◌, IfOk, length};
 ghost use Rattle.std.specs.List.{position_or_len, before_first, after_first};
-ghost use Rattle.script_words.specs.Contents.{fill_bytes, is_colon, fill_numbers, text_content, hex_content, fill_content, content_of, piece, with_front};
+ghost use Rattle.script_words.specs.Contents.{is_colon, fill_numbers, text_content, hex_content, fill_content, content_of, piece, with_front};
 
 use crate::filling::{copy_piece, fill_piece};
 use crate::marks::behind;

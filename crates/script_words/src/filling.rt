@@ -1,5 +1,5 @@
 //! Pieces of contents, written to a room.
-ghost use Rattle.std.specs.Prelude.{◌≡◌, ◌≤◌, ◌<◌, ◌+◌, ◌^◌, length};
+ghost use Rattle.std.specs.Prelude.{◌≡◌, ◌≤◌, ◌<◌, ◌^◌, length};
 ghost use Rattle.script_words.specs.Contents.{fill_bytes, piece, with_front};
 
 /// Writes a piece of these bytes to the front of the room.

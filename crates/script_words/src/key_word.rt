@@ -1,6 +1,5 @@
 //! Words that name a key.
 ghost use Rattle.std.specs.Prelude.{◌≡◌, IfOk};
-ghost use Rattle.annex_key.specs.View.{first_fault};
 ghost use Rattle.script_words.specs.Fields.{path_word, whole_key, key_word};
 
 use crate::fields::is_path;

@@ -1,7 +1,10 @@
-//! What holds of every line: each law is the contract of a function that does nothing.
-ghost use Rattle.std.specs.Prelude.{◌≡◌, ◌≢◌, ◌<◌, ◌≤◌, ◌^◌, ◌↔◌, List, [], Some, ℕ, length};
+//! What holds of every line and every word: each law is the contract of a function that does nothing.
+ghost use Rattle.std.specs.Prelude.{◌≡◌, ◌≢◌, ◌<◌, ◌≤◌, ◌^◌, ◌↔◌, ◌++◌, List, [], Some, ℕ, length, codes};
 ghost use Rattle.std.specs.Fmt.{decimal};
 ghost use Rattle.script_words.specs.Contents.{content_of, Describes};
+ghost use Rattle.annex_base.specs.declared.kinds.Call.{Call};
+ghost use Rattle.annex_base.specs.declared.kinds.Level.{Level};
+ghost use Rattle.script_words.specs.Fields.{level_word, level_of, call_word, call_of, greatest_offset, offset_of, clock_of, version_of};
 ghost use Rattle.script_words.specs.Numbers.{number_up_to};
 ghost use Rattle.script_words.specs.Places.{LineWord};
 ghost use Rattle.script_words.specs.declared.words.NextWord.TheVariants.{NoWord, BadWord, Word};
@@ -35,4 +38,17 @@ pub fn numbers_are_decimal()
 /// A content is read exactly from the words that describe it.
 pub fn contents_are_as_described()
     ensures { (word content : List ℕ) → (content_of word ≡ Some content) ↔ Describes word content }
+{}
+
+/// A level of trust and a call of a store have one word each.
+pub fn levels_and_calls_have_one_word()
+    ensures level { (word : List ℕ) (level : Level) → (level_of word ≡ Some level) ↔ (word ≡ level_word level) }
+    ensures call { (word : List ℕ) (call : Call) → (call_of word ≡ Some call) ↔ (word ≡ call_word call) }
+{}
+
+/// Options are read exactly from their words; times are milliseconds.
+pub fn options_are_as_written()
+    ensures offset { (word : List ℕ) (time : ℕ) → (offset_of word ≡ Some time) ↔ ((word ≡ codes "offset=" ++ decimal time) × (time ≤ greatest_offset)) }
+    ensures clock { (word : List ℕ) (time : ℕ) → (clock_of word ≡ Some time) ↔ ((word ≡ codes "clock=" ++ decimal time) × (time ≤ greatest_offset)) }
+    ensures version { (word : List ℕ) (version : ℕ) → (version_of word ≡ Some version) ↔ ((word ≡ codes "version=" ++ decimal version) × (1 ≤ version) × (version ≤ 3)) }
 {}

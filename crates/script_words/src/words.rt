@@ -1,8 +1,8 @@
 //! A line that is cut into words, from left to right.
-ghost use Rattle.std.specs.Prelude.{◌≡◌, ◌<◌, ◌≤◌, ◌+◌, ◌^◌, length, drop};
+ghost use Rattle.std.specs.Prelude.{◌≡◌, ◌<◌, ◌≤◌, ◌+◌, ◌^◌, length};
 ghost use Rattle.std.specs.List.{prefix_len};
 ghost use Rattle.annex_base.specs.Lines.{is_space, is_not_space};
-ghost use Rattle.script_words.specs.Words.{is_not_quote, is_break, closes, text_word, quoted_word, plain_word, word_from, after_spaces, next_word, rest_from, rest_word, behind, IsAhead};
+ghost use Rattle.script_words.specs.Words.{is_not_quote, closes, text_word, quoted_word, plain_word, word_from, next_word, rest_from, rest_word, behind, IsAhead};
 
 use crate::utf8::is_text;
 use std::marker::Model;
@@ -44,7 +44,8 @@ impl<'a> LineWord<'a> {
 pub enum NextWord<'a> {
     /// The line has no further word.
     NoWord,
-    /// The word that begins at this place is wrong: it isn't UTF-8, or its quotes don't stand as they must.
+    /// The word that begins at this place is wrong: it isn't UTF-8, or its quotes don't stand as they must. A rest is
+    /// wrong too where no space stands before it.
     BadWord { at: usize },
     Word(LineWord<'a>),
 }

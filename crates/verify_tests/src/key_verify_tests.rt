@@ -644,3 +644,20 @@ fn which_extensions_are_kept(rt: HostRuntime) -> Result<(), Fail> {
     }
     Ok(())
 }
+
+/// Names as git-annex reads them.
+#[test]
+fn a_name_is_what_follows_the_dashes(rt: HostRuntime) -> Result<(), Fail> {
+    for (text, name) in [
+        ("WORM--abc", "abc"),
+        ("WORM-s3--a-s3--b", "a-s3--b"),
+        ("WORM---a", "-a"),
+        ("WORM---", "-"),
+        ("WORM-s9-S3-C3--a", "a"),
+        ("WORM-s3--../a", "../a"),
+    ] {
+        let key = Key::parse(rt.alloc(), text.as_bytes())?;
+        assert_eq!(rt; key.name(), name.as_bytes(), "of {text}");
+    }
+    Ok(())
+}

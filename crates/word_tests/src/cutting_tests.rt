@@ -78,11 +78,10 @@ fn wrong_words_are_told_at_their_first_byte(rt: HostRuntime) {
 }
 
 #[test]
-fn a_line_ends_behind_its_last_word(rt: HostRuntime) {
+fn a_line_or_its_rest_may_be_at_its_end(rt: HostRuntime) {
     for (line, number) in [
         ("", 0),
         ("   ", 0),
-        ("a", 1),
         ("a ", 1),
         (" \"a b\"  ", 1),
         ("a b", 9),
@@ -92,6 +91,15 @@ fn a_line_ends_behind_its_last_word(rt: HostRuntime) {
             "at {line}"
         );
     }
+    assert!(rt; matches!(rest_after(b"describe a b", 3), NextWord::NoWord));
+    assert!(rt; matches!(rest_after(b"", 0), NextWord::NoWord));
+    assert!(rt;
+        matches!(
+            rest_after(b"wanted a b \xff", 3),
+            NextWord::BadWord { at: 11 }
+        )
+    );
+    assert!(rt; matches!(rest_after(b"wanted", 0), NextWord::BadWord { at: 0 }));
 }
 
 #[test]
@@ -124,19 +132,6 @@ fn the_rest_begins_behind_one_space(rt: HostRuntime) {
             NextWord::NoWord | NextWord::BadWord { .. } => assert!(rt; false, "at {line}"),
         }
     }
-}
-
-#[test]
-fn a_rest_may_be_missing_or_wrong(rt: HostRuntime) {
-    assert!(rt; matches!(rest_after(b"describe a b", 3), NextWord::NoWord));
-    assert!(rt; matches!(rest_after(b"", 0), NextWord::NoWord));
-    assert!(rt;
-        matches!(
-            rest_after(b"wanted a b \xff", 3),
-            NextWord::BadWord { at: 11 }
-        )
-    );
-    assert!(rt; matches!(rest_after(b"wanted", 0), NextWord::BadWord { at: 0 }));
 }
 
 #[test]

@@ -7,23 +7,51 @@ use script_words::{
 use std::test::Fail;
 
 #[test]
-fn names_are_short_and_in_lower_case(rt: HostRuntime) {
-    for (word, want) in [
-        ("a", true),
-        ("laptop_2", true),
-        ("a__9", true),
-        ("abcdefghijklmnop", true),
-        ("abcdefghijklmnopq", false),
-        ("2a", false),
-        ("_a", false),
-        ("A", false),
-        ("aB", false),
-        ("a-b", false),
-        ("é", false),
-        ("", false),
+fn names_and_groups_have_their_bytes(rt: HostRuntime) {
+    for (word, name, group) in [
+        ("a", true, true),
+        ("laptop_2", true, true),
+        ("a__9", true, true),
+        ("abcdefghijklmnop", true, true),
+        ("abcdefghijklmnopq", false, true),
+        ("2a", false, true),
+        ("_a", false, true),
+        ("A", false, true),
+        ("aB", false, true),
+        ("a-b", false, true),
+        ("é", false, true),
+        ("\"", false, true),
+        ("a b", false, false),
+        ("a\tb", false, false),
+        ("a\u{7f}", false, false),
+        ("", false, false),
     ] {
-        assert_eq!(rt; is_name(word.as_bytes()), want, "at {word}");
+        assert_eq!(rt; is_name(word.as_bytes()), name, "at {word}");
+        assert_eq!(rt; is_group(word.as_bytes()), group, "at {word}");
     }
+}
+
+#[test]
+fn levels_calls_and_identifiers_have_their_words(rt: HostRuntime) {
+    for (word, level, call) in [
+        ("trusted", Some(Level::Trusted), None),
+        ("semitrusted", Some(Level::Semitrusted), None),
+        ("dead", Some(Level::Dead), None),
+        ("has", None, Some(Call::Has)),
+        ("readpart", None, Some(Call::ReadPart)),
+        ("hold", None, Some(Call::Hold)),
+        ("holds", None, Some(Call::Holds)),
+        ("file", None, Some(Call::File)),
+        ("Trusted", None, None),
+        ("part", None, None),
+        ("", None, None),
+    ] {
+        assert_eq!(rt; read_level(word.as_bytes()), level, "at {word}");
+        assert_eq!(rt; read_call(word.as_bytes()), call, "at {word}");
+    }
+    assert!(rt; read_id(b"f81d4fae-7dec-11d0-a765-00a0c91e6bf6").is_some());
+    assert!(rt; read_id(b"F81D4FAE-7DEC-11D0-A765-00A0C91E6BF6").is_none());
+    assert!(rt; is_word(b"repo", b"repo") && !is_word(b"repo ", b"repo"));
 }
 
 #[test]
@@ -47,65 +75,6 @@ fn numbers_are_decimal_and_bounded(rt: HostRuntime) {
     ] {
         assert_eq!(rt; read_number(word.as_bytes(), greatest), want, "at {word}");
     }
-}
-
-#[test]
-fn levels_have_four_words(rt: HostRuntime) {
-    for (word, want) in [
-        ("trusted", Some(Level::Trusted)),
-        ("semitrusted", Some(Level::Semitrusted)),
-        ("untrusted", Some(Level::Untrusted)),
-        ("dead", Some(Level::Dead)),
-        ("Trusted", None),
-        ("semi", None),
-        ("", None),
-    ] {
-        assert_eq!(rt; read_level(word.as_bytes()), want, "at {word}");
-    }
-}
-
-#[test]
-fn calls_have_fourteen_words(rt: HostRuntime) {
-    for (word, want) in [
-        ("has", Some(Call::Has)),
-        ("size", Some(Call::Size)),
-        ("read", Some(Call::Read)),
-        ("partsize", Some(Call::PartSize)),
-        ("readpart", Some(Call::ReadPart)),
-        ("append", Some(Call::Append)),
-        ("commit", Some(Call::Commit)),
-        ("droppart", Some(Call::DropPart)),
-        ("remove", Some(Call::Remove)),
-        ("hold", Some(Call::Hold)),
-        ("unhold", Some(Call::Unhold)),
-        ("holds", Some(Call::Holds)),
-        ("putfile", Some(Call::PutFile)),
-        ("file", Some(Call::File)),
-        ("Has", None),
-        ("part", None),
-        ("", None),
-    ] {
-        assert_eq!(rt; read_call(word.as_bytes()), want, "at {word}");
-    }
-}
-
-#[test]
-fn groups_have_no_space_and_no_control_byte(rt: HostRuntime) {
-    for (word, want) in [
-        ("backup", true),
-        ("é", true),
-        ("\"", true),
-        ("a b", false),
-        ("a\tb", false),
-        ("a\u{7f}", false),
-        ("", false),
-    ] {
-        assert_eq!(rt; is_group(word.as_bytes()), want, "at {word}");
-    }
-    assert!(rt; read_id(b"f81d4fae-7dec-11d0-a765-00a0c91e6bf6").is_some());
-    assert!(rt; read_id(b"F81D4FAE-7DEC-11D0-A765-00A0C91E6BF6").is_none());
-    assert!(rt; is_word(b"repo", b"repo"));
-    assert!(rt; !is_word(b"repo ", b"repo"));
 }
 
 #[test]

@@ -1,4 +1,4 @@
-use Rattle.std.proofs.Common.{◌-◌, length, ap, ◌∙◌}
+use Rattle.std.proofs.Common.{length, ap, ◌∙◌}
 use Rattle.std.specs.Prelude.{min}
 use Rattle.script_words.proofs.FillLemmas.{piece_fill, length-fill_bytes}
 use Rattle.script_words.proofs.filling.fill_piece.Goals as goal

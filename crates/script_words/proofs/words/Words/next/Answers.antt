@@ -1,4 +1,3 @@
-use Rattle.script_words.specs.Words.{IsAhead}
 use Rattle.script_words.proofs.PlaceLemmas.{behind_within, next_ahead}
 use Rattle.script_words.proofs.words.Words.next.Goals as goal
 

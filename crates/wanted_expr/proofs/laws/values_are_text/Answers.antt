@@ -1,0 +1,5 @@
+use Rattle.wanted_expr.proofs.TextLemmas.{value_text}
+use Rattle.wanted_expr.proofs.laws.values_are_text.Goals as goal
+
+pub returns : goal.returns
+returns c = value_text

@@ -1,0 +1,70 @@
+//! Expressions.
+ghost use Rattle.std.specs.Prelude.{◌≡◌, ◌<◌, ◌⊎◌, length, IfErr, IfOk, IsErrOf, MatchResult};
+ghost use Rattle.wanted_expr.specs.declared.fault.ExprFault.{ExprFault};
+ghost use Rattle.wanted_expr.specs.Expressions.{IsCause, IsExpression, IsFirstFault};
+ghost use Rattle.wanted_expr.specs.Formula.{Formula};
+ghost use Rattle.wanted_expr.specs.Truth.{has_groupwanted, holds};
+
+use crate::data::{Facts, Tree};
+use crate::fault::ExprFault;
+use crate::reading::read;
+use crate::truth::{has_groupwanted, tree_holds};
+use glob_match::globs_are_unique;
+use std::alloc::Global;
+use std::marker::Model;
+
+/// The greatest length of an expression in bytes (own).
+const TEXT_LIMIT: usize = 4096;
+
+/// A preferred content expression, which contracts see as its formula (git-annex-preferred-content).
+#[derive(Debug, Drop)]
+pub struct Expr {
+    tree: Tree,
+}
+
+impl Model for Expr {
+    ghost use Rattle.wanted_expr.specs.Formula.{Formula, formula_of};
+    ghost use Rattle.wanted_expr.specs.FormulaCode.{formula_code};
+
+    ghost Value = { Formula };
+
+    ghost coded = { formula_code };
+
+    ghost view = { λ e. formula_of e.tree };
+}
+
+impl Expr {
+    /// The expression that the text spells, all of the text; or its first fault from left to right, where TooLong comes
+    /// before all others, and a `(` that is never closed after them.
+    pub fn parse(alloc: Global, text: &str) -> Result<Expr, ExprFault>
+        ensures found { IfOk result (λ e. IsExpression text.now e) }
+        ensures only { (f : Formula) → IsExpression text.now f → MatchResult result (λ e. e ≡ f) (λ e. e ≡ ExprFault.NoMemory) }
+        ensures fault { IfErr result (λ e. IsCause text.now e) }
+        ensures first { (e : ExprFault) → IsFirstFault text.now e → IsErrOf result e ⊎ IsErrOf result ExprFault.NoMemory }
+        ensures long { 4096 < length text.now → IsErrOf result ExprFault.TooLong }
+    {
+        if text.len() > TEXT_LIMIT {
+            return Err(ExprFault::TooLong);
+        }
+        // for the proof
+        globs_are_unique();
+        match read(alloc, text.as_bytes()) {
+            Ok(tree) => Ok(Expr { tree }),
+            Err(fault) => Err(fault),
+        }
+    }
+
+    /// Whether the expression holds. It takes no memory.
+    pub fn eval(&self, facts: &Facts) -> bool
+        ensures { result ≡ holds self.now facts.now }
+    {
+        tree_holds(&self.tree, facts)
+    }
+
+    /// Whether `groupwanted` stands in the expression: the expression of a group may not have it (own).
+    pub fn has_groupwanted(&self) -> bool
+        ensures { result ≡ has_groupwanted self.now }
+    {
+        has_groupwanted(&self.tree)
+    }
+}
