@@ -62,6 +62,10 @@ pub records_kept : (n : ℕ) (hs : List Hold) → map record_of (map (keep_numbe
 records_kept n [] = refl
 records_kept n (h ∷ hs) = ap (λ (l : List HoldRecord). record_of h ∷ l) (records_kept n hs)
 
+pub labels_kept : (n : ℕ) (hs : List Hold) → map label_of (map (keep_numbered n) hs) ≡ map label_of hs
+labels_kept n [] = refl
+labels_kept n (h ∷ hs) = ap (λ (l : List Label). label_of h ∷ l) (labels_kept n hs)
+
 pub labels_restarted : (now : ℕ) (hs : List Hold) → map label_of (map (restart now) hs) ≡ map label_of hs
 labels_restarted now [] = refl
 labels_restarted now (h ∷ hs) = ap (λ (l : List Label). label_of h ∷ l) (labels_restarted now hs)

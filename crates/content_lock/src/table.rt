@@ -293,6 +293,7 @@ impl LockTable {
         ensures owns { Owns share.owner (Some share) self.old.holds → Owns share.owner None self.new.holds }
         ensures others { (by : By) (other : Option ShareView) → same_owner share.owner by ≡ false → Owns by other self.old.holds → Owns by other self.new.holds }
         ensures stored { map record_of self.new.holds ≡ map record_of self.old.holds }
+        ensures labels { map label_of self.new.holds ≡ map label_of self.old.holds }
     {
         let Share {
             number,
@@ -317,6 +318,7 @@ impl LockTable {
         ensures why { IfErr result (λ e. NotBarred e (HasContent (K.contents keeper.old) key.now) (bar_at self.old key.now) (filter (blocks key.now now) self.old.holds)) }
         ensures err { OnErr result (self.new ≡ self.old) }
         ensures others { OnOk result ((other : BarView) → HasBar self.old other → HasBar self.new other) }
+        ensures holds { self.new.holds ≡ self.old.holds }
         ensures contents { K.contents keeper.new ≡ K.contents keeper.old }
         ensures parts { K.parts keeper.new ≡ K.parts keeper.old }
         ensures records { K.records keeper.new ≡ K.records keeper.old }
@@ -342,6 +344,7 @@ impl LockTable {
     fn put_bar(&mut self, key: &Key, job: u32) -> Result<Bar, NoMemory>
         ensures token { IfOk result (λ b. b ≡ record { key = key.now; job = job }) }
         ensures after { OnOk result ((need : Need) → AreAfter (kinds.Bar job need key.now) self.old self.new) }
+        ensures holds { self.new.holds ≡ self.old.holds }
         ensures err { OnErr result (self.new ≡ self.old) }
     {
         let given = key.copy()?;
@@ -367,6 +370,7 @@ impl LockTable {
         ensures after { OnOk result ((by : By) → AreAfter (kinds.Gone by bar.key) self.old self.new) }
         ensures gone { OnOk result (K.contents keeper.new ≡ without_content (K.contents keeper.old) bar.key) }
         ensures others { OnOk result ((other : BarView) → (other.job == bar.job) ≡ false → HasBar self.old other → HasBar self.new other) }
+        ensures holds { self.new.holds ≡ self.old.holds }
         ensures err { IfErr result (λ b. (b ≡ bar) × (self.new ≡ self.old)) }
         ensures err_contents { OnErr result (K.contents keeper.new ≡ K.contents keeper.old) }
         ensures parts { K.parts keeper.new ≡ K.parts keeper.old }

@@ -2,9 +2,9 @@ use Rattle.std.proofs.Common.{List, None, map, sym, ap, subst, ◌∙◌}
 use Rattle.run_data.specs.declared.row.Hold.{Hold}
 use Rattle.content_lock.specs.Indexed.{AreFalling}
 use Rattle.content_lock.specs.Rows.{Rows, bar_at}
-use Rattle.content_lock.specs.Stored.{record_of}
+use Rattle.content_lock.specs.Stored.{label_of, record_of}
 use Rattle.content_lock.specs.Tokens.{Owns, ShareView, keep_numbered}
-use Rattle.content_lock.proofs.StoredLemmas.{records_kept}
+use Rattle.content_lock.proofs.StoredLemmas.{labels_kept, records_kept}
 use Rattle.content_lock.proofs.TokenLemmas.{keeps_owners, others_own_kept, owns_kept}
 use Rattle.content_lock.proofs.table.LockTable.abandon.Goals as goal
 
@@ -36,3 +36,7 @@ returns-clause-others c = λ by other differ owns.
 pub returns-clause-stored : goal.returns-clause-stored
 returns-clause-stored c =
     ap (map record_of) c.keep.ensures.kept ∙ records_kept c.share.inside.number c.self.inside.holds ∙ ap (λ (r : Rows). map record_of r.holds) c.self.view_is
+
+pub returns-clause-labels : goal.returns-clause-labels
+returns-clause-labels c =
+    ap (map label_of) c.keep.ensures.kept ∙ labels_kept c.share.inside.number c.self.inside.holds ∙ ap (λ (r : Rows). map label_of r.holds) c.self.view_is
