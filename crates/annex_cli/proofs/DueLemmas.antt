@@ -5,10 +5,10 @@ use Rattle.std.proofs.lemmas.List.{append-nil}
 use Rattle.std.specs.Prelude.{codes}
 use Rattle.std.specs.Io.KnownBytes.{append_known}
 use Rattle.std.specs.Fmt.{decimal}
-use Rattle.script_lang.specs.declared.command.Command.{Command}
-use Rattle.script_lang.specs.declared.fault.Quantity.{Quantity}
-use Rattle.script_lang.specs.declared.fault.Quantity.TheVariants.{Repositories, Time}
-use Rattle.script_lang.specs.Script.{IsScript, IsBadLine, IsCrowded, IsLate, limit_of, quantity_name}
+use Rattle.thin_script.specs.declared.command.Command.{Command}
+use Rattle.thin_script.specs.declared.fault.Quantity.{Quantity}
+use Rattle.thin_script.specs.declared.fault.Quantity.TheVariants.{Repositories, Time}
+use Rattle.thin_script.specs.Script.{IsScript, IsBadLine, IsCrowded, IsLate, limit_of, quantity_name}
 use Rattle.thin_driver.specs.Driver.{run_of}
 use Rattle.report_text.specs.Report.{report}
 use Rattle.annex_cli.specs.declared.status.Status.{Status}

@@ -11,10 +11,10 @@ use Rattle.run_data.specs.declared.run.Run.{Run}
 use Rattle.run_data.specs.declared.run.RepoView.{RepoView}
 use Rattle.thin_model.specs.Branches.{LogsToPath}
 use Rattle.thin_model.specs.Thin.{HasLines, IsThinRun, MayCome, ThinKind, ThinPast, ThinStep}
-use Rattle.script_lang.specs.declared.command.Command.{Command}
-use Rattle.script_lang.specs.declared.command.Command.TheVariants as commands
-use Rattle.script_lang.specs.Lines.{Declared, declared, declared_by, MayStand}
-use Rattle.script_lang.specs.Script.{AllStand, IsProgram, IsScript, is_closed}
+use Rattle.thin_script.specs.declared.command.Command.{Command}
+use Rattle.thin_script.specs.declared.command.Command.TheVariants as commands
+use Rattle.thin_script.specs.Lines.{Declared, declared, declared_by, MayStand}
+use Rattle.thin_script.specs.Script.{AllStand, IsProgram, IsScript, is_closed}
 use Rattle.thin_driver.specs.Driver.{run_of, view_of}
 use Rattle.thin_driver.proofs.ThinLists.{Each-reverse}
 use Rattle.thin_driver.proofs.ThinPrograms.{declared-append, thin_script}

@@ -3,11 +3,11 @@ use Rattle.std.proofs.Common.{ℕ, suc, ◌<◌, ◌≤◌, ◌^◌, Bool, true,
 use Rattle.std.specs.Prelude.{codes, ◌==◌}
 use Rattle.std.specs.List.{slice_split, onto_first}
 use Rattle.annex_base.specs.Lists.{Each}
-use Rattle.script_lang.specs.declared.command.Command.{Command}
-use Rattle.script_lang.specs.declared.command.Command.TheVariants.{Have}
-use Rattle.script_lang.specs.Words.{Begins, AfterSpace, WithPlain, WithQuoted, SpellsFront, quote}
-use Rattle.script_lang.specs.Lines.{words_of, declared}
-use Rattle.script_lang.specs.Script.{IsScript, Reads, End, Skip, Line, lines_of, Says}
+use Rattle.thin_script.specs.declared.command.Command.{Command}
+use Rattle.thin_script.specs.declared.command.Command.TheVariants.{Have}
+use Rattle.thin_script.specs.Words.{Begins, AfterSpace, WithPlain, WithQuoted, SpellsFront, quote}
+use Rattle.thin_script.specs.Lines.{words_of, declared}
+use Rattle.thin_script.specs.Script.{IsScript, Reads, End, Skip, Line, lines_of, Says}
 use Rattle.thin_driver.specs.Driver.{IsShort, AreShort}
 
 abbrev IsWithin : ℕ → List ℕ → Type 0

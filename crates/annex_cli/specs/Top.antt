@@ -7,8 +7,8 @@ use Rattle.run_data.specs.declared.run.Run.{Run}
 use Rattle.thin_model.specs.Safety.{IsSafe}
 use Rattle.thin_model.specs.Thin.{IsThinRun}
 use Rattle.thin_model.specs.Causes.{HasCauses}
-use Rattle.script_lang.specs.declared.command.Command.{Command}
-use Rattle.script_lang.specs.Script.{IsScript, IsBadLine, IsCrowded, IsLate, most_repositories, most_time}
+use Rattle.thin_script.specs.declared.command.Command.{Command}
+use Rattle.thin_script.specs.Script.{IsScript, IsBadLine, IsCrowded, IsLate, most_repositories, most_time}
 use Rattle.thin_driver.specs.Driver.{run_of}
 use Rattle.report_text.specs.Report.{report}
 use Rattle.annex_cli.specs.declared.status.Status.{Status}

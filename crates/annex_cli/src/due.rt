@@ -2,7 +2,7 @@
 
 ghost use Rattle.std.specs.Prelude.{IfOk, OnOk, ◌≡◌, ◌++◌, ◌≤◌, codes, length, ℕ, List, ◌⊎◌, Ok, Err};
 ghost use Rattle.std.specs.Fmt.{decimal};
-ghost use Rattle.script_lang.specs.Script.{IsScript, IsProgram};
+ghost use Rattle.thin_script.specs.Script.{IsScript, IsProgram};
 ghost use Rattle.annex_cli.specs.Whole.{script_limit};
 ghost use Rattle.annex_cli.specs.Top.{IsDue, HasGoodRun};
 
@@ -10,10 +10,10 @@ use crate::status::Status;
 use crate::whole::SCRIPT_LIMIT;
 use annex_base::{NoMemory, put_number};
 use report_text::report;
-use script_lang::{Script, ScriptFault, scripts_have_one_reading};
 use std::alloc::Global;
 use thin_driver::run_script;
 use thin_laws::{thin_refusals_have_causes, thin_runs_are_safe};
+use thin_script::{Script, ScriptFault, scripts_have_one_reading};
 
 /// A status, and the text that is written with it.
 #[derive(Debug, Drop)]

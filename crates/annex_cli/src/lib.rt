@@ -4,8 +4,8 @@
 ghost use Rattle.std.specs.Prelude.{◌≡◌, ℕ, ◌<◌, ◌≤◌, List, length, map, Some};
 ghost use Rattle.std.specs.String.{string_bytes};
 ghost use Rattle.annex_base.specs.Causes.{Rose};
-ghost use Rattle.script_lang.specs.declared.command.Command.{Command};
-ghost use Rattle.script_lang.specs.Script.{IsScript};
+ghost use Rattle.thin_script.specs.declared.command.Command.{Command};
+ghost use Rattle.thin_script.specs.Script.{IsScript};
 ghost use Rattle.thin_driver.specs.Driver.{run_of};
 ghost use Rattle.report_text.specs.Report.{report};
 ghost use Rattle.annex_cli.specs.declared.status.Status.{Status};
@@ -19,11 +19,11 @@ mod words;
 
 use annex_base::{Failed, Gate, Sink, Source};
 use due::due_text;
-use script_lang::scripts_have_one_reading;
 pub use status::Status;
 use std::alloc::Global;
 use std::sync::Wait;
 use std::thread::Threads;
+use thin_script::scripts_have_one_reading;
 use whole::{ReadStop, read_whole, write_whole};
 use words::is_run;
 

@@ -1,10 +1,10 @@
 //! Runs of scripts that the plain check of safe runs accepts at each place.
 
-use script_lang::{Command, Script};
 use std::alloc::Global;
 use std::test::Fail;
 use thin_driver::run_script;
 use thin_laws::is_safe_at;
+use thin_script::{Command, Script};
 
 const THREE: &str = "repo a 11111111-1111-4111-8111-111111111111\n\
     repo b 22222222-2222-4222-8222-222222222222\n\

@@ -1,7 +1,7 @@
 -- The end of a report.
 use Rattle.std.proofs.Common.{◌≡◌, ◌⊎◌, ℕ, List, [], ◌∷◌, length, refl, inl, inr}
 use Rattle.run_data.specs.declared.run.Run.{Run}
-use Rattle.script_lang.specs.declared.command.Command.{Command}
+use Rattle.thin_script.specs.declared.command.Command.{Command}
 use Rattle.report_text.specs.Report.{report_from, ended}
 
 no_marks : (run : Run) (from : ℕ) (commands : List Command) → report_from run from commands [] ≡ ended run from (length run.entries)

@@ -38,8 +38,8 @@ use Rattle.run_data.specs.Files.{file_path}
 use Rattle.thin_model.specs.Logs.{branch}
 use Rattle.thin_model.specs.Past.{begun_job, present}
 use Rattle.thin_model.specs.Safety.{past_at}
-use Rattle.script_lang.specs.declared.command.Command.{Command}
-use Rattle.script_lang.specs.declared.command.Command.TheVariants as commands
+use Rattle.thin_script.specs.declared.command.Command.{Command}
+use Rattle.thin_script.specs.declared.command.Command.TheVariants as commands
 
 -- ---- words
 

@@ -7,8 +7,8 @@ use Rattle.run_data.specs.declared.run.Run.{Run}
 use Rattle.thin_model.specs.Branches.{HasBranches, LogsToPath}
 use Rattle.thin_model.specs.Contents.{Tracks}
 use Rattle.thin_model.specs.Safety.{past_at}
-use Rattle.script_lang.specs.declared.command.Command.{Command}
-use Rattle.script_lang.specs.declared.command.Command.TheVariants as commands
+use Rattle.thin_script.specs.declared.command.Command.{Command}
+use Rattle.thin_script.specs.declared.command.Command.TheVariants as commands
 use Rattle.report_text.specs.declared.walk.Walk.{Walk}
 
 -- the walk knows the contents and the branches after these entries, the newest first

@@ -8,8 +8,8 @@ use crate::shown::put_shown;
 use crate::walk::Walk;
 use annex_base::NoMemory;
 use run_data::Run;
-use script_lang::Command;
 use std::alloc::Global;
+use thin_script::Command;
 
 /// The report of a run of this script (own): for each line of the script the lines of the jobs that ended while it
 /// was done, and what it shows; then the lines of the jobs that ended after the last. To show where a key is present

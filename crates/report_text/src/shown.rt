@@ -15,9 +15,9 @@ use crate::words::{put_names, put_quoted};
 use annex_base::NoMemory;
 use annex_key::Key;
 use run_data::{RepoView, Run};
-use script_lang::Command;
 use std::alloc::Global;
 use thin_model::Contents;
+use thin_script::Command;
 use union_merge::Branch;
 
 /// Adds what a line of a script shows at a place of the run.

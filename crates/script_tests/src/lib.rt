@@ -4,4 +4,4 @@
 #[cfg(test)]
 mod report_text_tests;
 #[cfg(test)]
-mod script_lang_tests;
+mod thin_script_tests;

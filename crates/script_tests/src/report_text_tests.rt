@@ -14,9 +14,9 @@ use run_data::{
     By, CandidateCause, Cause, Denial, DropRefusal, Entry, EntryKind, Job, JobKind, LogFile,
     Outcome, Proof, RepoView, Run, SourceCause, SourceFailure, TransferRefusal,
 };
-use script_lang::Command;
 use std::alloc::Global;
 use std::test::Fail;
+use thin_script::Command;
 use union_merge::is_line;
 
 fn text(alloc: Global, word: &str) -> Result<Text, NoMemory> {

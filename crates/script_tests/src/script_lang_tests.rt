@@ -3,9 +3,9 @@ mod forms;
 mod limits;
 mod refused;
 
-use script_lang::{Quantity, Script, ScriptFault};
 use std::alloc::Global;
 use std::test::Fail;
+use thin_script::{Quantity, Script, ScriptFault};
 
 /// What a text is said to be.
 #[derive(Clone, Copy, Debug, PartialEq, Eq)]

@@ -14,8 +14,8 @@ use Rattle.thin_model.specs.Past.{present}
 use Rattle.thin_model.specs.Contents.{Tracks}
 use Rattle.thin_model.specs.Branches.{HasBranches}
 use Rattle.log_lines.specs.declared.entry.Value.TheVariants as values
-use Rattle.script_lang.specs.declared.command.Command.{Command}
-use Rattle.script_lang.specs.Lines.{declared, declared_by}
+use Rattle.thin_script.specs.declared.command.Command.{Command}
+use Rattle.thin_script.specs.Lines.{declared, declared_by}
 use Rattle.thin_driver.specs.declared.driver.Driver.{Driver}
 use Rattle.thin_driver.specs.Driver.{added, done, entries_of, have, log_status, marks_of, repos_of, run_of, view_of}
 use Rattle.thin_driver.specs.declared.tally.Tally.{Tally}

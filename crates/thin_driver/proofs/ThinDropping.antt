@@ -17,7 +17,7 @@ use Rattle.thin_model.specs.Drops.{candidates}
 use Rattle.run_data.specs.Repos.{offset_of}
 use Rattle.thin_model.specs.Thin.{MayBegin, MayBar, Ends}
 use Rattle.thin_driver.specs.Driver.{added, ask, decide, drop_there, drop_by}
-use Rattle.script_lang.specs.Lines.{IsLocalDrop}
+use Rattle.thin_script.specs.Lines.{IsLocalDrop}
 use Rattle.thin_driver.proofs.ThinLists.{eqb_refl, eqb_true, eqb_less, true_or_false, bytes_refl}
 use Rattle.thin_driver.proofs.ThinAdded.{jobs-here, jobs-other, jobs-kept, holds-here, holds-other, holds-kept, bar-here, bar-other, bar-kept, present-kept, decided-here, decided-other, decided-kept, begun-kept, begun-here, begun_up}
 use Rattle.thin_driver.proofs.ThinPasts.{IsGood, good_added, IsResting, resting_idle}

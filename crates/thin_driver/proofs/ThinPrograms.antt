@@ -8,10 +8,10 @@ use Rattle.run_data.specs.declared.entry.LogFile.{LogFile}
 use Rattle.run_data.specs.declared.entry.LogFile.TheVariants.{Location, Of, Other}
 use Rattle.run_data.specs.Files.{HasPath, kind_of}
 use Rattle.thin_model.specs.Thin.{IsThinRun}
-use Rattle.script_lang.specs.declared.command.Command.{Command}
-use Rattle.script_lang.specs.declared.command.Command.TheVariants as commands
-use Rattle.script_lang.specs.Lines.{Declared, declared, declared_by, is_written, IsLogFile, MayStand}
-use Rattle.script_lang.specs.Script.{AllStand, HasTexts, IsProgram, IsRawText, is_closed}
+use Rattle.thin_script.specs.declared.command.Command.{Command}
+use Rattle.thin_script.specs.declared.command.Command.TheVariants as commands
+use Rattle.thin_script.specs.Lines.{Declared, declared, declared_by, is_written, IsLogFile, MayStand}
+use Rattle.thin_script.specs.Script.{AllStand, HasTexts, IsProgram, IsRawText, is_closed}
 use Rattle.thin_driver.specs.Driver.{view_of, repos_of, run_of, AreShort}
 use Rattle.thin_driver.specs.Standing.{CanRun, IsOneLine}
 use Rattle.thin_driver.proofs.ThinLists.{Each-weaker}

@@ -19,10 +19,10 @@ use Rattle.thin_model.specs.Past.{present}
 use Rattle.thin_model.specs.Logs.{branch}
 use Rattle.run_data.specs.Repos.{fits_size}
 use Rattle.thin_model.specs.Thin.{IsSetUp, IsThinRun, ThinPast, MayGain}
-use Rattle.script_lang.specs.declared.command.Command.{Command}
-use Rattle.script_lang.specs.declared.command.Command.TheVariants as commands
-use Rattle.script_lang.specs.Lines.{declared}
-use Rattle.script_lang.specs.Script.{waited, waited_by}
+use Rattle.thin_script.specs.declared.command.Command.{Command}
+use Rattle.thin_script.specs.declared.command.Command.TheVariants as commands
+use Rattle.thin_script.specs.Lines.{declared}
+use Rattle.thin_script.specs.Script.{waited, waited_by}
 use Rattle.thin_driver.specs.Driver.{view_of, repos_of, added, written, unknown, log_status, have, done, entries_of, run_of, IsShort, AreShort}
 use Rattle.thin_driver.specs.Standing.{CanRun, IsOneLine}
 use Rattle.thin_driver.proofs.ThinLists.{Each-reverse, Each-weaker}

@@ -32,9 +32,9 @@ use Rattle.run_data.specs.Repos.{id_of}
 use Rattle.thin_model.specs.Past.{Hold, present, holds, begun, made, now, clock}
 use Rattle.thin_model.specs.Logs.{branch, kept, compact_lines, need_read}
 use Rattle.thin_model.specs.Drops.{evidence, candidates, proof_of, causes, waits}
-use Rattle.script_lang.specs.declared.command.Command.{Command}
-use Rattle.script_lang.specs.declared.command.Command.TheVariants as commands
-use Rattle.script_lang.specs.Lines.{Declared, declared}
+use Rattle.thin_script.specs.declared.command.Command.{Command}
+use Rattle.thin_script.specs.declared.command.Command.TheVariants as commands
+use Rattle.thin_script.specs.Lines.{Declared, declared}
 
 -- a repository of the script: it speaks version 3 and gives holds
 abbrev pub view_of : Declared → RepoView

@@ -7,9 +7,9 @@ use Rattle.log_lines.specs.LineText.{newline}
 use Rattle.run_data.specs.declared.run.RepoView.{RepoView}
 use Rattle.run_data.specs.Files.{HasPath, kind_of}
 use Rattle.run_data.specs.Repos.{fits_size}
-use Rattle.script_lang.specs.declared.command.Command.{Command}
-use Rattle.script_lang.specs.declared.command.Command.TheVariants as commands
-use Rattle.script_lang.specs.Lines.{IsLocalDrop}
+use Rattle.thin_script.specs.declared.command.Command.{Command}
+use Rattle.thin_script.specs.declared.command.Command.TheVariants as commands
+use Rattle.thin_script.specs.Lines.{IsLocalDrop}
 
 -- the text stands on one line
 abbrev pub IsOneLine : List ℕ → Type 0

@@ -9,7 +9,7 @@ use Rattle.thin_model.specs.Logs.{before_step}
 use Rattle.thin_model.specs.Drops.{reply, told_cause}
 use Rattle.thin_driver.specs.declared.driver.Driver.{Driver}
 use Rattle.thin_driver.specs.declared.tally.Tally.{Tally}
-use Rattle.script_lang.specs.declared.command.Command.{Command}
+use Rattle.thin_script.specs.declared.command.Command.{Command}
 use Rattle.run_data.specs.declared.run.RepoView.{RepoView}
 use Rattle.thin_driver.specs.Driver.{entries_of, newest_count}
 

@@ -3,9 +3,9 @@ ghost use Rattle.run_data.specs.declared.entry.Entry.{Entry};
 ghost use Rattle.run_data.specs.declared.entry.EntryKind.TheVariants.{Gain};
 ghost use Rattle.run_data.specs.declared.entry.By.TheVariants.{Script};
 ghost use Rattle.run_data.specs.declared.run.RepoView.{RepoView};
-ghost use Rattle.script_lang.specs.declared.command.Command.{Command};
-ghost use Rattle.script_lang.specs.Lines.{declared_by};
-ghost use Rattle.script_lang.specs.Script.{IsProgram};
+ghost use Rattle.thin_script.specs.declared.command.Command.{Command};
+ghost use Rattle.thin_script.specs.Lines.{declared_by};
+ghost use Rattle.thin_script.specs.Script.{IsProgram};
 ghost use Rattle.union_merge.specs.LineSet.{IsLine};
 ghost use Rattle.run_data.specs.Files.{HasPath};
 ghost use Rattle.thin_driver.specs.Driver.{add_lines, added, done, have, repos_of, run_of, view_of};
@@ -18,9 +18,9 @@ use annex_base::{Items, Line, NoMemory};
 use annex_key::Key;
 use log_lines::Value;
 use run_data::{By, EntryKind, LogFile, RepoView, Run};
-use script_lang::Command;
 use std::alloc::Global;
 use thin_model::{Branches, Contents};
+use thin_script::Command;
 
 /// The run of a script's lines, one after the other: content from the script, lines of logs, merges and compactions of
 /// branches, waits, and local drops, each whole. The script begins at time 0, and only a wait takes time; the entries'

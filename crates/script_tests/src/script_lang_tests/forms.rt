@@ -3,8 +3,8 @@
 use super::{TWO, joined};
 use annex_base::{Level, put_number};
 use run_data::LogFile;
-use script_lang::{Command, Script};
 use std::test::Fail;
+use thin_script::{Command, Script};
 
 fn put_word(out: &mut Vec<u8>, word: &[u8]) -> Result<(), Fail> {
     out.push(b'|')?;

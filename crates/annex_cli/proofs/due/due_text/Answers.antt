@@ -1,7 +1,7 @@
 use Rattle.std.proofs.Common.{ap, sym, subst, ◌∙◌, arith, ◌++◌, codes, IfOk, Result, Ok, Err}
 use Rattle.std.specs.Fmt.{decimal}
-use Rattle.script_lang.specs.declared.fault.ScriptFault.TheVariants.{TooMuch}
-use Rattle.script_lang.specs.Script.{quantity_name}
+use Rattle.thin_script.specs.declared.fault.ScriptFault.TheVariants.{TooMuch}
+use Rattle.thin_script.specs.Script.{quantity_name}
 use Rattle.annex_cli.specs.Top.{IsDue}
 use Rattle.annex_cli.proofs.DueLemmas.{limit_due}
 use Rattle.annex_cli.proofs.due.due_text.Goals as goal

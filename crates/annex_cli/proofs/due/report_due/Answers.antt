@@ -2,7 +2,7 @@ use Rattle.std.proofs.Common.{◌≡◌, sym, ap, ◌∙◌, subst, List, length
 use Rattle.annex_base.specs.Lists.{Each}
 use Rattle.run_data.specs.declared.run.Run.{Run}
 use Rattle.thin_model.specs.Thin.{IsThinRun}
-use Rattle.script_lang.specs.declared.command.Command.{Command}
+use Rattle.thin_script.specs.declared.command.Command.{Command}
 use Rattle.thin_driver.specs.Driver.{run_of}
 use Rattle.report_text.specs.Report.{report}
 use Rattle.report_text.specs.Walk.{ShowsKnown}

@@ -1,8 +1,8 @@
 use Rattle.std.proofs.Common.{◌≡◌, ℕ, List, ◌++◌, Some, sym, ap, ◌∙◌, refl}
 use Rattle.run_data.specs.declared.run.Run.{Run}
 use Rattle.run_data.specs.declared.entry.LogFile.{LogFile}
-use Rattle.script_lang.specs.declared.command.Command.{Command}
-use Rattle.script_lang.specs.declared.command.Command.TheVariants.{ShowClaims, ShowLocation, ShowLog, ShowLogs, ShowNumbers, ShowLevel}
+use Rattle.thin_script.specs.declared.command.Command.{Command}
+use Rattle.thin_script.specs.declared.command.Command.TheVariants.{ShowClaims, ShowLocation, ShowLog, ShowLogs, ShowNumbers, ShowLevel}
 use Rattle.std.specs.List.{flat_map}
 use Rattle.union_merge.specs.Branch.{Files, lines_at}
 use Rattle.hash_dirs.specs.LogPath.{location_path}

@@ -1,6 +1,6 @@
 use Rattle.std.proofs.Common.{◌++◌, List, ◌∙◌, map, sym, ap}
 use Rattle.run_data.specs.declared.run.RepoView.{RepoView}
-use Rattle.script_lang.specs.Lines.{declared_by}
+use Rattle.thin_script.specs.Lines.{declared_by}
 use Rattle.thin_driver.specs.Driver.{view_of}
 use Rattle.thin_driver.proofs.Scripts.{repos_next, all_repos}
 use Rattle.thin_driver.proofs.script.repositories.Goals as goal

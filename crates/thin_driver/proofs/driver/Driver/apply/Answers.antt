@@ -1,5 +1,5 @@
 use Rattle.std.proofs.Common.{ℕ, length, sym, ap, subst}
-use Rattle.script_lang.specs.declared.command.Command.{Command}
+use Rattle.thin_script.specs.declared.command.Command.{Command}
 use Rattle.annex_base.proofs.Lists.{Contains-from_Member}
 use Rattle.thin_driver.specs.Driver.{done, have}
 use Rattle.thin_driver.specs.Standing.{CanRun}

@@ -1,6 +1,0 @@
-use Rattle.std.proofs.lemmas.List.Sums.{prefix_len-le-length}
-use Rattle.script_lang.specs.Reading.{is_not_quote}
-use Rattle.script_lang.proofs.words.quoted_word.Goals as goal
-
-pub split_at-requires : goal.split_at-requires
-split_at-requires c = rw c.quoted_len-end.ensures (prefix_len-le-length is_not_quote c.args.bytes.now)
