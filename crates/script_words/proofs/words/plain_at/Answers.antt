@@ -1,0 +1,6 @@
+use Rattle.std.proofs.lemmas.List.Sums.{prefix_len-le-length}
+use Rattle.annex_base.specs.Lines.{is_not_space}
+use Rattle.script_words.proofs.words.plain_at.Goals as goal
+
+pub split_at-requires : goal.split_at-requires
+split_at-requires c = rw c.plain_len-end.ensures (prefix_len-le-length is_not_space c.args.bytes.now)

@@ -1,0 +1,7 @@
+pub mod Places
+pub mod Words
+pub mod Marks
+pub mod Numbers
+pub mod Contents
+pub mod Forms
+pub mod Fields

@@ -1,0 +1,23 @@
+//! The words of a script's line: how a line is cut into them, what single words say, and how one is printed.
+#![tactic(auto)]
+
+mod content;
+mod crossing;
+mod fields;
+mod filling;
+mod key_word;
+mod marks;
+mod numbers;
+mod printing;
+mod utf8;
+mod words;
+
+pub use content::Content;
+pub use fields::{
+    is_group, is_name, is_nolock, is_path, is_word, read_call, read_clock, read_id, read_level,
+    read_offset, read_version,
+};
+pub use key_word::{KeyWord, read_key_word};
+pub use numbers::read_number;
+pub use printing::put_word;
+pub use words::{LineWord, NextWord, Words};
