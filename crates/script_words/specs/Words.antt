@@ -1,6 +1,6 @@
 -- How a line of a script is cut into words (the project's own): words are separated by spaces, and a word whose first
 -- byte is a double quote runs to the next quote.
-use Rattle.std.specs.Prelude.{ℕ, ◌+◌, Bool, true, false, not, ◌==◌, List, [], ◌∷◌, ◌++◌, length, take, drop, if◌then◌else◌}
+use Rattle.std.specs.Prelude.{ℕ, ◌+◌, ◌<◌, ◌≤◌, Bool, true, false, not, ◌==◌, List, [], ◌∷◌, ◌++◌, length, take, drop, if◌then◌else◌}
 use Rattle.std.specs.List.{prefix_len, list_any}
 use Rattle.std.specs.Str.{is_utf8}
 use Rattle.annex_base.specs.Lines.{space, is_space, is_not_space}
@@ -18,7 +18,7 @@ is_not_quote b = not (b == quote)
 abbrev pub text_word : ℕ → List ℕ → ℕ → NextWord
 text_word place text after = if is_utf8 text then Word (record { place = place; text = text; after = after }) else BadWord place
 
--- whether a quote closes a word before these bytes: a space or the line's end follows it
+-- whether a space or the line's end comes next
 abbrev pub is_break : List ℕ → Bool
 is_break [] = true
 is_break (b ∷ rest) = b == space
@@ -65,6 +65,12 @@ abbrev pub behind : Cursor → NextWord → Cursor
 behind c NoWord = record { line = c.line; place = length c.line }
 behind c (BadWord at) = c
 behind c (Word word) = record { line = c.line; place = word.after }
+
+-- what was found stands behind the cursor and within its line, and a word ends behind the cursor
+abbrev pub IsAhead : Cursor → NextWord → Type 0
+IsAhead c NoWord = Unit {0}
+IsAhead c (BadWord at) = (c.place ≤ at) × (at < length c.line)
+IsAhead c (Word word) = (c.place ≤ word.place) × (word.place ≤ word.after) × (c.place < word.after) × (word.after ≤ length c.line)
 
 -- ---- words that are printed
 

@@ -6,6 +6,7 @@ mod crossing;
 mod fields;
 mod filling;
 mod key_word;
+mod laws;
 mod marks;
 mod numbers;
 mod printing;
@@ -18,6 +19,7 @@ pub use fields::{
     read_offset, read_version,
 };
 pub use key_word::{KeyWord, read_key_word};
+pub use laws::words_are_ahead;
 pub use numbers::read_number;
 pub use printing::put_word;
 pub use words::{LineWord, NextWord, Words};

@@ -18,8 +18,7 @@ pub fn put_word(out: &mut Vec<u8>, word: &[u8]) -> Result<(), AllocError>
     if !has_space(word) {
         return out.extend_from_slice(word);
     }
-    let quotes = 2;
-    out.reserve(word.len() + quotes)?;
+    out.reserve(word.len() + 2)?;
     out.push(b'"')?;
     out.extend_from_slice(word)?;
     out.push(b'"')?;

@@ -2,7 +2,7 @@
 ghost use Rattle.std.specs.Prelude.{◌≡◌, ◌<◌, ◌≤◌, ◌+◌, ◌^◌, length, drop};
 ghost use Rattle.std.specs.List.{prefix_len};
 ghost use Rattle.annex_base.specs.Lines.{is_space, is_not_space};
-ghost use Rattle.script_words.specs.Words.{is_not_quote, is_break, closes, text_word, quoted_word, plain_word, word_from, after_spaces, next_word, rest_from, rest_word, behind};
+ghost use Rattle.script_words.specs.Words.{is_not_quote, is_break, closes, text_word, quoted_word, plain_word, word_from, after_spaces, next_word, rest_from, rest_word, behind, IsAhead};
 
 use crate::utf8::is_text;
 use std::marker::Model;
@@ -90,10 +90,19 @@ impl<'a> Words<'a> {
         self.place
     }
 
+    /// The next word, without a step behind it.
+    pub fn peek(&self) -> NextWord<'a>
+        ensures found { result ≡ next_word self.now.line self.now.place }
+        ensures ahead { IsAhead self.now result }
+    {
+        find_word(self.line, self.place)
+    }
+
     /// The next word, behind the spaces that stand before it.
     pub fn next(&mut self) -> NextWord<'a>
         ensures found { result ≡ next_word self.old.line self.old.place }
         ensures cursor { self.new ≡ behind self.old result }
+        ensures ahead { IsAhead self.old result }
     {
         let found = find_word(self.line, self.place);
         self.place = place_behind(self.line, self.place, &found);
@@ -104,6 +113,7 @@ impl<'a> Words<'a> {
     pub fn rest(&mut self) -> NextWord<'a>
         ensures found { result ≡ rest_word self.old.line self.old.place }
         ensures cursor { self.new ≡ behind self.old result }
+        ensures ahead { IsAhead self.old result }
     {
         let found = find_rest(self.line, self.place);
         self.place = place_behind(self.line, self.place, &found);
