@@ -1,0 +1,7 @@
+pub mod Answers
+pub mod Context
+pub mod Verify
+pub mod Steps
+pub mod Forms
+pub mod Limits
+pub mod Script

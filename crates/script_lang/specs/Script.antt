@@ -1,0 +1,183 @@
+-- What a text says as a script, line by line (own).
+use Rattle.std.specs.Prelude.{◌≡◌, ℕ, zero, suc, ◌+◌, ◌-◌, Bool, true, false, not, ◌==◌, ◌&&◌, ◌||◌, List, [], ◌∷◌, ◌++◌, length, take, reverse, Option, Some, None, Result, Ok, Err, if◌then◌else◌}
+use Rattle.std.specs.List.{slice_split, prefix_len}
+use Rattle.std.specs.Str.{is_utf8}
+use Rattle.std.specs.Str.Lossy.{utf8_valid_len}
+use Rattle.std.specs.BTreeSet.{insert_key}
+use Rattle.annex_base.specs.Lines.{is_newline, is_not_space}
+use Rattle.annex_base.specs.ResultSteps.{◌>>=◌}
+use Rattle.annex_key.specs.Tree.{Entries, with_key}
+use Rattle.script_words.specs.Places.{Cursor}
+use Rattle.script_lang.specs.declared.command.BlockLine.{BlockLine}
+use Rattle.script_lang.specs.declared.command.Command.{Command}
+use Rattle.script_lang.specs.declared.command.Command.TheVariants as commands
+use Rattle.script_lang.specs.declared.verb.Verb.{Verb}
+use Rattle.script_lang.specs.declared.verb.Verb.TheVariants as verbs
+use Rattle.script_lang.specs.declared.verb.LineVerb.{LineVerb}
+use Rattle.script_lang.specs.declared.verb.LineVerb.TheVariants.{Par, End, Says}
+use Rattle.script_lang.specs.declared.fault.LineFault.{LineFault}
+use Rattle.script_lang.specs.declared.fault.LineFault.TheVariants.{Wrong, Past, NoMemory}
+use Rattle.script_lang.specs.declared.fault.ScriptFault.{ScriptFault}
+use Rattle.script_lang.specs.declared.fault.ScriptFault.TheVariants as faults
+use Rattle.script_lang.specs.declared.fault.Quantity.{Quantity}
+use Rattle.script_lang.specs.Context.{Context, placed_cmp}
+use Rattle.script_lang.specs.declared.context.Repository.{Repository}
+use Rattle.script_lang.specs.Steps.{saying_at, end_at}
+use Rattle.script_lang.specs.Forms.{row, block_row, line_named}
+use Rattle.script_lang.specs.Limits.{first_passed}
+
+-- ---- what a command changes for the lines behind it
+
+abbrev pub is_repo : Command → Bool
+is_repo (commands.Repo name id offset version locks) = true
+is_repo _ = false
+
+-- the repositories that the command declares
+abbrev pub declared_by : Command → List Repository
+declared_by (commands.Repo name id offset version locks) = record { name = name; id = id; offset = offset; version = version; locks = locks } ∷ []
+declared_by _ = []
+
+abbrev pub tree_with : Entries → Command → Entries
+tree_with tree (commands.Add r path key content) = with_key tree path key
+tree_with tree (commands.File path key) = with_key tree path key
+tree_with tree _ = tree
+
+abbrev pub placed_with : List (ℕ × List ℕ) → Command → List (ℕ × List ℕ)
+placed_with placed (commands.Have r key content) = insert_key placed_cmp placed (r, key)
+placed_with placed (commands.Add r path key content) = insert_key placed_cmp placed (r, key)
+placed_with placed _ = placed
+
+-- the bytes of the command's content
+abbrev pub content_size : Command → ℕ
+content_size (commands.Have r key content) = length content
+content_size (commands.Part r key content) = length content
+content_size (commands.Damage r key content) = length content
+content_size (commands.Add r path key content) = length content
+content_size _ = 0
+
+abbrev pub wait_of : Command → ℕ
+wait_of (commands.Wait milliseconds) = milliseconds
+wait_of _ = 0
+
+-- the context of the lines behind the command
+abbrev pub context_with : Context → Command → Context
+context_with context command = record {
+  repos = context.repos ++ declared_by command;
+  closed = context.closed || not (is_repo command);
+  tree = tree_with context.tree command;
+  placed = placed_with context.placed command;
+  contents = context.contents + content_size command;
+  waited = context.waited + wait_of command;
+}
+
+-- ---- lines
+
+-- the lines of an open block, and the number of the line that began it
+pub record Block : Type 0 where
+  pub number : ℕ
+  pub lines : List BlockLine
+
+-- what the lines so far say
+pub record State : Type 0 where
+  pub context : Context
+  pub commands : List Command
+  pub block : Option Block
+
+abbrev pub accepted_if : State → Command → Option Quantity → Result State LineFault
+accepted_if state command (Some quantity) = Err (Past quantity)
+accepted_if state command None = Ok (record { context = context_with state.context command; commands = state.commands ++ command ∷ []; block = None })
+
+-- one command more, if it passes no limit
+unfoldable pub accepted : State → Command → Result State LineFault
+accepted state command = accepted_if state command (first_passed state.context command)
+
+abbrev pub with_block : State → ℕ → List BlockLine → State
+with_block state number lines = record { context = state.context; commands = state.commands; block = Some (record { number = number; lines = lines }) }
+
+-- a line that stands in no block, from behind its first word on
+unfoldable pub line_outside : State → ℕ → LineVerb → Cursor → Result State LineFault
+line_outside state number Par at = end_at at >>= λ _. Ok (with_block state number [])
+line_outside state number End at = Err (Wrong 0)
+line_outside state number (Says v) at = (row v).1 state.context at >>= accepted state
+
+-- a line of a block; no other form may stand there
+unfoldable pub line_inside : State → Block → LineVerb → Cursor → Result State LineFault
+line_inside state block End at = end_at at >>= λ _. accepted state (commands.Par block.lines)
+line_inside state block (Says (verbs.InBlock v)) at = (block_row v).1 state.context at >>= λ l. Ok (with_block state block.number (block.lines ++ l ∷ []))
+line_inside state block v at = Err (Wrong 0)
+
+abbrev pub line_by : State → Option Block → ℕ → LineVerb → Cursor → Result State LineFault
+line_by state None number v at = line_outside state number v at
+line_by state (Some block) number v at = line_inside state block v at
+
+-- a line of words
+unfoldable pub words_line : State → ℕ → List ℕ → Result State LineFault
+words_line state number line = saying_at line_named (record { line = line; place = 0 }) >>= λ v. line_by state state.block number v.0 v.1
+
+-- an empty line, or a comment
+abbrev pub is_skipped : List ℕ → Bool
+is_skipped [] = true
+is_skipped (b ∷ rest) = b == 35
+
+-- the place of the last word of the bytes, where a word ends at a space
+abbrev pub last_word : List ℕ → ℕ
+last_word bytes = length bytes - prefix_len is_not_space (reverse bytes)
+
+-- a comment is UTF-8; one that isn't is wrong at the first byte of the word that has the first other byte
+abbrev pub comment_fault : List ℕ → LineFault
+comment_fault line = Wrong (last_word (take (utf8_valid_len line) line))
+
+-- a line after lines that say this
+unfoldable pub line_step : State → ℕ → List ℕ → Result State LineFault
+line_step state number line = if is_skipped line
+    then (if is_utf8 line then Ok state else Err (comment_fault line))
+    else words_line state number line
+
+-- ---- the whole text
+
+-- what a text says: commands; or the first line that is wrong, from 1, and its byte, from 0; or the first limit that it passes
+pub data Reading : Type 0 where
+  Commands : List Command → Reading
+  BadLine : ℕ → ℕ → Reading
+  PastLimit : Quantity → Reading
+
+abbrev pub ended_by : List Command → Option Block → Reading
+ended_by commands None = Commands commands
+ended_by commands (Some block) = BadLine block.number 0
+
+-- a line's fault, as the text's
+abbrev pub fault_of : ℕ → LineFault → Reading
+fault_of number (Wrong byte) = BadLine number byte
+fault_of number (Past quantity) = PastLimit quantity
+fault_of number NoMemory = BadLine number 0
+
+abbrev pub goes_on : ℕ → Result State LineFault → (State → Reading) → Reading
+goes_on number (Ok state) others = others state
+goes_on number (Err fault) others = fault_of number fault
+
+-- what lines say after others, the first of them being the line of this number
+abbrev pub lines_reading : State → ℕ → List (List ℕ) → Reading
+lines_reading state number [] = ended_by state.commands state.block
+lines_reading state number (line ∷ lines) = goes_on number (line_step state number line) (λ next. lines_reading next (number + 1) lines)
+
+-- no lines
+abbrev pub no_context : Context
+no_context = record { repos = []; closed = false; tree = []; placed = []; contents = 0; waited = 0 }
+
+abbrev pub no_lines : State
+no_lines = record { context = no_context; commands = []; block = None }
+
+-- the lines of a text, which end at newlines
+abbrev pub lines_of : List ℕ → List (List ℕ)
+lines_of text = slice_split is_newline text
+
+-- what a text says as a script
+unfoldable pub reading : List ℕ → Reading
+reading text = lines_reading no_lines 1 (lines_of text)
+
+-- the answer tells the reading, unless memory ran out
+abbrev pub IsReading : Result (List Command) ScriptFault → Reading → Type 0
+IsReading (Ok script) says = says ≡ Commands script
+IsReading (Err (faults.BadLine line byte)) says = says ≡ BadLine line byte
+IsReading (Err (faults.TooMuch quantity)) says = says ≡ PastLimit quantity
+IsReading (Err faults.NoMemory) says = Unit {0}
