@@ -10,12 +10,14 @@ use Rattle.annex_base.specs.ByteOrder.{text_cmp}
 use Rattle.annex_key.specs.Tree.{Entries, key_of}
 use Rattle.script_lang.specs.declared.context.Repository.{Repository}
 
--- what a line is read by: the repositories in order of number, whether a line other than theirs came, the tree, the
--- contents that lines put, each with its repository's number, the bytes of all contents, and the milliseconds of all waits
+-- what a line is read by: the repositories in order of number, whether a line other than theirs came, the tree and how
+-- many paths it has, the contents that lines put, each with its repository's number, the bytes of all contents, and the
+-- milliseconds of all waits
 pub record Context : Type 0 where
   pub repos : List Repository
   pub closed : Bool
   pub tree : Entries
+  pub files : ℕ
   pub placed : List (ℕ × List ℕ)
   pub contents : ℕ
   pub waited : ℕ
@@ -51,3 +53,7 @@ is_placed context r key = list_any (is_at (placed_cmp (r, key))) context.placed
 -- whether the path stands in the tree
 abbrev pub has_path : Entries → List ℕ → Bool
 has_path tree path = is_some (key_of tree path)
+
+-- how many paths the tree has more with this one
+abbrev pub new_paths : Entries → List ℕ → ℕ
+new_paths tree path = if has_path tree path then 0 else 1

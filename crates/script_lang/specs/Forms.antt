@@ -118,9 +118,12 @@ way next context at = Steps.way_at at >>= λ x. next x.0 context x.1
 abbrev pub ends : {A : Type 0} → A → Form A
 ends said context at = Steps.end_at at >>= λ _. Ok said
 
+abbrev pub end_within_at : List ℕ → Cursor → Result Unit LineFault
+end_within_at content at = Steps.end_at at >>= λ _. if Steps.is_large content then Err (Past Content) else Ok tt
+
 -- no word is left, and the content doesn't pass its limit
 abbrev pub ends_within : {A : Type 0} → List ℕ → A → Form A
-ends_within content said context at = Steps.end_at at >>= λ _. if Steps.is_large content then Err (Past Content) else Ok said
+ends_within content said context at = end_within_at content at >>= λ _. Ok said
 
 -- the rest of the line: a text of at most 4,096 bytes, any text, a glob, a raw line that isn't empty, groups
 abbrev pub text : {A : Type 0} → (List ℕ → A) → Form A
@@ -163,9 +166,12 @@ all_jobs = job_verbs.Drop ∷ job_verbs.Get ∷ job_verbs.Copy ∷ job_verbs.Mov
 abbrev pub job_named : List ℕ → Option JobVerb
 job_named word = find (λ v. bytes_eq (job_row v).0 word) all_jobs
 
+abbrev pub job_verb_at : Steps.Step JobVerb
+job_verb_at at = Steps.saying_at job_named at
+
 -- a job's verb, and the job
 abbrev pub job : {A : Type 0} → (ℕ → Job → A) → Form A
-job said context at = Steps.saying_at job_named at >>= λ v. (job_row v.0).1 context v.1 >>= λ j. Ok (said j.0 j.1)
+job said context at = job_verb_at at >>= λ v. (job_row v.0).1 context v.1 >>= λ j. Ok (said j.0 j.1)
 
 -- ---- lines that may stand in a block
 
@@ -210,9 +216,12 @@ all_shows = shows.Presence ∷ shows.Claims ∷ shows.Location ∷ shows.Log ∷
 abbrev pub show_named : List ℕ → Option Show
 show_named word = find (λ v. bytes_eq (show_row v).0 word) all_shows
 
+abbrev pub show_at : Steps.Step Show
+show_at at = Steps.saying_at show_named at
+
 -- what is shown, and of what
 abbrev pub show : Form Command
-show context at = Steps.saying_at show_named at >>= λ v. (show_row v.0).1 context v.1
+show context at = show_at at >>= λ v. (show_row v.0).1 context v.1
 
 -- ---- all lines, but for the two that begin and end a block
 

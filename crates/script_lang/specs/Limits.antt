@@ -1,11 +1,10 @@
 -- What is counted in a script, and how much of it there may be (own).
 use Rattle.std.specs.Prelude.{ℕ, ◌+◌, Bool, nat_lt, List, length, Option, Some, None, codes, if◌then◌else◌}
-use Rattle.annex_key.specs.Tree.{with_key}
 use Rattle.script_lang.specs.declared.command.Command.{Command}
 use Rattle.script_lang.specs.declared.command.Command.TheVariants.{Repo, Have, Part, Damage, Add, File, Wait}
 use Rattle.script_lang.specs.declared.fault.Quantity.{Quantity}
 use Rattle.script_lang.specs.declared.fault.Quantity.TheVariants.{Repositories, Content, Contents, Files, Time}
-use Rattle.script_lang.specs.Context.{Context}
+use Rattle.script_lang.specs.Context.{Context, new_paths}
 use Rattle.script_lang.specs.Steps.{most_content}
 
 -- the name of what is counted, as a report says it
@@ -31,8 +30,8 @@ abbrev pub contents_pass : Context → List ℕ → Option Quantity → Option Q
 contents_pass context content others = passed_by Contents (context.contents + length content) others
 
 -- the tree with the path
-abbrev pub files_pass : Context → List ℕ → List ℕ → Option Quantity
-files_pass context path key = passed_by Files (length (with_key context.tree path key)) None
+abbrev pub files_pass : Context → List ℕ → Option Quantity
+files_pass context path = passed_by Files (context.files + new_paths context.tree path) None
 
 -- the first limit that a command passes; the limit of one content is met in the command's form
 abbrev pub first_passed : Context → Command → Option Quantity
@@ -40,7 +39,7 @@ first_passed context (Repo name id offset version locks) = passed_by Repositorie
 first_passed context (Have r key content) = contents_pass context content None
 first_passed context (Part r key content) = contents_pass context content None
 first_passed context (Damage r key content) = contents_pass context content None
-first_passed context (Add r path key content) = contents_pass context content (files_pass context path key)
-first_passed context (File path key) = files_pass context path key
+first_passed context (Add r path key content) = contents_pass context content (files_pass context path)
+first_passed context (File path key) = files_pass context path
 first_passed context (Wait milliseconds) = passed_by Time (context.waited + milliseconds) None
 first_passed context _ = None

@@ -1,6 +1,6 @@
 -- The steps by which a line is read: each reads the words that come next, and stands before what follows them (own).
 -- A word that is missing is wrong at the line's length, any other wrong word at its first byte.
-use Rattle.std.specs.Prelude.{◌≡◌, ℕ, zero, suc, ◌+◌, ◌-◌, Bool, true, false, ◌&&◌, ◌||◌, not, nat_le, nat_lt, ◌==◌, List, [], ◌∷◌, ◌++◌, length, Option, Some, None, Result, Ok, Err, codes, bytes_eq, if◌then◌else◌}
+use Rattle.std.specs.Prelude.{◌≡◌, ℕ, zero, suc, ◌+◌, ◌-◌, Bool, true, false, ◌&&◌, ◌||◌, not, nat_le, nat_lt, ◌==◌, List, [], ◌∷◌, ◌++◌, length, Option, Some, None, Result, Ok, Err, codes, bytes_eq, is_some, if◌then◌else◌}
 use Rattle.std.specs.Option.{option_map}
 use Rattle.annex_base.specs.ResultSteps.{◌>>=◌}
 use Rattle.annex_base.specs.RepoText.{repo_of}
@@ -80,6 +80,10 @@ if_holds b x = if b then Some x else None
 -- a word that must be this one
 abbrev pub this_word : List ℕ → List ℕ → Option Unit
 this_word word text = if_holds (bytes_eq word text) tt
+
+-- whether this word comes next, with the place behind it
+abbrev pub passed : List ℕ → Cursor → Bool × Cursor
+passed word at = let x = option_at (this_word word) at in (is_some x.0, x.1)
 
 -- ---- repositories
 
@@ -202,13 +206,13 @@ file_at at = saying_at file_named at
 abbrev pub location_at : Context → Step LogFile
 location_at context at = key_at context at >>= λ k. Ok (Location k.0.key, k.1)
 
-abbrev pub log_file_by : Context → Cursor → Option Unit → Step LogFile
-log_file_by context at None behind_location = file_at at
-log_file_by context at (Some found) behind_location = location_at context behind_location
+abbrev pub log_file_by : Context → Bool → Step LogFile
+log_file_by context false at = file_at at
+log_file_by context true at = location_at context at
 
 -- `location` and a key, or a log file by its name
 unfoldable pub log_file_at : Context → Step LogFile
-log_file_at context at = let x = option_at (this_word (codes "location")) at in log_file_by context at x.0 x.1
+log_file_at context at = let x = passed (codes "location") at in log_file_by context x.0 x.1
 
 -- ---- options
 
@@ -250,13 +254,13 @@ turns_at at = let x = option_at turns_of at in (or_else 1 x.0, x.1)
 unfoldable pub maybe_path_at : Cursor → Option (List ℕ) × Cursor
 maybe_path_at at = option_at path_of at
 
-abbrev pub peer_by : Context → ℕ → Option Unit → Step (Option ℕ)
-peer_by context r None at = Ok (None, at)
-peer_by context r (Some found) at = other_at context r at >>= λ p. Ok (Some p.0, p.1)
+abbrev pub peer_by : Context → ℕ → Bool → Step (Option ℕ)
+peer_by context r false at = Ok (None, at)
+peer_by context r true at = other_at context r at >>= λ p. Ok (Some p.0, p.1)
 
 -- `from` and another repository than this one, or nothing
 unfoldable pub from_at : Context → ℕ → Step (Option ℕ)
-from_at context r at = let x = option_at (this_word (codes "from")) at in peer_by context r x.0 x.1
+from_at context r at = let x = passed (codes "from") at in peer_by context r x.0 x.1
 
 -- `to` and another repository than this one
 unfoldable pub to_at : Context → ℕ → Step ℕ

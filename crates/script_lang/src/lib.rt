@@ -1,9 +1,16 @@
 //! The language of scripts: what each line says.
 #![tactic(auto)]
 
+mod actions;
 mod command;
+mod contents;
 mod context;
 mod fault;
+mod forms;
+mod jobs;
+mod rests;
+mod settings;
+mod shows;
 mod steps;
 mod verb;
 mod verify;

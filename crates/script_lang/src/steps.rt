@@ -25,24 +25,21 @@ use std::alloc::Global;
 /// The most bytes of one content.
 const MOST_CONTENT: u64 = 16_777_216;
 
-/// The most bytes of a text up to the line's end.
-const LONGEST_TEXT: usize = 4096;
-
-fn wrong(byte: usize) -> LineFault
+pub fn wrong(byte: usize) -> LineFault
     ensures { result ≡ faults.Wrong byte }
 {
     LineFault::Wrong { byte: byte as u64 }
 }
 
 /// The fault of a word.
-fn wrong_word(word: &LineWord<'_>) -> LineFault
+pub fn wrong_word(word: &LineWord<'_>) -> LineFault
     ensures { result ≡ faults.Wrong word.now.place }
 {
     wrong(word.place())
 }
 
 /// The fault of a missing word.
-fn missing(words: &Words<'_>) -> LineFault
+pub fn missing(words: &Words<'_>) -> LineFault
     ensures { result ≡ faults.Wrong (length words.now.line) }
 {
     wrong(words.line().len())
@@ -319,4 +316,165 @@ pub fn offset(words: &mut Words<'_>) -> u64
         }
     }
     0
+}
+
+/// The version of an option `version=V`, without it 3.
+#[tactic(auto, unfolding(crate::specs::Steps::version_at))]
+pub fn version(words: &mut Words<'_>) -> u8
+    ensures { (result, words.new) ≡ spec.version_at words.old }
+{
+    if let NextWord::Word(word) = words.peek() {
+        if let Some(version) = read_version(word.text()) {
+            words.next();
+            return version;
+        }
+    }
+    3
+}
+
+/// Whether a repository gives holds to peers: the option `nolock` says that it doesn't.
+#[tactic(auto, unfolding(crate::specs::Steps::locks_at))]
+pub fn locks(words: &mut Words<'_>) -> bool
+    ensures { (result, words.new) ≡ spec.locks_at words.old }
+{
+    if let NextWord::Word(word) = words.peek() {
+        if is_nolock(word.text()) {
+            words.next();
+            return false;
+        }
+    }
+    true
+}
+
+/// The clock of an option `clock=MS`, without it 0.
+#[tactic(auto, unfolding(crate::specs::Steps::clock_at))]
+pub fn clock(words: &mut Words<'_>) -> u64
+    ensures { (result, words.new) ≡ spec.clock_at words.old }
+{
+    if let NextWord::Word(word) = words.peek() {
+        if let Some(clock) = read_clock(word.text()) {
+            words.next();
+            return clock;
+        }
+    }
+    0
+}
+
+fn read_turns(word: &[u8]) -> Option<u32>
+    ensures { result ≡ spec.turns_of word.now }
+{
+    match read_number(word, 10_000) {
+        Some(turns) if turns >= 1 => Some(turns as u32),
+        _ => None,
+    }
+}
+
+/// A number of turns from 1 to 10,000, without it 1.
+#[tactic(auto, unfolding(crate::specs::Steps::turns_at))]
+pub fn turns(words: &mut Words<'_>) -> u32
+    ensures { (result, words.new) ≡ spec.turns_at words.old }
+{
+    if let NextWord::Word(word) = words.peek() {
+        if let Some(turns) = read_turns(word.text()) {
+            words.next();
+            return turns;
+        }
+    }
+    1
+}
+
+/// A path, or none.
+#[tactic(auto, unfolding(crate::specs::Steps::maybe_path_at))]
+pub fn maybe_path(alloc: Global, words: &mut Words<'_>) -> Result<Option<Text>, NoMemory>
+    ensures { IfOk result (λ p. (p, words.new) ≡ spec.maybe_path_at words.old) }
+{
+    if let NextWord::Word(word) = words.peek() {
+        if is_path(word.text()) {
+            words.next();
+            return Ok(Some(Text::new(alloc, word.text())?));
+        }
+    }
+    Ok(None)
+}
+
+/// Reads the word where it comes next, and tells whether it did.
+fn pass(words: &mut Words<'_>, wanted: &[u8]) -> bool
+    ensures { (result, words.new) ≡ spec.passed wanted.now words.old }
+{
+    if let NextWord::Word(word) = words.peek() {
+        if is_word(word.text(), wanted) {
+            words.next();
+            return true;
+        }
+    }
+    false
+}
+
+/// `from` and another repository than this one, or nothing.
+#[tactic(auto, unfolding(crate::specs::Steps::from_at))]
+pub fn maybe_from(
+    context: &Context,
+    repo: u32,
+    words: &mut Words<'_>,
+) -> Result<Option<u32>, LineFault>
+    ensures { Reads (λ p. p) result words.new (spec.from_at context.now repo words.old) }
+{
+    if pass(words, b"from") {
+        let peer = other(context, repo, words)?;
+        Ok(Some(peer))
+    } else {
+        Ok(None)
+    }
+}
+
+/// `to` and another repository than this one.
+#[tactic(auto, unfolding(crate::specs::Steps::to_at))]
+pub fn to(context: &Context, repo: u32, words: &mut Words<'_>) -> Result<u32, LineFault>
+    ensures { Reads (λ p. p) result words.new (spec.to_at context.now repo words.old) }
+{
+    let word = next_word(words)?;
+    if is_word(word.text(), b"to") {
+        other(context, repo, words)
+    } else {
+        Err(wrong_word(&word))
+    }
+}
+
+/// Which way content moves.
+#[tactic(auto, unfolding(crate::specs::Steps::way_at))]
+pub fn way(words: &mut Words<'_>) -> Result<JobKind, LineFault>
+    ensures { Reads (λ k. k) result words.new (spec.way_at words.old) }
+{
+    let word = next_word(words)?;
+    if is_word(word.text(), b"to") {
+        return Ok(JobKind::MoveTo);
+    }
+    if is_word(word.text(), b"from") {
+        return Ok(JobKind::MoveFrom);
+    }
+    Err(wrong_word(&word))
+}
+
+/// The key of a location log, behind the word `location`.
+fn location(alloc: Global, context: &Context, words: &mut Words<'_>) -> Result<LogFile, LineFault>
+    ensures { Reads (λ f. f) result words.new (spec.location_at context.now words.old) }
+{
+    let named = key(alloc, context, words)?;
+    Ok(LogFile::Location(named.key))
+}
+
+/// `location` and a key, or a log file by its name.
+#[tactic(auto, unfolding(crate::specs::Steps::log_file_at))]
+pub fn log_file(
+    alloc: Global,
+    context: &Context,
+    words: &mut Words<'_>,
+) -> Result<LogFile, LineFault>
+    ensures { Reads (λ f. f) result words.new (spec.log_file_at context.now words.old) }
+{
+    if pass(words, b"location") {
+        location(alloc, context, words)
+    } else {
+        file(alloc, words)
+    }
 }

@@ -1,0 +1,58 @@
+//! The command that a line says, by its form.
+ghost use Rattle.std.specs.Prelude.{◌≡◌};
+ghost use Rattle.script_lang.specs.Answers.{Gives};
+ghost use Rattle.script_lang.specs.Forms.{row};
+
+use crate::actions::{compact, merge, settle, sync, turn, wait};
+use crate::command::Command;
+use crate::contents::{add, damage, file, have, part};
+use crate::context::Context;
+use crate::fault::LineFault;
+use crate::jobs::{begin, read_alone};
+use crate::settings::{
+    declare, describe, group_wanted, mincopies, mincopies_for, numcopies, numcopies_for, raw_log,
+    required, set_groups, trust, wanted,
+};
+use crate::shows::show;
+use crate::verb::Verb;
+use script_words::Words;
+use std::alloc::Global;
+
+/// The command that the words behind the verb say.
+pub fn read_command(
+    verb: Verb,
+    alloc: Global,
+    context: &Context,
+    words: &mut Words<'_>,
+) -> Result<Command, LineFault>
+    ensures { Gives (λ c. c) result ((row verb).1 context.now words.old) }
+{
+    match verb {
+        Verb::Repo => declare(alloc, context, words),
+        Verb::Numcopies => numcopies(context, words),
+        Verb::Mincopies => mincopies(context, words),
+        Verb::NumcopiesFor => numcopies_for(alloc, context, words),
+        Verb::MincopiesFor => mincopies_for(alloc, context, words),
+        Verb::Trust => trust(context, words),
+        Verb::Describe => describe(alloc, context, words),
+        Verb::Wanted => wanted(alloc, context, words),
+        Verb::Required => required(alloc, context, words),
+        Verb::Group => set_groups(alloc, context, words),
+        Verb::GroupWanted => group_wanted(alloc, context, words),
+        Verb::Log => raw_log(alloc, context, words),
+        Verb::Have => have(alloc, context, words),
+        Verb::Part => part(alloc, context, words),
+        Verb::Damage => damage(alloc, context, words),
+        Verb::Add => add(alloc, context, words),
+        Verb::File => file(alloc, context, words),
+        Verb::InBlock(verb) => read_alone(verb, alloc, context, words),
+        Verb::Begin => begin(alloc, context, words),
+        Verb::Turn => turn(context, words),
+        Verb::Settle => settle(words),
+        Verb::Merge => merge(context, words),
+        Verb::Compact => compact(context, words),
+        Verb::Sync => sync(context, words),
+        Verb::Wait => wait(words),
+        Verb::Show => show(alloc, context, words),
+    }
+}
