@@ -11,6 +11,7 @@ use Rattle.script_words.specs.Places.{Cursor}
 use Rattle.script_lang.specs.declared.command.BlockLine.{BlockLine}
 use Rattle.script_lang.specs.declared.command.Command.{Command}
 use Rattle.script_lang.specs.declared.command.Command.TheVariants as commands
+use Rattle.script_lang.specs.declared.state.Block.{Block}
 use Rattle.script_lang.specs.declared.verb.Verb.{Verb}
 use Rattle.script_lang.specs.declared.verb.Verb.TheVariants as verbs
 use Rattle.script_lang.specs.declared.verb.LineVerb.{LineVerb}
@@ -20,9 +21,9 @@ use Rattle.script_lang.specs.declared.fault.LineFault.TheVariants.{Wrong, Past, 
 use Rattle.script_lang.specs.declared.fault.ScriptFault.{ScriptFault}
 use Rattle.script_lang.specs.declared.fault.ScriptFault.TheVariants as faults
 use Rattle.script_lang.specs.declared.fault.Quantity.{Quantity}
-use Rattle.script_lang.specs.Context.{Context, placed_cmp}
+use Rattle.script_lang.specs.Context.{Context, new_paths, placed_cmp}
 use Rattle.script_lang.specs.declared.context.Repository.{Repository}
-use Rattle.script_lang.specs.Steps.{saying_at, end_at}
+use Rattle.script_lang.specs.Steps.{Step, saying_at, end_at}
 use Rattle.script_lang.specs.Forms.{row, block_row, line_named}
 use Rattle.script_lang.specs.Limits.{first_passed}
 
@@ -41,6 +42,12 @@ abbrev pub tree_with : Entries → Command → Entries
 tree_with tree (commands.Add r path key content) = with_key tree path key
 tree_with tree (commands.File path key) = with_key tree path key
 tree_with tree _ = tree
+
+-- how many paths the tree has more
+abbrev pub files_by : Entries → Command → ℕ
+files_by tree (commands.Add r path key content) = new_paths tree path
+files_by tree (commands.File path key) = new_paths tree path
+files_by tree _ = 0
 
 abbrev pub placed_with : List (ℕ × List ℕ) → Command → List (ℕ × List ℕ)
 placed_with placed (commands.Have r key content) = insert_key placed_cmp placed (r, key)
@@ -65,6 +72,7 @@ context_with context command = record {
   repos = context.repos ++ declared_by command;
   closed = context.closed || not (is_repo command);
   tree = tree_with context.tree command;
+  files = context.files + files_by context.tree command;
   placed = placed_with context.placed command;
   contents = context.contents + content_size command;
   waited = context.waited + wait_of command;
@@ -72,47 +80,45 @@ context_with context command = record {
 
 -- ---- lines
 
--- the lines of an open block, and the number of the line that began it
-pub record Block : Type 0 where
-  pub number : ℕ
-  pub lines : List BlockLine
-
 -- what the lines so far say
 pub record State : Type 0 where
   pub context : Context
   pub commands : List Command
   pub block : Option Block
 
-abbrev pub accepted_if : State → Command → Option Quantity → Result State LineFault
-accepted_if state command (Some quantity) = Err (Past quantity)
-accepted_if state command None = Ok (record { context = context_with state.context command; commands = state.commands ++ command ∷ []; block = None })
+abbrev pub accepted_if : Context → List Command → Command → Option Quantity → Result State LineFault
+accepted_if context before command (Some quantity) = Err (Past quantity)
+accepted_if context before command None = Ok (record { context = context_with context command; commands = before ++ command ∷ []; block = None })
 
 -- one command more, if it passes no limit
-unfoldable pub accepted : State → Command → Result State LineFault
-accepted state command = accepted_if state command (first_passed state.context command)
+unfoldable pub accepted : Context → List Command → Command → Result State LineFault
+accepted context before command = accepted_if context before command (first_passed context command)
 
-abbrev pub with_block : State → ℕ → List BlockLine → State
-with_block state number lines = record { context = state.context; commands = state.commands; block = Some (record { number = number; lines = lines }) }
+abbrev pub within_block : Context → List Command → ℕ → List BlockLine → State
+within_block context before number lines = record { context = context; commands = before; block = Some (record { number = number; lines = lines }) }
 
--- a line that stands in no block, from behind its first word on
-unfoldable pub line_outside : State → ℕ → LineVerb → Cursor → Result State LineFault
-line_outside state number Par at = end_at at >>= λ _. Ok (with_block state number [])
-line_outside state number End at = Err (Wrong 0)
-line_outside state number (Says v) at = (row v).1 state.context at >>= accepted state
+-- a line that stands in no block, after these commands, from behind its first word on
+unfoldable pub line_outside : Context → List Command → ℕ → LineVerb → Cursor → Result State LineFault
+line_outside context before number Par at = end_at at >>= λ _. Ok (within_block context before number [])
+line_outside context before number End at = Err (Wrong 0)
+line_outside context before number (Says v) at = (row v).1 context at >>= accepted context before
 
 -- a line of a block; no other form may stand there
-unfoldable pub line_inside : State → Block → LineVerb → Cursor → Result State LineFault
-line_inside state block End at = end_at at >>= λ _. accepted state (commands.Par block.lines)
-line_inside state block (Says (verbs.InBlock v)) at = (block_row v).1 state.context at >>= λ l. Ok (with_block state block.number (block.lines ++ l ∷ []))
-line_inside state block v at = Err (Wrong 0)
+unfoldable pub line_inside : Context → List Command → Block → LineVerb → Cursor → Result State LineFault
+line_inside context before block End at = end_at at >>= λ _. accepted context before (commands.Par block.lines)
+line_inside context before block (Says (verbs.InBlock v)) at = (block_row v).1 context at >>= λ l. Ok (within_block context before block.number (block.lines ++ l ∷ []))
+line_inside context before block v at = Err (Wrong 0)
 
-abbrev pub line_by : State → Option Block → ℕ → LineVerb → Cursor → Result State LineFault
-line_by state None number v at = line_outside state number v at
-line_by state (Some block) number v at = line_inside state block v at
+abbrev pub line_by : Context → List Command → Option Block → ℕ → LineVerb → Cursor → Result State LineFault
+line_by context before None number v at = line_outside context before number v at
+line_by context before (Some block) number v at = line_inside context before block v at
+
+abbrev pub line_verb_at : Step LineVerb
+line_verb_at at = saying_at line_named at
 
 -- a line of words
 unfoldable pub words_line : State → ℕ → List ℕ → Result State LineFault
-words_line state number line = saying_at line_named (record { line = line; place = 0 }) >>= λ v. line_by state state.block number v.0 v.1
+words_line state number line = line_verb_at (record { line = line; place = 0 }) >>= λ v. line_by state.context state.commands state.block number v.0 v.1
 
 -- an empty line, or a comment
 abbrev pub is_skipped : List ℕ → Bool
@@ -162,7 +168,7 @@ lines_reading state number (line ∷ lines) = goes_on number (line_step state nu
 
 -- no lines
 abbrev pub no_context : Context
-no_context = record { repos = []; closed = false; tree = []; placed = []; contents = 0; waited = 0 }
+no_context = record { repos = []; closed = false; tree = []; files = 0; placed = []; contents = 0; waited = 0 }
 
 abbrev pub no_lines : State
 no_lines = record { context = no_context; commands = []; block = None }
@@ -175,9 +181,13 @@ lines_of text = slice_split is_newline text
 unfoldable pub reading : List ℕ → Reading
 reading text = lines_reading no_lines 1 (lines_of text)
 
--- the answer tells the reading, unless memory ran out
-abbrev pub IsReading : Result (List Command) ScriptFault → Reading → Type 0
-IsReading (Ok script) says = says ≡ Commands script
-IsReading (Err (faults.BadLine line byte)) says = says ≡ BadLine line byte
-IsReading (Err (faults.TooMuch quantity)) says = says ≡ PastLimit quantity
-IsReading (Err faults.NoMemory) says = Unit {0}
+-- a fault tells the reading
+abbrev pub IsFault : ScriptFault → Reading → Type 0
+IsFault (faults.BadLine line byte) says = says ≡ BadLine line byte
+IsFault (faults.TooMuch quantity) says = says ≡ PastLimit quantity
+IsFault faults.NoMemory says = Unit {0}
+
+-- the answer, seen by view, tells the reading, unless memory ran out
+abbrev pub IsReading : {X : Type 0} → (X → List Command) → Result X ScriptFault → Reading → Type 0
+IsReading view (Ok x) says = says ≡ Commands (view x)
+IsReading view (Err fault) says = IsFault fault says

@@ -83,6 +83,8 @@ pub struct Context {
     /// Whether a line other than theirs came.
     pub closed: bool,
     pub tree: Tree,
+    /// How many paths the tree has.
+    pub files: u64,
     /// The contents that lines put, each with its repository's number.
     pub placed: BTreeSet<(u32, Key)>,
     /// The bytes of all contents.
@@ -97,7 +99,7 @@ impl Model for Context {
 
     ghost Value = { Context };
 
-    ghost view = { λ c. record { repos = c.repos.items; closed = c.closed; tree = c.tree; placed = c.placed.keys; contents = c.contents; waited = c.waited } };
+    ghost view = { λ c. record { repos = c.repos.items; closed = c.closed; tree = c.tree; files = c.files; placed = c.placed.keys; contents = c.contents; waited = c.waited } };
 
-    ghost invariant = { λ c. length c.repos.items ≤ 8 };
+    ghost invariant = { λ c. (length c.repos.items ≤ 8) × (c.files ≤ 4096) × (c.contents ≤ 268435456) × (c.waited ≤ 1000000000000) };
 }

@@ -3,7 +3,7 @@ ghost use Rattle.std.specs.Prelude.{◌≡◌};
 ghost use Rattle.script_lang.specs.Limits.{quantity_name, limit_of};
 
 use annex_base::NoMemory;
-use std::alloc::AllocError;
+use std::alloc::{AllocError, AllocFailed};
 use thiserror::Error;
 
 /// Why a text is no script.
@@ -92,5 +92,38 @@ impl From<AllocError> for LineFault {
 
     fn from(_e: AllocError) -> LineFault {
         LineFault::NoMemory
+    }
+}
+
+impl<T: Drop> From<AllocFailed<T>> for LineFault {
+    ghost use Rattle.std.specs.Prelude.{◌≡◌};
+    ghost use Rattle.script_lang.specs.declared.fault.LineFault.TheVariants as faults;
+
+    ghost from_gives = { λ _ e. e ≡ faults.NoMemory };
+
+    fn from(_e: AllocFailed<T>) -> LineFault {
+        LineFault::NoMemory
+    }
+}
+
+impl From<NoMemory> for ScriptFault {
+    ghost use Rattle.std.specs.Prelude.{◌≡◌};
+    ghost use Rattle.script_lang.specs.declared.fault.ScriptFault.TheVariants as faults;
+
+    ghost from_gives = { λ _ e. e ≡ faults.NoMemory };
+
+    fn from(_e: NoMemory) -> ScriptFault {
+        ScriptFault::NoMemory
+    }
+}
+
+impl From<AllocError> for ScriptFault {
+    ghost use Rattle.std.specs.Prelude.{◌≡◌};
+    ghost use Rattle.script_lang.specs.declared.fault.ScriptFault.TheVariants as faults;
+
+    ghost from_gives = { λ _ e. e ≡ faults.NoMemory };
+
+    fn from(_e: AllocError) -> ScriptFault {
+        ScriptFault::NoMemory
     }
 }

@@ -9,11 +9,14 @@ mod fault;
 mod forms;
 mod jobs;
 mod rests;
+mod script;
 mod settings;
 mod shows;
+mod state;
 mod steps;
 mod verb;
 mod verify;
 
 pub use command::{BlockLine, BlockLines, Command, NamedKey};
 pub use fault::{Quantity, ScriptFault};
+pub use script::Script;
