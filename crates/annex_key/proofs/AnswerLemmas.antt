@@ -6,7 +6,7 @@ use Rattle.annex_key.specs.declared.fault.KeyFault.TheVariants.{NoDashes, BadBac
 use Rattle.annex_key.specs.KeyText.{Parts, IsKey, IsKeyText, key_text}
 use Rattle.annex_key.specs.Reading.{key_at}
 use Rattle.annex_key.specs.Faults.{Breaks}
-use Rattle.annex_key.specs.View.{size_in, size_or_fault, IsKeyed, fault_in, first_fault, of_text, told_fault, size_part, backend_part, or_none}
+use Rattle.annex_key.specs.View.{size_in, size_or_fault, IsKeyed, fault_in, first_fault, of_text, told_fault, size_part, backend_part, name_part, name_in, or_none}
 use Rattle.annex_key.proofs.WordLemmas.{word_again, backend_no_dash}
 use Rattle.annex_key.proofs.KeyLemmas.{text_takes, text_again, key_again, tail1, size_starts}
 use Rattle.annex_key.proofs.FaultLemmas.{key_err}
@@ -105,6 +105,9 @@ backend_part-key k text is spelled =
 
 pub size_part-key : (k : Parts) (text : List ℕ) → IsKey k → text ≡ key_text k → size_part text ≡ k.size
 size_part-key k text is spelled = ap size_part spelled ∙ ap (λ (r : Result Parts KeyFault). or_none (size_in r)) (key_again k is)
+
+pub name_part-key : (k : Parts) (text : List ℕ) → IsKey k → text ≡ key_text k → name_part text ≡ k.name
+name_part-key k text is spelled = ap name_part spelled ∙ ap name_in (key_again k is)
 
 -- a fault that is handed on is told
 pub handed_on : {A : Type 0} (r : Result A KeyFault) (text : List ℕ) (e : KeyFault) → IsErrAnd r (λ d. d ≡ e) → size_or_fault text ≡ Err e → told_fault r ≡ first_fault text

@@ -1,15 +1,15 @@
 -- A key without its chunk: what stands around the chunk's fields is its text.
-use Rattle.std.proofs.Common.{◌≡◌, ℕ, ◌+◌, ◌-◌, ◌≤◌, List, ◌++◌, length, take, Option, Result, Ok, Err, refl, sym, ap, subst, ◌∙◌, append_assoc, length-append, arith}
+use Rattle.std.proofs.Common.{◌≡◌, ℕ, ◌+◌, ◌-◌, ◌≤◌, List, ◌++◌, length, take, drop, Option, Result, Ok, Err, refl, sym, ap, subst, ◌∙◌, append_assoc, length-append, arith}
 use Rattle.std.proofs.lemmas.List.{take_at}
 use Rattle.annex_key.specs.declared.fault.KeyFault.{KeyFault}
 use Rattle.annex_key.specs.KeyText.{Parts, IsKey, IsKeyText, key_text, without_chunk, size_letter, mtime_letter, field_text, chunk_text}
 use Rattle.annex_base.specs.ResultSteps.{◌>>=◌}
 use Rattle.annex_key.specs.Reading.{field_at, chunk_at, key_at, around_chunk}
-use Rattle.annex_key.specs.View.{size_in, size_or_fault, IsKeyed, unchunked_text, chunkless}
+use Rattle.annex_key.specs.View.{size_in, size_or_fault, IsKeyed, unchunked_text, chunkless, name_part}
 use Rattle.annex_key.proofs.Steps.{ok_is}
 use Rattle.annex_key.proofs.ReadingLemmas.{backend_again, field_again, chunk_again}
 use Rattle.annex_key.proofs.KeyLemmas.{tail1, tail2, tail3, tail4, chunk_starts, mtime_starts, size_starts, text_again, key_again}
-use Rattle.annex_key.proofs.AnswerLemmas.{keyed_is}
+use Rattle.annex_key.proofs.AnswerLemmas.{keyed_is, name_part-key}
 
 -- what stands before the chunk's fields
 abbrev front : Parts → List ℕ
@@ -96,3 +96,15 @@ keyed_never text slice size e keyed same h = around_never text e (keyed_is text 
 -- what is joined of what stands around the chunk
 pub keyed_joins : (text slice : List ℕ) (size : Option ℕ) (x : List ℕ × List ℕ) (out : List ℕ) → IsKeyed text size → slice ≡ text → around_chunk slice ≡ Ok x → out ≡ x.0 ++ x.1 → out ≡ unchunked_text text
 keyed_joins text slice size x out keyed same h is = is ∙ around_joins text x (keyed_is text size keyed) (ap around_chunk (sym same) ∙ h)
+
+-- what stands after the chunk is two dashes and the name
+around_name : (text : List ℕ) (x : List ℕ × List ℕ) → IsKeyText text → around_chunk text ≡ Ok x → (2 ≤ length x.1) × (drop 2 x.1 ≡ name_part text)
+around_name text x is h =
+    let k = is.parts in
+    let same : (front k, tail4 k) ≡ x = ok_is (front k, tail4 k) x (sym (around_is text is) ∙ h) in
+    let name : drop 2 (tail4 k) ≡ name_part text = sym (name_part-key k text is.key is.spelled) in
+    let long : 2 ≤ length (tail4 k) = omega arith in
+    subst (λ (y : List ℕ × List ℕ). (2 ≤ length y.1) × (drop 2 y.1 ≡ name_part text)) same (long, name)
+
+pub keyed_name : (text slice : List ℕ) (size : Option ℕ) (x : List ℕ × List ℕ) → IsKeyed text size → slice ≡ text → around_chunk slice ≡ Ok x → (2 ≤ length x.1) × (drop 2 x.1 ≡ name_part text)
+keyed_name text slice size x keyed same h = around_name text x (keyed_is text size keyed) (ap around_chunk (sym same) ∙ h)

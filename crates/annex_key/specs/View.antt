@@ -1,5 +1,5 @@
 -- What a key's text says.
-use Rattle.std.specs.Prelude.{◌≡◌, ℕ, List, Option, Some, None, Result, Ok, Err}
+use Rattle.std.specs.Prelude.{◌≡◌, ℕ, List, [], Option, Some, None, Result, Ok, Err}
 use Rattle.annex_key.specs.declared.fault.KeyFault.{KeyFault}
 use Rattle.annex_key.specs.declared.fault.KeyFault.TheVariants.{NoMemory}
 use Rattle.annex_key.specs.KeyText.{Parts, key_text, without_chunk}
@@ -46,6 +46,14 @@ or_none (Err e) = None
 -- a key's size, if its text has one
 abbrev pub size_part : List ℕ → Option ℕ
 size_part text = or_none (size_or_fault text)
+
+abbrev pub name_in : Result Parts KeyFault → List ℕ
+name_in (Ok k) = k.name
+name_in (Err e) = []
+
+-- a key's name
+abbrev pub name_part : List ℕ → List ℕ
+name_part text = name_in (key_at text)
 
 abbrev pub chunkless : List ℕ → Result Parts KeyFault → List ℕ
 chunkless text (Ok k) = key_text (without_chunk k)

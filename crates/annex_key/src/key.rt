@@ -11,7 +11,7 @@ ghost use Rattle.annex_key.specs.KeyText.{Parts, IsKey, IsKeyText, key_text, wit
 ghost use Rattle.annex_key.specs.Faults.{Breaks};
 ghost use Rattle.annex_key.specs.KeyFile.{file_text, BreaksFile};
 ghost use Rattle.annex_key.specs.FileKey.{key_of_file};
-ghost use Rattle.annex_key.specs.View.{told_fault, first_fault, backend_part, size_part, unchunked_text};
+ghost use Rattle.annex_key.specs.View.{told_fault, first_fault, backend_part, size_part, name_part, unchunked_text};
 
 use crate::escape::{escape, unescape};
 use crate::fault::KeyFault;
@@ -121,6 +121,19 @@ impl Key {
         ensures spelled { (k : Parts) → IsKey k → self.now ≡ key_text k → result ≡ k.size }
     {
         self.size
+    }
+
+    /// The name: what follows the two dashes.
+    pub fn name(&self) -> &[u8]
+        ensures value { result.now ≡ name_part self.now }
+        ensures spelled { (k : Parts) → IsKey k → self.now ≡ key_text k → result.now ≡ k.name }
+    {
+        let text = self.text.as_slice();
+        let Ok((_front, end)) = around_chunk(text) else {
+            unreachable!();
+        };
+        let (_dashes, name) = end.split_at(2);
+        name
     }
 
     /// Whether the backend's names are digests: MD5, SHA224, SHA256, SHA384 or SHA512, or one of these with an `E`.

@@ -1,0 +1,2 @@
+pub mod MadeKeys
+pub mod Verdicts

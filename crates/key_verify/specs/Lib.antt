@@ -1,0 +1,4 @@
+pub mod Digests
+pub mod Sums
+pub mod Matching
+pub mod MakingKeys

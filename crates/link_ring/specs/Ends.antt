@@ -1,0 +1,82 @@
+-- The ends of connections. What an end knows grows by its own looks and by what is carried to it (own).
+use Rattle.std.specs.Prelude.{ℕ, ◌+◌, ◌-◌, ◌≤◌, Bool, not, nat_le, nat_lt, if◌then◌else◌, List, [], ◌∷◌, ◌++◌, length, filter, Option, Some, None}
+use Rattle.std.specs.List.{find, after_first}
+use Rattle.link_ring.specs.declared.frame.Frame.{Frame}
+use Rattle.link_ring.specs.declared.frame.Body.{Body}
+use Rattle.link_ring.specs.declared.frame.Body.TheVariants as bodies
+use Rattle.link_ring.specs.declared.end.Phase.{Phase}
+use Rattle.link_ring.specs.declared.end.Phase.TheVariants.{Closed, Opening, Open}
+use Rattle.link_ring.specs.Frames.{is_close, is_old}
+
+-- an end: the opening that it is at; the frames that it knows to be at hand; those that it sent and that weren't carried
+-- yet; and how many of the eight places of its way aren't free, as far as it knows
+pub record EndView : Type 0 where
+  pub epoch : ℕ
+  pub phase : Phase
+  pub at_hand : List Frame
+  pub on_way : List Frame
+  pub used : ℕ
+
+abbrev pub fresh : EndView
+fresh = record { epoch = 0; phase = Closed; at_hand = []; on_way = []; used = 0 }
+
+-- the places that it knows to be free
+abbrev pub free : EndView → ℕ
+free e = 8 - e.used
+
+abbrev pub is_open : Phase → Bool
+is_open Closed = Bool.false
+is_open Opening = Bool.false
+is_open Open = Bool.true
+
+-- a Close needs an open end, which keeps a place for it; each other frame needs two free places
+abbrev pub accepts : EndView → Frame → Bool
+accepts e f = if is_close f then is_open e.phase else nat_le 2 (free e)
+
+abbrev pub begun : Phase → Phase
+begun Closed = Closed
+begun Opening = Open
+begun Open = Open
+
+-- a Close closes the end; with the first other frame after its opening it is open
+abbrev pub phase_after_send : Phase → Frame → Phase
+phase_after_send phase f = if is_close f then Closed else begun phase
+
+abbrev pub after_send : EndView → Frame → EndView
+after_send e f = record e { phase = phase_after_send e.phase f; on_way = e.on_way ++ f ∷ []; used = e.used + 1 }
+
+-- frames of older epochs, and of one that the end has closed, are passed over
+abbrev pub is_taken : EndView → Frame → Bool
+is_taken e f = not (is_old e.epoch e.phase f)
+
+abbrev pub next_frame : EndView → Option Frame
+next_frame e = find (is_taken e) e.at_hand
+
+-- an Open brings the end to its epoch; after a Close it takes no more of this one
+abbrev pub with_body : EndView → ℕ → Body → EndView
+with_body e epoch bodies.Open = record e { epoch = epoch; phase = Opening }
+with_body e epoch (bodies.Bytes bytes) = e
+with_body e epoch bodies.Close = record e { phase = Closed }
+
+abbrev pub with_taken : EndView → Option Frame → EndView
+with_taken e None = e
+with_taken e (Some f) = with_body e f.epoch f.body
+
+abbrev pub after_take : EndView → EndView
+after_take e = with_taken (record e { at_hand = after_first (is_taken e) e.at_hand }) (next_frame e)
+
+-- the next epoch begins, and frames of those before are dropped
+abbrev pub after_open : EndView → EndView
+after_open e = record e { epoch = e.epoch + 1; phase = Opening; at_hand = filter (λ f. nat_lt e.epoch f.epoch) e.at_hand }
+
+abbrev pub after_close : EndView → EndView
+after_close e = record e { phase = Closed }
+
+-- two ends of one connection: what one sent and the other hasn't taken has its places
+pub record ArePaired (a b : EndView) : Type 0 where
+  pub first : length b.at_hand + length a.on_way ≤ a.used
+  pub second : length a.at_hand + length b.on_way ≤ b.used
+
+-- an end after frames were carried between it and the other one
+abbrev pub carried : EndView → EndView → EndView
+carried a b = record a { at_hand = a.at_hand ++ b.on_way; on_way = []; used = length b.at_hand + length a.on_way }

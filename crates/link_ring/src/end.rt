@@ -1,0 +1,212 @@
+//! One end of a connection.
+ghost use Rattle.std.specs.Prelude.{◌≡◌, ◌≤◌, ◌<◌, ◌+◌, ◌-◌, ◌++◌, vec_len, ◌^◌, ◌↔◌, [], false, not, nat_le, IfOk, IfErr, IsErr, OnOk, OnErr, filter, nat_lt, vec_capacity};
+ghost use Rattle.std.specs.List.{find, after_first};
+ghost use Rattle.link_ring.specs.Frames.{is_old, is_close};
+ghost use Rattle.link_ring.specs.Ends.{ArePaired, carried, fresh, accepts, after_send, next_frame, after_take, after_open, after_close, free, phase_after_send};
+
+use crate::frame::{Body, Frame};
+use annex_base::NoMemory;
+use std::alloc::Global;
+use std::marker::Model;
+
+/// How many frames of one way may be on it, or at hand at its other end.
+pub(crate) const PLACES: usize = 8;
+
+/// How an end stands.
+#[derive(Clone, Copy, Debug, PartialEq, Eq)]
+pub enum Phase {
+    /// It takes no frame of its epoch.
+    Closed,
+    /// It takes frames of its epoch, and has sent none yet.
+    Opening,
+    /// It has sent a frame of its epoch, and keeps a place for its Close.
+    Open,
+}
+
+/// One end of a connection: a client's, or that of the server (own).
+#[derive(Debug, Drop)]
+pub struct End {
+    epoch: u32,
+    phase: Phase,
+    at_hand: Vec<Frame>,
+    on_way: Vec<Frame>,
+    // The frames that were sent and of which it isn't known that they were taken.
+    used: usize,
+}
+
+impl Model for End {
+    ghost use Rattle.link_ring.specs.Ends.{EndView};
+    ghost use Rattle.std.specs.Prelude.{vec_len, vec_capacity};
+    ghost use Rattle.link_ring.specs.Invariant.{IsEnd};
+
+    ghost Value = { EndView };
+
+    ghost view = { λ e. record { epoch = e.epoch; phase = e.phase; at_hand = e.at_hand.items; on_way = e.on_way.items; used = e.used } };
+
+    ghost invariant = { λ e. IsEnd e.phase (vec_len e.on_way) e.used (vec_capacity e.at_hand) (vec_capacity e.on_way) };
+}
+
+fn is_old(epoch: u32, phase: Phase, frame: &Frame) -> bool
+    ensures { result ≡ is_old epoch phase frame.now }
+{
+    frame.epoch < epoch || (frame.epoch == epoch && phase == Phase::Closed)
+}
+
+// Takes the first frame that isn't old, and drops those before it.
+fn take_first(frames: &mut Vec<Frame>, epoch: u32, phase: Phase) -> Option<Frame>
+    ensures frame { result ≡ find (λ f. not (is_old epoch phase f)) frames.old.items }
+    ensures rest { frames.new.items ≡ after_first (λ f. not (is_old epoch phase f)) frames.old.items }
+    ensures room { vec_capacity frames.new ≡ vec_capacity frames.old }
+{
+    while !frames.is_empty() {
+        let frame = frames.remove(0);
+        if !is_old(epoch, phase, &frame) {
+            return Some(frame);
+        }
+    }
+    None
+}
+
+// Drops the frames of the epochs up to this one.
+fn drop_old(frames: &mut Vec<Frame>, epoch: u32)
+    ensures rest { frames.new.items ≡ filter (λ f. nat_lt epoch f.epoch) frames.old.items }
+    ensures room { vec_capacity frames.new ≡ vec_capacity frames.old }
+{
+    frames.retain(|frame: &Frame| epoch < frame.epoch);
+}
+
+fn phase_after_send(phase: Phase, frame: &Frame) -> Phase
+    ensures { result ≡ phase_after_send phase frame.now }
+{
+    if frame.is_close() {
+        return Phase::Closed;
+    }
+    match phase {
+        Phase::Closed => Phase::Closed,
+        Phase::Opening | Phase::Open => Phase::Open,
+    }
+}
+
+impl End {
+    /// An end that was never opened.
+    pub(crate) fn new(alloc: Global) -> Result<End, NoMemory>
+        ensures { IfOk result (λ e. e ≡ fresh) }
+    {
+        Ok(End {
+            epoch: 0,
+            phase: Phase::Closed,
+            at_hand: Vec::with_capacity(alloc, PLACES)?,
+            on_way: Vec::with_capacity(alloc, PLACES)?,
+            used: 0,
+        })
+    }
+
+    /// The number of the opening that it is at, 0 before the first.
+    pub fn epoch(&self) -> u32
+        ensures { result ≡ self.now.epoch }
+    {
+        self.epoch
+    }
+
+    /// How it stands.
+    pub fn phase(&self) -> Phase
+        ensures { result ≡ self.now.phase }
+    {
+        self.phase
+    }
+
+    /// Whether there is room for a frame other than a Close.
+    pub fn room(&mut self) -> bool
+        ensures room { result ≡ nat_le 2 (free self.old) }
+        ensures same { self.new ≡ self.old }
+    {
+        self.used + 2 <= PLACES
+    }
+
+    fn accepts(&self, frame: &Frame) -> bool
+        ensures { result ≡ accepts self.now frame.now }
+    {
+        if frame.is_close() {
+            self.phase == Phase::Open
+        } else {
+            self.used + 2 <= PLACES
+        }
+    }
+
+    /// Sends a frame. A Close is handed back where the end isn't open, another frame where fewer than two places are
+    /// free.
+    pub fn send(&mut self, frame: Frame) -> Result<(), Frame>
+        ensures ok { OnOk result (self.new ≡ after_send self.old frame) }
+        ensures err { OnErr result (self.new ≡ self.old) }
+        ensures same { IfErr result (λ back. back ≡ frame) }
+        ensures handed_back { IsErr result ↔ (accepts self.old frame ≡ false) }
+    {
+        if !self.accepts(&frame) {
+            return Err(frame);
+        }
+        self.phase = phase_after_send(self.phase, &frame);
+        self.used += 1;
+        self.on_way.push_reserved(frame);
+        Ok(())
+    }
+
+    /// Takes the first frame at hand that isn't of an older epoch, or of one that this end has closed; it drops those
+    /// before it. With an Open the end is at its epoch, and takes frames; with a Close it takes no more.
+    pub fn take(&mut self) -> Option<Frame>
+        ensures frame { result ≡ next_frame self.old }
+        ensures end { self.new ≡ after_take self.old }
+    {
+        let frame = take_first(&mut self.at_hand, self.epoch, self.phase)?;
+        match &frame.body {
+            Body::Open => {
+                self.epoch = frame.epoch;
+                self.phase = Phase::Opening;
+            }
+            Body::Close => self.phase = Phase::Closed,
+            Body::Bytes(_) => {}
+        }
+        Some(frame)
+    }
+
+    /// Begins the next epoch, and drops what is at hand of those before.
+    pub fn open(&mut self)
+        requires { self.old.epoch < 2 ^ 32 - 1 }
+        ensures { self.new ≡ after_open self.old }
+    {
+        drop_old(&mut self.at_hand, self.epoch);
+        self.epoch += 1;
+        self.phase = Phase::Opening;
+    }
+
+    /// Closes the end without a word to the other one.
+    pub fn close(&mut self)
+        ensures { self.new ≡ after_close self.old }
+    {
+        self.phase = Phase::Closed;
+    }
+}
+
+// Moves the frames that are on the way to the end that takes them.
+fn arrive(on_way: &mut Vec<Frame>, at_hand: &mut Vec<Frame>)
+    requires { vec_len at_hand.old + vec_len on_way.old ≤ vec_capacity at_hand.old }
+    ensures at_hand { at_hand.new.items ≡ at_hand.old.items ++ on_way.old.items }
+    ensures on_way { on_way.new.items ≡ [] }
+    ensures room { (vec_capacity at_hand.old ≤ vec_capacity at_hand.new) × (vec_capacity on_way.new ≡ vec_capacity on_way.old) }
+{
+    let Ok(()) = at_hand.append(on_way) else {
+        unreachable!();
+    };
+}
+
+/// Carries the frames of both ways to the ends that take them: then each end knows all frames that the other one sent,
+/// and all that it took.
+pub fn carry(a: &mut End, b: &mut End)
+    requires { ArePaired a.old b.old }
+    ensures first { a.new ≡ carried a.old b.old }
+    ensures second { b.new ≡ carried b.old a.old }
+{
+    arrive(&mut a.on_way, &mut b.at_hand);
+    arrive(&mut b.on_way, &mut a.at_hand);
+    a.used = b.at_hand.len();
+    b.used = a.at_hand.len();
+}
