@@ -3,12 +3,13 @@ use Rattle.std.proofs.Common.{◌≡◌, ℕ, zero, suc, ◌+◌, ◌-◌, ◌<�
 use Rattle.std.specs.Prelude.{not, ◌==◌}
 use Rattle.std.specs.List.{prefix_len}
 use Rattle.std.specs.Str.{is_utf8}
-use Rattle.std.proofs.lemmas.Bool.{cond_both, true≢false}
+use Rattle.std.proofs.lemmas.Bool.{true≢false}
 use Rattle.std.proofs.lemmas.Str.{is_utf8-from_IsUtf8}
 use Rattle.std.proofs.lemmas.List.{length-drop}
 use Rattle.std.proofs.lemmas.List.Sums.{prefix_len-le-length}
 use Rattle.annex_base.specs.Lines.{space, is_space, is_not_space}
 use Rattle.annex_base.proofs.Conditions.{if_either}
+use Rattle.script_words.proofs.FrontLemmas.{Stops, rest_stops}
 use Rattle.script_words.specs.Places.{Cursor}
 use Rattle.script_words.specs.declared.words.NextWord.{NextWord}
 use Rattle.script_words.specs.declared.words.NextWord.TheVariants.{NoWord, BadWord, Word}
@@ -32,21 +33,6 @@ quoted_ahead c at bytes above fits =
     (λ e. text_ahead c at (at + n + 2) (take n bytes) above (omega arith) (omega (arith, above)) (omega (arith, fits, closes_some (drop n bytes) e, length-drop n bytes)) (λ wrong. omega (arith, fits)))
     (λ e. (above, omega (arith, fits)))
 
--- no byte, or one that isn't a space
-abbrev IsPastSpaces : List ℕ → Type 0
-IsPastSpaces [] = Unit {0}
-IsPastSpaces (b ∷ bytes) = is_space b ≡ false
-
-one_add : (n : ℕ) → 1 + n ≡ suc n
-one_add n = omega arith
-
-past_spaces : (bytes : List ℕ) → IsPastSpaces (drop (prefix_len is_space bytes) bytes)
-past_spaces [] = tt
-past_spaces (b ∷ bytes) =
-    cond_both (is_space b) (1 + prefix_len is_space bytes) 0 (λ n. IsPastSpaces (drop n (b ∷ bytes)))
-    (λ e. rw (one_add (prefix_len is_space bytes)) (past_spaces bytes))
-    (λ e. e)
-
 plain_len : (b : ℕ) (bytes : List ℕ) → is_space b ≡ false → 0 < prefix_len is_not_space (b ∷ bytes)
 plain_len b bytes past = rw past (omega arith)
 
@@ -58,7 +44,7 @@ plain_ahead c at b bytes above fits past =
     (omega (arith, fits, prefix_len-le-length is_not_space (b ∷ bytes)))
     (λ wrong. omega (arith, fits))
 
-word_ahead : (c : Cursor) (at : ℕ) (bytes : List ℕ) → c.place ≤ at → at + length bytes ≤ length c.line → IsPastSpaces bytes → IsAhead c (word_from at bytes)
+word_ahead : (c : Cursor) (at : ℕ) (bytes : List ℕ) → c.place ≤ at → at + length bytes ≤ length c.line → Stops is_space bytes → IsAhead c (word_from at bytes)
 unfolding word_from
 word_ahead c at [] above fits past = tt
 word_ahead c at (b ∷ bytes) above fits past =
@@ -72,7 +58,7 @@ next_ahead line place within =
     let start = after_spaces line place in
     word_ahead (record { line = line; place = place }) start (drop start line) (omega arith)
     (omega (arith, within, length-drop start line, prefix_len-le-length is_space (drop place line), length-drop place line))
-    (subst IsPastSpaces (drop-drop (prefix_len is_space (drop place line)) place line) (past_spaces (drop place line)))
+    (subst (Stops is_space) (drop-drop (prefix_len is_space (drop place line)) place line) (rest_stops is_space (drop place line)))
 
 -- what isn't UTF-8 has a byte
 some_wrong : (bytes : List ℕ) → is_utf8 bytes ≡ false → 0 < length bytes

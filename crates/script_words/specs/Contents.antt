@@ -1,8 +1,9 @@
 -- The contents that a script describes (the project's own; hexadecimal text is that of RFC 4648).
-use Rattle.std.specs.Prelude.{ℕ, ◌+◌, ◌%◌, Bool, ◌==◌, List, map, codes, Option, Some, None, length, take, drop, ◌++◌}
+use Rattle.std.specs.Prelude.{◌≡◌, ℕ, ◌+◌, ◌%◌, ◌<◌, ◌^◌, Bool, ◌==◌, List, ◌∷◌, ◌++◌, map, codes, Option, Some, None, Ok, length, take, drop}
 use Rattle.std.specs.List.{range_with_len, before_first, after_first}
 use Rattle.std.specs.Option.{option_or}
 use Rattle.std.specs.Result.{result_ok}
+use Rattle.std.specs.Fmt.{decimal}
 use Rattle.hex.specs.Hex.{decode_of}
 use Rattle.annex_base.specs.Decimal.{number_of}
 use Rattle.annex_base.specs.OptionSteps.{◌>>=◌}
@@ -17,8 +18,11 @@ range n = range_with_len 0 n
 abbrev pub fill_bytes : ℕ → ℕ → List ℕ
 fill_bytes n s = map (λ i. (i + s) % 251) (range n)
 
+abbrev pub colon : ℕ
+colon = 58
+
 abbrev pub is_colon : ℕ → Bool
-is_colon b = b == 58
+is_colon b = b == colon
 
 -- what `N:S` says: N below 2 ^ 64, and S below 251
 unfoldable pub fill_numbers : List ℕ → Option (ℕ × ℕ)
@@ -48,3 +52,11 @@ piece content at most = take most (drop at content)
 -- the room after these bytes were put to its front
 abbrev pub with_front : List ℕ → List ℕ → List ℕ
 with_front front room = front ++ drop (length front) room
+
+-- ---- how a content is described
+
+-- the word describes the content
+pub data Describes : List ℕ → List ℕ → Type 0 where
+  Text : (text : List ℕ) → Describes (codes "text:" ++ text) text
+  Hex : (digits bytes : List ℕ) → decode_of digits ≡ Ok bytes → Describes (codes "hex:" ++ digits) bytes
+  Fill : (n s : ℕ) → n < 2 ^ 64 → s < 251 → Describes (codes "fill:" ++ (decimal n ++ colon ∷ decimal s)) (fill_bytes n s)

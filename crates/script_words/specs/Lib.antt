@@ -1,5 +1,6 @@
 pub mod Places
 pub mod Words
+pub mod Spelling
 pub mod Marks
 pub mod Numbers
 pub mod Contents

@@ -42,8 +42,7 @@ impl Content {
         read_content(alloc, word)
     }
 
-    /// The content of these bytes.
-    pub fn from_text(bytes: Text) -> Content
+    fn from_text(bytes: Text) -> Content
         ensures { result ≡ bytes }
     {
         Content {

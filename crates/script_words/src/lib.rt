@@ -19,7 +19,10 @@ pub use fields::{
     read_offset, read_version,
 };
 pub use key_word::{KeyWord, read_key_word};
-pub use laws::words_are_ahead;
+pub use laws::{
+    contents_are_as_described, numbers_are_decimal, printed_words_say_the_same, words_are_ahead,
+    words_are_as_written,
+};
 pub use numbers::read_number;
 pub use printing::put_word;
 pub use words::{LineWord, NextWord, Words};

@@ -168,11 +168,10 @@ fn quoted_at<'a>(place: usize, bytes: &'a [u8]) -> NextWord<'a>
 {
     let end = quoted_len(bytes);
     let (text, rest) = bytes.split_at(end);
-    if closes_word(rest) {
-        word_at(place, text, place + end + 2)
-    } else {
-        NextWord::BadWord { at: place }
+    if !closes_word(rest) {
+        return NextWord::BadWord { at: place };
     }
+    word_at(place, text, place + end + 2)
 }
 
 /// The word without quotes that stands at the place, where these bytes begin.
