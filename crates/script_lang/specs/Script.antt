@@ -1,6 +1,6 @@
 -- What a text says as a script, line by line (own).
-use Rattle.std.specs.Prelude.{◌≡◌, ℕ, zero, suc, ◌+◌, ◌-◌, Bool, true, false, not, ◌==◌, ◌&&◌, ◌||◌, List, [], ◌∷◌, ◌++◌, length, take, reverse, Option, Some, None, Result, Ok, Err, if◌then◌else◌}
-use Rattle.std.specs.List.{slice_split, prefix_len}
+use Rattle.std.specs.Prelude.{◌≡◌, ℕ, zero, suc, ◌+◌, ◌-◌, Bool, true, false, not, ◌==◌, ◌&&◌, ◌||◌, List, [], ◌∷◌, ◌++◌, length, take, Option, Some, None, Result, Ok, Err, if◌then◌else◌}
+use Rattle.std.specs.List.{slice_split, suffix_len}
 use Rattle.std.specs.Str.{is_utf8}
 use Rattle.std.specs.Str.Lossy.{utf8_valid_len}
 use Rattle.std.specs.BTreeSet.{insert_key}
@@ -127,16 +127,16 @@ is_skipped (b ∷ rest) = b == 35
 
 -- the place of the last word of the bytes, where a word ends at a space
 abbrev pub last_word : List ℕ → ℕ
-last_word bytes = length bytes - prefix_len is_not_space (reverse bytes)
+last_word bytes = length bytes - suffix_len is_not_space bytes
 
 -- a comment is UTF-8; one that isn't is wrong at the first byte of the word that has the first other byte
-abbrev pub comment_fault : List ℕ → LineFault
-comment_fault line = Wrong (last_word (take (utf8_valid_len line) line))
+unfoldable pub comment_at : List ℕ → Result Unit LineFault
+comment_at line = if is_utf8 line then Ok tt else Err (Wrong (last_word (take (utf8_valid_len line) line)))
 
 -- a line after lines that say this
 unfoldable pub line_step : State → ℕ → List ℕ → Result State LineFault
 line_step state number line = if is_skipped line
-    then (if is_utf8 line then Ok state else Err (comment_fault line))
+    then (comment_at line >>= λ _. Ok state)
     else words_line state number line
 
 -- ---- the whole text

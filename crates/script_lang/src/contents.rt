@@ -1,5 +1,5 @@
 //! The lines that put contents, and paths into the tree.
-ghost use Rattle.std.specs.Prelude.{◌≡◌};
+ghost use Rattle.std.specs.Prelude.{◌≡◌, ◌≤◌, length, OnOk};
 ghost use Rattle.script_lang.specs.Answers.{Gives};
 ghost use Rattle.script_lang.specs.Forms.{row, end_within_at};
 ghost use Rattle.script_lang.specs.declared.verb.Verb.TheVariants as verbs;
@@ -7,14 +7,15 @@ ghost use Rattle.script_lang.specs.declared.verb.Verb.TheVariants as verbs;
 use crate::command::Command;
 use crate::context::Context;
 use crate::fault::{LineFault, Quantity};
-use crate::steps::{content, end, is_large, key, matching, path, placed_key, repo};
-use crate::verify::make_key;
+use crate::steps::{content, end, key, matching, path, placed_key, repo};
+use crate::verify::{is_large, key_for};
 use script_words::{Content, Words};
 use std::alloc::Global;
 
 /// No word is left, and the content doesn't pass its limit.
 fn end_within(content: &Content, words: &mut Words<'_>) -> Result<(), LineFault>
-    ensures { Gives (λ _. tt) result (end_within_at content.now words.old) }
+    ensures says { Gives (λ _. tt) result (end_within_at content.now words.old) }
+    ensures small { OnOk result (length content.now ≤ 16777216) }
 {
     end(words)?;
     if is_large(content) {
@@ -79,7 +80,7 @@ pub fn add(alloc: Global, context: &Context, words: &mut Words<'_>) -> Result<Co
     let path = path(alloc, words)?;
     let content = content(alloc, words)?;
     end_within(&content, words)?;
-    let key = make_key(alloc, path.bytes(), &content)?;
+    let key = key_for(alloc, &path, &content)?;
     Ok(Command::Add {
         repo,
         path,

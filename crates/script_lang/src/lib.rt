@@ -17,6 +17,15 @@ mod steps;
 mod verb;
 mod verify;
 
+use annex_base::crosses;
 pub use command::{BlockLine, BlockLines, Command, NamedKey};
 pub use fault::{Quantity, ScriptFault};
 pub use script::Script;
+
+/// These types go from thread to thread.
+fn cross_threads() {
+    crosses::<Command>();
+    crosses::<Script>();
+    crosses::<ScriptFault>();
+    crosses::<Quantity>();
+}

@@ -1,6 +1,8 @@
 //! What the lines so far say, and one line more.
 ghost use Rattle.std.specs.Prelude.{◌≡◌, ◌≤◌, ◌+◌, ◌++◌, ◌||◌, not, nat_lt, length, Some, None, IfOk, IfErr, OnOk, OnErr, if◌then◌else◌};
 ghost use Rattle.std.specs.BTreeSet.{insert_key};
+ghost use Rattle.std.specs.List.{suffix_len};
+ghost use Rattle.annex_base.specs.Lines.{is_not_space};
 ghost use Rattle.script_lang.specs.Answers.{Gives, Reads};
 ghost use Rattle.script_lang.specs.Context.{new_paths, placed_cmp};
 ghost use Rattle.script_lang.specs.Limits as limits;
@@ -361,13 +363,7 @@ impl State {
         if !is_skipped(line) {
             return self.words_line(alloc, number, line);
         }
-        match str::from_utf8(line) {
-            Ok(_) => Ok(()),
-            Err(stop) => {
-                let (before, _) = line.split_at(stop.valid_up_to());
-                Err(wrong(last_word(before)))
-            }
-        }
+        comment(line)
     }
 
     /// The commands, or the number of the line whose block isn't ended.
@@ -397,10 +393,31 @@ fn is_skipped(line: &[u8]) -> bool
     }
 }
 
+/// A comment.
+#[tactic(auto, unfolding(crate::specs::Script::comment_at))]
+fn comment(line: &[u8]) -> Result<(), LineFault>
+    ensures { Gives (λ _. tt) result (spec.comment_at line.now) }
+{
+    match str::from_utf8(line) {
+        Ok(_) => Ok(()),
+        Err(stop) => {
+            let (before, _) = line.split_at(stop.valid_up_to());
+            Err(wrong(last_word(before)))
+        }
+    }
+}
+
+/// The length of the last word of the bytes.
+fn last_len(bytes: &[u8]) -> usize
+    ensures { result ≡ suffix_len is_not_space bytes.now }
+{
+    bytes.iter().rev().take_while(|b| **b != b' ').count()
+}
+
 /// The place of the last word of the bytes.
 fn last_word(bytes: &[u8]) -> usize
     ensures { result ≡ spec.last_word bytes.now }
 {
-    let length = bytes.iter().rev().take_while(|b| **b != b' ').count();
+    let length = last_len(bytes);
     bytes.len() - length
 }

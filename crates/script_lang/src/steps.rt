@@ -1,7 +1,8 @@
 //! The steps by which a line is read.
-ghost use Rattle.std.specs.Prelude.{◌≡◌, ◌≤◌, length, IfOk, List, ℕ};
+ghost use Rattle.std.specs.Prelude.{◌≡◌, ◌≤◌, length, true, IfOk};
 ghost use Rattle.script_lang.specs.Answers.{Gives, Reads};
 ghost use Rattle.std.specs.Option.{option_map};
+ghost use Rattle.std.specs.Str.{is_utf8};
 ghost use Rattle.annex_key.specs.Tree.{key_of};
 ghost use Rattle.script_lang.specs.Context.{is_placed};
 ghost use Rattle.script_lang.specs.Steps as spec;
@@ -10,7 +11,7 @@ ghost use Rattle.script_lang.specs.declared.fault.LineFault.TheVariants as fault
 use crate::command::NamedKey;
 use crate::context::{Context, find_other, find_repository, has_id, has_name};
 use crate::fault::LineFault;
-use crate::verify::is_content_of;
+use crate::verify::may_have;
 use annex_base::{Call, Level, NoMemory, RepoId, Text};
 use annex_key::Key;
 use log_lines::{GroupList, LogKind};
@@ -21,9 +22,6 @@ use script_words::{
     read_version,
 };
 use std::alloc::Global;
-
-/// The most bytes of one content.
-const MOST_CONTENT: u64 = 16_777_216;
 
 pub fn wrong(byte: usize) -> LineFault
     ensures { result ≡ faults.Wrong byte }
@@ -157,7 +155,8 @@ pub fn call(words: &mut Words<'_>) -> Result<Call, LineFault>
 /// A path.
 #[tactic(auto, unfolding(crate::specs::Steps::path_at))]
 pub fn path(alloc: Global, words: &mut Words<'_>) -> Result<Text, LineFault>
-    ensures { Reads (λ t. t) result words.new (spec.path_at words.old) }
+    ensures says { Reads (λ t. t) result words.new (spec.path_at words.old) }
+    ensures utf8 { IfOk result (λ t. is_utf8 t ≡ true) }
 {
     let word = next_word(words)?;
     if is_path(word.text()) {
@@ -241,13 +240,6 @@ pub fn content(alloc: Global, words: &mut Words<'_>) -> Result<Content, LineFaul
     }
 }
 
-/// Whether the content passes the limit of one.
-pub fn is_large(content: &Content) -> bool
-    ensures { result ≡ spec.is_large content.now }
-{
-    content.size() > MOST_CONTENT
-}
-
 /// A content that matches the key; one past the limit isn't looked at.
 #[tactic(auto, unfolding(crate::specs::Steps::matching_at))]
 pub fn matching(alloc: Global, key: &Key, words: &mut Words<'_>) -> Result<Content, LineFault>
@@ -255,7 +247,7 @@ pub fn matching(alloc: Global, key: &Key, words: &mut Words<'_>) -> Result<Conte
 {
     let word = next_word(words)?;
     match Content::parse(alloc, word.text())? {
-        Some(content) if is_large(&content) || is_content_of(key, &content) => Ok(content),
+        Some(content) if may_have(alloc, key, &content)? => Ok(content),
         _ => Err(wrong_word(&word)),
     }
 }

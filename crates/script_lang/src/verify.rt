@@ -1,24 +1,89 @@
-//! Contents and their keys.
-ghost use Rattle.std.specs.Prelude.{◌≡◌, IfOk};
+//! Whether contents match their keys, and the keys that are made of contents.
+ghost use Rattle.std.specs.Prelude.{◌≡◌, ◌≤◌, ◌||◌, true, length, IfOk};
+ghost use Rattle.std.specs.Str.{is_utf8};
+ghost use Rattle.key_verify.specs.Sums.{sum_of};
+ghost use Rattle.script_lang.specs.Steps.{is_large};
 ghost use Rattle.script_lang.specs.Verify as spec;
 
-use annex_base::NoMemory;
+use annex_base::{NoMemory, Text};
 use annex_key::Key;
+use key_verify::{Digester, Sum, Verdict, judge_sum, make_key};
 use script_words::Content;
 use std::alloc::Global;
 
-/// Whether the content matches the key.
-#[tactic(auto, unfolding(crate::specs::Verify::is_content_of))]
-pub fn is_content_of(_key: &Key, _content: &Content) -> bool
-    ensures { result ≡ spec.is_content_of _key.now _content.now }
+/// How many bytes of a content are taken at a time.
+const PIECE: usize = 4096;
+
+/// The most bytes of one content.
+const MOST_CONTENT: u64 = 16_777_216;
+
+/// Whether the content passes the limit of one.
+pub fn is_large(content: &Content) -> bool
+    ensures { result ≡ is_large content.now }
 {
-    true
+    content.size() > MOST_CONTENT
 }
 
-/// The key that is made of a content.
-#[tactic(auto, unfolding(crate::specs::Verify::made_key))]
-pub fn make_key(_alloc: Global, _path: &[u8], _content: &Content) -> Result<Key, NoMemory>
-    ensures { IfOk result (λ k. k ≡ spec.made_key _path.now _content.now) }
+/// The sum of the content, which is taken piece by piece.
+fn content_sum(key: &Key, content: &Content) -> Sum
+    requires { length content.now ≤ 16777216 }
+    ensures { result ≡ sum_of key.now content.now }
 {
-    Err(NoMemory)
+    let mut digester = Digester::new(key);
+    let mut room = [0; PIECE];
+    let mut at = 0;
+    while at < content.size() {
+        let count = content.piece(at, &mut room);
+        let (piece, _) = room.split_at(count);
+        digester.update(piece);
+        at += count as u64;
+    }
+    digester.finish()
+}
+
+/// Whether the content matches the key.
+#[tactic(auto, unfolding(crate::specs::Verify::is_content_of))]
+fn is_content_of(alloc: Global, key: &Key, content: &Content) -> Result<bool, NoMemory>
+    requires { length content.now ≤ 16777216 }
+    ensures { IfOk result (λ b. b ≡ spec.is_content_of key.now content.now) }
+{
+    let sum = content_sum(key, content);
+    match judge_sum(alloc, key, &sum)? {
+        Verdict::Right => Ok(true),
+        Verdict::WrongSize { .. } | Verdict::WrongDigest { .. } => Ok(false),
+    }
+}
+
+/// Whether the content matches the key, or passes the limit of one and isn't looked at.
+pub fn may_have(alloc: Global, key: &Key, content: &Content) -> Result<bool, NoMemory>
+    ensures { IfOk result (λ b. b ≡ (is_large content.now || spec.is_content_of key.now content.now)) }
+{
+    if is_large(content) {
+        return Ok(true);
+    }
+    is_content_of(alloc, key, content)
+}
+
+/// The bytes of the content.
+fn content_bytes(alloc: Global, content: &Content) -> Result<Vec<u8>, NoMemory>
+    requires { length content.now ≤ 16777216 }
+    ensures { IfOk result (λ v. v.items ≡ content.now) }
+{
+    let mut bytes = vec![in alloc; 0; content.size() as usize]?;
+    content.piece(0, &mut bytes);
+    Ok(bytes)
+}
+
+/// The key that is made of the content that a path gets.
+#[tactic(auto, unfolding(crate::specs::Verify::made_key))]
+pub fn key_for(alloc: Global, path: &Text, content: &Content) -> Result<Key, NoMemory>
+    requires small { length content.now ≤ 16777216 }
+    requires utf8 { is_utf8 path.now ≡ true }
+    ensures { IfOk result (λ k. k ≡ spec.made_key path.now content.now) }
+{
+    let bytes = content_bytes(alloc, content)?;
+    match str::from_utf8(path.bytes()) {
+        Ok(path) => make_key(alloc, path, &bytes),
+        Err(_) => unreachable!(),
+    }
 }

@@ -1,0 +1,7 @@
+//! Tests of the language of scripts, by public functions; nothing else stands here.
+#![tactic(auto)]
+
+#[cfg(test)]
+mod wrong_lines;
+#[cfg(test)]
+mod whole_texts;
