@@ -2,6 +2,6 @@
 #![tactic(auto)]
 
 #[cfg(test)]
-mod wrong_lines;
-#[cfg(test)]
 mod whole_texts;
+#[cfg(test)]
+mod wrong_lines;

@@ -1,7 +1,6 @@
 //! Lines of contents and paths. Each is given with the byte at which it is wrong.
 
-use super::LINES;
-use super::wrong_at;
+use super::{LINES, wrong_at};
 use std::test::Fail;
 
 #[test]
@@ -30,7 +29,10 @@ fn contents_are_wrong_here(rt: HostRuntime) -> Result<(), Fail> {
         (b"have a WORM--k \"text:x", 15),
         (b"have a WORM-s2--k text:x", 18),
         (b"have a WORM-s2--k text:x y", 18),
-        (b"have a SHA256-s3--ba7816bf8f01cfea414140de5dae2223b00361a396177a9cb410ff61f20015ad text:abd", 83),
+        (
+            b"have a SHA256-s3--ba7816bf8f01cfea414140de5dae2223b00361a396177a9cb410ff61f20015ad text:abd",
+            83,
+        ),
     ] {
         assert_eq!(rt; wrong_at(rt.alloc(), LINES, line)?, Some(byte));
     }
@@ -40,8 +42,14 @@ fn contents_are_wrong_here(rt: HostRuntime) -> Result<(), Fail> {
 #[test]
 fn contents_are_wrong_here_2(rt: HostRuntime) -> Result<(), Fail> {
     for (line, byte) in [
-        (b"have a SHA256-s3--ba7816bf8f01cfea414140de5dae2223b00361a396177a9cb410ff61f20015ad text:abcd".as_slice(), 83),
-        (b"have a MD5-s3--900150983cd24fb0d6963f7d28e17f72 text:abd", 48),
+        (
+            b"have a SHA256-s3--ba7816bf8f01cfea414140de5dae2223b00361a396177a9cb410ff61f20015ad text:abcd".as_slice(),
+            83,
+        ),
+        (
+            b"have a MD5-s3--900150983cd24fb0d6963f7d28e17f72 text:abd",
+            48,
+        ),
         (b"part", 4),
         (b"part a", 6),
         (b"part c WORM--k text:x", 5),

@@ -1,7 +1,6 @@
 //! Lines that show something. Each is given with the byte at which it is wrong.
 
-use super::LINES;
-use super::wrong_at;
+use super::{LINES, wrong_at};
 use std::test::Fail;
 
 #[test]

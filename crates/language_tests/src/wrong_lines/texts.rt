@@ -1,7 +1,6 @@
 //! Lines that aren't UTF-8. Each is given with the byte at which it is wrong.
 
-use super::LINES;
-use super::wrong_at;
+use super::{LINES, wrong_at};
 use std::test::Fail;
 
 #[test]
