@@ -1,3 +1,4 @@
 pub mod GroupLemmas
+pub mod LawLemmas
 pub mod LineLemmas
 pub mod PieceLemmas

@@ -5,3 +5,4 @@ pub mod Steps
 pub mod Forms
 pub mod Limits
 pub mod Script
+pub mod Laws

@@ -8,6 +8,7 @@ mod context;
 mod fault;
 mod forms;
 mod jobs;
+mod laws;
 mod rests;
 mod script;
 mod settings;
@@ -20,6 +21,7 @@ mod verify;
 use annex_base::crosses;
 pub use command::{BlockLine, BlockLines, Command, NamedKey};
 pub use fault::{Quantity, ScriptFault};
+pub use laws::{first_faults_are_told, right_lines_say_their_commands};
 pub use script::Script;
 
 /// These types go from thread to thread.
