@@ -84,7 +84,7 @@ impl Clone for BlockLines {
 
 /// A line of a script, or the lines of a block (own). A repository is named by its number, in order of the `repo`
 /// lines from 0.
-#[derive(Clone, Debug, Drop)]
+#[derive(Debug, Drop)]
 pub enum Command {
     /// `repo NAME UUID [offset=MS] [version=V] [nolock]`: its clock is ahead of the script's time by MS milliseconds, at
     /// most 100,000,000,000, without the option 0; it speaks the protocol up to version 1, 2 or 3, without the option 3

@@ -5,6 +5,7 @@ mod actions;
 mod command;
 mod contents;
 mod context;
+mod copying;
 mod fault;
 mod forms;
 mod jobs;
