@@ -34,12 +34,12 @@ abbrev pub files_pass : Context → List ℕ → Option Quantity
 files_pass context path = passed_by Files (context.files + new_paths context.tree path) None
 
 -- the first limit that a command passes; the limit of one content is met in the command's form
-abbrev pub first_passed : Context → Command → Option Quantity
-first_passed context (Repo name id offset version locks) = passed_by Repositories (length context.repos + 1) None
-first_passed context (Have r key content) = contents_pass context content None
-first_passed context (Part r key content) = contents_pass context content None
-first_passed context (Damage r key content) = contents_pass context content None
-first_passed context (Add r path key content) = contents_pass context content (files_pass context path)
-first_passed context (File path key) = files_pass context path
-first_passed context (Wait milliseconds) = passed_by Time (context.waited + milliseconds) None
-first_passed context _ = None
+abbrev pub first_limit : Context → Command → Option Quantity
+first_limit context (Repo name id offset version locks) = passed_by Repositories (length context.repos + 1) None
+first_limit context (Have r key content) = contents_pass context content None
+first_limit context (Part r key content) = contents_pass context content None
+first_limit context (Damage r key content) = contents_pass context content None
+first_limit context (Add r path key content) = contents_pass context content (files_pass context path)
+first_limit context (File path key) = files_pass context path
+first_limit context (Wait milliseconds) = passed_by Time (context.waited + milliseconds) None
+first_limit context _ = None

@@ -25,7 +25,7 @@ use Rattle.script_lang.specs.Context.{Context, new_paths, placed_cmp}
 use Rattle.script_lang.specs.declared.context.Repository.{Repository}
 use Rattle.script_lang.specs.Steps.{Step, saying_at, end_at}
 use Rattle.script_lang.specs.Forms.{row, block_row, line_named}
-use Rattle.script_lang.specs.Limits.{first_passed}
+use Rattle.script_lang.specs.Limits.{first_limit}
 
 -- ---- what a command changes for the lines behind it
 
@@ -86,13 +86,13 @@ pub record State : Type 0 where
   pub commands : List Command
   pub block : Option Block
 
-abbrev pub accepted_if : Context → List Command → Command → Option Quantity → Result State LineFault
-accepted_if context before command (Some quantity) = Err (Past quantity)
-accepted_if context before command None = Ok (record { context = context_with context command; commands = before ++ command ∷ []; block = None })
+abbrev pub command_unless : Context → List Command → Command → Option Quantity → Result State LineFault
+command_unless context before command (Some quantity) = Err (Past quantity)
+command_unless context before command None = Ok (record { context = context_with context command; commands = before ++ command ∷ []; block = None })
 
 -- one command more, if it passes no limit
-unfoldable pub accepted : Context → List Command → Command → Result State LineFault
-accepted context before command = accepted_if context before command (first_passed context command)
+unfoldable pub with_command : Context → List Command → Command → Result State LineFault
+with_command context before command = command_unless context before command (first_limit context command)
 
 abbrev pub within_block : Context → List Command → ℕ → List BlockLine → State
 within_block context before number lines = record { context = context; commands = before; block = Some (record { number = number; lines = lines }) }
@@ -101,11 +101,11 @@ within_block context before number lines = record { context = context; commands 
 unfoldable pub line_outside : Context → List Command → ℕ → LineVerb → Cursor → Result State LineFault
 line_outside context before number Par at = end_at at >>= λ _. Ok (within_block context before number [])
 line_outside context before number End at = Err (Wrong 0)
-line_outside context before number (Says v) at = (row v).1 context at >>= accepted context before
+line_outside context before number (Says v) at = (row v).1 context at >>= with_command context before
 
 -- a line of a block; no other form may stand there
 unfoldable pub line_inside : Context → List Command → Block → LineVerb → Cursor → Result State LineFault
-line_inside context before block End at = end_at at >>= λ _. accepted context before (commands.Par block.lines)
+line_inside context before block End at = end_at at >>= λ _. with_command context before (commands.Par block.lines)
 line_inside context before block (Says (verbs.InBlock v)) at = (block_row v).1 context at >>= λ l. Ok (within_block context before block.number (block.lines ++ l ∷ []))
 line_inside context before block v at = Err (Wrong 0)
 

@@ -82,8 +82,8 @@ abbrev pub this_word : List ℕ → List ℕ → Option Unit
 this_word word text = if_holds (bytes_eq word text) tt
 
 -- whether this word comes next, with the place behind it
-abbrev pub passed : List ℕ → Cursor → Bool × Cursor
-passed word at = let x = option_at (this_word word) at in (is_some x.0, x.1)
+abbrev pub comes_next : List ℕ → Cursor → Bool × Cursor
+comes_next word at = let x = option_at (this_word word) at in (is_some x.0, x.1)
 
 -- ---- repositories
 
@@ -212,7 +212,7 @@ log_file_by context true at = location_at context at
 
 -- `location` and a key, or a log file by its name
 unfoldable pub log_file_at : Context → Step LogFile
-log_file_at context at = let x = passed (codes "location") at in log_file_by context x.0 x.1
+log_file_at context at = let x = comes_next (codes "location") at in log_file_by context x.0 x.1
 
 -- ---- options
 
@@ -260,7 +260,7 @@ peer_by context r true at = other_at context r at >>= λ p. Ok (Some p.0, p.1)
 
 -- `from` and another repository than this one, or nothing
 unfoldable pub from_at : Context → ℕ → Step (Option ℕ)
-from_at context r at = let x = passed (codes "from") at in peer_by context r x.0 x.1
+from_at context r at = let x = comes_next (codes "from") at in peer_by context r x.0 x.1
 
 -- `to` and another repository than this one
 unfoldable pub to_at : Context → ℕ → Step ℕ

@@ -2,6 +2,7 @@
 #![tactic(auto)]
 
 mod actions;
+mod changes;
 mod command;
 mod contents;
 mod context;
@@ -10,6 +11,7 @@ mod fault;
 mod forms;
 mod jobs;
 mod laws;
+mod limits;
 mod rests;
 mod script;
 mod settings;

@@ -391,7 +391,7 @@ pub fn maybe_path(alloc: Global, words: &mut Words<'_>) -> Result<Option<Text>, 
 
 /// Reads the word where it comes next, and tells whether it did.
 fn pass(words: &mut Words<'_>, wanted: &[u8]) -> bool
-    ensures { (result, words.new) ≡ spec.passed wanted.now words.old }
+    ensures { (result, words.new) ≡ spec.comes_next wanted.now words.old }
 {
     if let NextWord::Word(word) = words.peek() {
         if is_word(word.text(), wanted) {
