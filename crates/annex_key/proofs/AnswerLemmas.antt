@@ -76,7 +76,7 @@ fault_ok : (r : Result Parts KeyFault) → fault_in r ≡ None → (k : Parts) �
 fault_ok (Ok k) h = (k, refl)
 fault_ok (Err d) h = absurd cc
 
-no_fault : (text : List ℕ) → first_fault text ≡ None → IsKeyText text
+pub no_fault : (text : List ℕ) → first_fault text ≡ None → IsKeyText text
 no_fault text h = let k = fault_ok (key_at text) h in text_takes text k.0 k.1
 
 pub found : {A : Type 0} (P : A → Type 0) (text : List ℕ) (r : Result A KeyFault) → IfOk r P → told_fault r ≡ first_fault text → IfOk r (λ k. P k × IsKeyText text)

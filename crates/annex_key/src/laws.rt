@@ -1,7 +1,7 @@
 //! Laws on keys and their texts, which no call depends on.
-ghost use Rattle.std.specs.Prelude.{◌≡◌, ◌↔◌, List, ℕ, Some};
+ghost use Rattle.std.specs.Prelude.{◌≡◌, ◌↔◌, List, ℕ, Some, None};
 ghost use Rattle.annex_key.specs.KeyText.{Parts, IsKey, IsKeyText, key_text};
-ghost use Rattle.annex_key.specs.View.{backend_part, size_part, name_part};
+ghost use Rattle.annex_key.specs.View.{backend_part, first_fault, size_part, name_part};
 ghost use Rattle.annex_key.specs.KeyFile.{file_text};
 ghost use Rattle.annex_key.specs.FileKey.{key_of_file};
 
@@ -21,4 +21,9 @@ pub fn texts_say_their_parts()
     ensures backend { (k : Parts) → IsKey k → backend_part (key_text k) ≡ k.backend }
     ensures size { (k : Parts) → IsKey k → size_part (key_text k) ≡ k.size }
     ensures name { (k : Parts) → IsKey k → name_part (key_text k) ≡ k.name }
+{}
+
+/// A text has no fault exactly where it is that of a key.
+pub fn keys_are_texts_without_faults()
+    ensures { (text : List ℕ) → (first_fault text ≡ None) ↔ IsKeyText text }
 {}

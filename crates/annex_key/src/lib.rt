@@ -12,5 +12,7 @@ mod tree;
 
 pub use fault::KeyFault;
 pub use key::Key;
-pub use laws::{files_name_their_keys, names_are_unique, texts_say_their_parts};
+pub use laws::{
+    files_name_their_keys, keys_are_texts_without_faults, names_are_unique, texts_say_their_parts,
+};
 pub use tree::Tree;
