@@ -1,0 +1,4 @@
+pub mod Replies
+pub mod Doings
+pub mod Agreeing
+pub mod StateFacts

@@ -1,0 +1,14 @@
+//! The server's side of a connection: a session that answers by the rows of its repository.
+#![tactic(auto)]
+
+mod answers;
+mod doing;
+mod incoming;
+mod place;
+mod session;
+mod step;
+
+pub use incoming::Incoming;
+pub use place::Place;
+pub use session::Session;
+pub use step::Step;
