@@ -1,13 +1,15 @@
 -- What a session is, what it hears, and what it goes on to be (the project's own).
-use Rattle.std.specs.Prelude.{◌≡◌, ◌↔◌, ℕ, ◌-◌, Bool, true, false, if◌then◌else◌, List, length, Option, Some, None}
+use Rattle.std.specs.Prelude.{◌≡◌, ◌↔◌, ℕ, ◌-◌, Bool, true, false, if◌then◌else◌, List, [], ◌++◌, length, Option, Some, None}
+use Rattle.std.specs.Option.{option_map}
 use Rattle.run_data.specs.declared.entry.EntryKind.{EntryKind}
+use Rattle.run_data.specs.declared.entry.EntryKind.TheVariants.{Fault, Talk}
 use Rattle.run_data.specs.declared.entry.FrameText.{FrameText}
 use Rattle.run_data.specs.declared.entry.FrameText.TheVariants as frames
 use Rattle.run_data.specs.declared.entry.FrameView.{FrameView}
 use Rattle.p2p_wire.specs.declared.message.Message.{Message}
 use Rattle.p2p_wire.specs.declared.message.Message.TheVariants.{Get, Put, Valid}
 use Rattle.p2p_wire.specs.Messages.{message_of}
-use Rattle.object_store.specs.Stores.{Contents, Parts}
+use Rattle.object_store.specs.Stores.{Contents, Parts, with_at}
 use Rattle.key_verify.specs.declared.digester.Digester.{Digester}
 use Rattle.key_verify.specs.declared.digester.Sum.{Sum}
 use Rattle.key_verify.specs.Sums.{HasTaken, sum_of}
@@ -161,9 +163,19 @@ SeesPart known doing i part right = Unit {0}
 abbrev pub SeesPartOf : Option Parts → Session → Incoming → ℕ → Bool → Type 0
 SeesPartOf known s i part right = SeesPart known s.doing i part right
 
-abbrev pub IsGuarding : Doing → Type 0
-IsGuarding (doings.Guards share) = Unit {0}
-IsGuarding doing = ⊥
+-- the parts after the verdict on one: it is the content now, or dropped, or a call of the store failed
+abbrev pub parts_after_valid : List ℕ → EntryKind → Option Parts → Option Parts
+parts_after_valid key (Fault call by) known = known
+parts_after_valid key kind known = option_map (λ p. with_at p key []) known
+
+-- the parts after a step by an entry of this kind: that of a transfer grows by each piece that is taken
+abbrev pub parts_after : Doing → Incoming → EntryKind → Option Parts → Option Parts
+parts_after (doings.Takes t) (incoming.Bytes bytes) (Talk job) known = option_map (λ p. with_at p t.fill (p t.fill ++ bytes.items)) known
+parts_after (doings.Took t) (incoming.Message Valid) kind known = parts_after_valid t.fill kind known
+parts_after doing i kind known = known
+
+abbrev pub parts_after_of : Session → Incoming → EntryKind → Option Parts → Option Parts
+parts_after_of s i kind known = parts_after s.doing i kind known
 
 -- the step agrees on no version, on a connection that stays open
 abbrev pub IsPlain : Step → Type 0

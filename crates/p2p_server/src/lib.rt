@@ -4,11 +4,14 @@
 mod answers;
 mod doing;
 mod incoming;
+mod more;
 mod place;
 mod session;
 mod step;
+mod transfer;
 
 pub use incoming::Incoming;
+pub use more::More;
 pub use place::Place;
 pub use session::Session;
 pub use step::Step;

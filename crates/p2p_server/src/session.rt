@@ -1,38 +1,43 @@
 //! A session at a server's end of a connection.
-ghost use Rattle.std.specs.Prelude.{◌≡◌, ◌≤◌, ◌+◌, ◌<◌, ◌^◌, ℕ, Bool, List, All, min, codes, true, false, Some, None, IfOk, OnOk, OnErr, IfSome};
+ghost use Rattle.std.specs.Prelude.{◌≡◌, ◌≤◌, ◌+◌, ◌<◌, ◌^◌, ℕ, Bool, List, [], ◌∷◌, ◌++◌, length, All, min, codes, true, false, Some, None, IfOk, OnOk, OnErr, IfSome};
 ghost use Rattle.std.specs.declared.option.Option.{Option};
 ghost use Rattle.std.specs.Option.{ForSome};
 ghost use Rattle.annex_base.specs.Causes.{Rose};
+ghost use Rattle.annex_base.specs.declared.kinds.Call.TheVariants as calls;
 ghost use Rattle.annex_base.specs.declared.kinds.Call.TheVariants.{Unhold};
 ghost use Rattle.run_data.specs.declared.entry.By.{By};
+ghost use Rattle.run_data.specs.declared.entry.FrameText.{FrameText};
+ghost use Rattle.run_data.specs.declared.entry.FrameText.TheVariants.{Closing};
+ghost use Rattle.run_data.specs.declared.entry.FrameView.{FrameView};
+ghost use Rattle.object_store.specs.Stores.{Contents, Parts};
+ghost use Rattle.object_store.specs.declared.keeper.HoldRecord.{HoldRecord};
+ghost use Rattle.node_model.specs.Ends.{EndName, server_end};
+ghost use Rattle.node_model.specs.Look.{Look};
 ghost use Rattle.node_model.specs.Rows.{same_owner};
 ghost use Rattle.node_model.specs.Sessions as sessions;
-ghost use Rattle.node_model.specs.Sessions.{new_session};
-ghost use Rattle.run_data.specs.declared.entry.FrameText.{FrameText};
-ghost use Rattle.run_data.specs.declared.entry.FrameView.{FrameView};
-ghost use Rattle.node_model.specs.Sessions.{session_after};
-ghost use Rattle.node_model.specs.SessionStep.{here, is_filled, on_frame, on_message};
+ghost use Rattle.node_model.specs.Sessions.{gave_bytes, gives, new_session, reaches, session_after, session_left, took_bytes, version_told, wanted, wants};
+ghost use Rattle.node_model.specs.SessionStep.{bytes_left, content_of, gives_next, here, is_filled, on_bytes, on_frame, on_message, on_put, reply, tries};
 ghost use Rattle.node_model.specs.SetUp.{SetUp};
 ghost use Rattle.node_model.specs.State.{State};
-ghost use Rattle.node_model.specs.Look.{Look};
-ghost use Rattle.node_model.specs.Ends.{EndName};
-ghost use Rattle.p2p_server.specs.States.{IsScene, Keeps, Stand, stand_after, stand_of};
-ghost use Rattle.content_lock.specs.Rows.{is_filling};
-ghost use Rattle.content_lock.specs.Stored.{Agrees, record_of};
+ghost use Rattle.content_lock.specs.Rows.{Rows, is_filling};
+ghost use Rattle.content_lock.specs.Stored.{Agrees};
 ghost use Rattle.content_lock.specs.Tokens.{Owns, ShareView, given_in};
-ghost use Rattle.p2p_server.specs.Answers.{Does, failed_in, owner_at, reply_of};
-ghost use Rattle.object_store.specs.declared.keeper.HoldRecord.{HoldRecord};
-ghost use Rattle.p2p_server.specs.Talking.{AreAfterStep, Brings, HasFill, HasFillOf, IsGuarding, SaysSo, SeesPart, SeesPartOf, SeesSize, doing_of, fills_after, next_session, on_heard, place_of, session_of, share_in, share_of};
+ghost use Rattle.p2p_server.specs.Answers.{Does, failed_in, owner_at, reply_of, size_in};
+ghost use Rattle.p2p_server.specs.Giving.{IsPieceOf, failed_more, reply_more, session_sent};
+ghost use Rattle.p2p_server.specs.Phases.{HasLeft, HasRoom, IsBare, IsGave, IsGuarding, IsLonger, IsMoving, IsTook, IsWanting, WithinOf};
+ghost use Rattle.p2p_server.specs.States.{IsScene, Keeps, Stand, stand_after, stand_of};
+ghost use Rattle.p2p_server.specs.Talking.{AreAfterStep, Brings, HasFill, HasFillOf, IsFed, IsFedOf, SaysSo, SeesPart, SeesPartOf, SeesSize, Tells, doing_of, fills_after, next_session, on_heard, parts_after, parts_after_of, place_of, session_of, share_in, share_of};
 
-use crate::answers;
-use crate::doing::{Doing, Taken, Taking, Wanting};
+use crate::doing::{Doing, Giving, Taken, Taking, Wanting};
 use crate::incoming::Incoming;
+use crate::more::{More, next_of};
 use crate::place::{Place, Scene};
 use crate::step::Step;
+use crate::{answers, transfer};
 use annex_base::{Call, NoMemory, Text};
 use annex_key::Key;
 use content_lock::{LockTable, Share};
-use object_store::Keeper;
+use object_store::{Keeper, KeeperFault};
 use p2p_wire::Message;
 use run_data::EntryKind;
 use std::alloc::Global;
@@ -157,6 +162,7 @@ impl Session {
         ensures owns { Owns (owner_at self.new.place) (share_in self.new.doing) table.new.holds }
         ensures fills { HasFill table.new self.new.doing }
         ensures others { (by : By) (share : Option ShareView) → same_owner (owner_at self.old.place) by ≡ false → Owns by share table.old.holds → Owns by share table.new.holds }
+        ensures fed { OnOk result (ForSome (K.parts keeper.old) (λ p. IsFed p self.new.doing)) }
         ensures err { OnErr result ((self.new ≡ self.old) × (table.new ≡ table.old)) }
         ensures err_contents { OnErr result (K.contents keeper.new ≡ K.contents keeper.old) }
         ensures parts { K.parts keeper.new ≡ K.parts keeper.old }
@@ -172,6 +178,89 @@ impl Session {
                 begin(&mut self.doing, Doing::Guards { share });
                 Ok(step)
             }
+        }
+    }
+
+    /// GET: the content's bytes from a place on are sent next.
+    fn get<K: Keeper>(
+        &mut self,
+        table: &LockTable,
+        keeper: &mut K,
+        start: u64,
+        key: &Key,
+        scene: Scene,
+    ) -> Result<Step, NoMemory>
+        requires agrees { Agrees (K.records keeper.old) table.now.holds }
+        requires owns { Owns (owner_at self.old.place) (share_in self.old.doing) table.now.holds }
+        requires fills { HasFill table.now self.old.doing }
+        requires here { scene.place ≡ self.old.place }
+        requires waits { self.old.doing ≡ Doing.Waits }
+        ensures does { IfOk result (λ step. ForSome (K.contents keeper.old) (λ c. (part : ℕ) (right : Bool) → Does scene table.now c (K.contents keeper.new) part right (λ h. tries h (calls.Size ∷ []) (Closing ∷ []) (reply (EntryKind.Talk None) (Message.Data (bytes_left (content_of h key.now) start)))) step)) }
+        ensures after { IfOk result (λ step. AreAfterStep step.kind table.now table.now) }
+        ensures filled { OnOk result ((k : List ℕ) → is_filling table.now k ≡ fills_after (doing_of self.old.doing) (doing_of self.new.doing) (is_filling table.now) k) }
+        ensures next { IfOk result (λ step. (size : List ℕ → Option ℕ) → Tells (K.contents keeper.old) (λ c. size key.now ≡ size_in c key.now) → session_of self.new ≡ session_left step.close (record { version = version_told self.old.spoken step.reply; doing = gives key.now start (reaches (size key.now) start) step.reply })) }
+        ensures place { self.new.place ≡ self.old.place }
+        ensures owns { Owns (owner_at self.new.place) (share_in self.new.doing) table.now.holds }
+        ensures fills { HasFill table.now self.new.doing }
+        ensures others { (by : By) (share : Option ShareView) → same_owner (owner_at self.old.place) by ≡ false → Owns by share table.now.holds → Owns by share table.now.holds }
+        ensures fed { OnOk result (ForSome (K.parts keeper.old) (λ p. IsFed p self.new.doing)) }
+        ensures err { OnErr result ((self.new ≡ self.old)) }
+        ensures err_contents { OnErr result (K.contents keeper.new ≡ K.contents keeper.old) }
+        ensures parts { K.parts keeper.new ≡ K.parts keeper.old }
+        ensures err_records { OnErr result (K.records keeper.new ≡ K.records keeper.old) }
+        ensures agrees { Agrees (K.records keeper.new) table.now.holds }
+        ensures later { K.faults keeper.old ≤ K.faults keeper.new }
+        ensures cause { IfOk result (λ step. IfSome (failed_in step.kind) (λ call. Rose (K.faults keeper.old) (K.faults keeper.new))) }
+    {
+        match transfer::get(scene, keeper, start, key)? {
+            (step, Some(giving)) => {
+                begin(&mut self.doing, Doing::Gives(giving));
+                Ok(step)
+            }
+            (step, None) => {
+                self.spoken = 0;
+                Ok(step)
+            }
+        }
+    }
+
+    /// PUT: the part's bytes are asked for.
+    fn put<K: Keeper>(
+        &mut self,
+        alloc: Global,
+        table: &mut LockTable,
+        keeper: &mut K,
+        key: &Key,
+        scene: Scene,
+    ) -> Result<Step, NoMemory>
+        requires agrees { Agrees (K.records keeper.old) table.old.holds }
+        requires owns { Owns (owner_at self.old.place) (share_in self.old.doing) table.old.holds }
+        requires fills { HasFill table.old self.old.doing }
+        requires here { scene.place ≡ self.old.place }
+        requires waits { self.old.doing ≡ Doing.Waits }
+        ensures does { IfOk result (λ step. ForSome (K.contents keeper.old) (λ c. (part : ℕ) (right : Bool) → Tells (K.parts keeper.old) (λ p. part ≡ length (p key.now)) → Does scene table.old c (K.contents keeper.new) part right (λ h. on_put h key.now) step)) }
+        ensures after { IfOk result (λ step. AreAfterStep step.kind table.old table.new) }
+        ensures filled { OnOk result ((k : List ℕ) → is_filling table.new k ≡ fills_after (doing_of self.old.doing) (doing_of self.new.doing) (is_filling table.old) k) }
+        ensures next { IfOk result (λ step. (size : List ℕ → Option ℕ) → session_of self.new ≡ session_left step.close (record { version = version_told self.old.spoken step.reply; doing = wants key.now step.reply })) }
+        ensures place { self.new.place ≡ self.old.place }
+        ensures owns { Owns (owner_at self.new.place) (share_in self.new.doing) table.new.holds }
+        ensures fills { HasFill table.new self.new.doing }
+        ensures others { (by : By) (share : Option ShareView) → same_owner (owner_at self.old.place) by ≡ false → Owns by share table.old.holds → Owns by share table.new.holds }
+        ensures fed { OnOk result (ForSome (K.parts keeper.old) (λ p. IsFed p self.new.doing)) }
+        ensures err { OnErr result ((self.new ≡ self.old) × (table.new ≡ table.old)) }
+        ensures err_contents { OnErr result (K.contents keeper.new ≡ K.contents keeper.old) }
+        ensures parts { K.parts keeper.new ≡ K.parts keeper.old }
+        ensures err_records { OnErr result (K.records keeper.new ≡ K.records keeper.old) }
+        ensures agrees { Agrees (K.records keeper.new) table.new.holds }
+        ensures later { K.faults keeper.old ≤ K.faults keeper.new }
+        ensures cause { IfOk result (λ step. IfSome (failed_in step.kind) (λ call. Rose (K.faults keeper.old) (K.faults keeper.new))) }
+    {
+        match transfer::put(scene, alloc, table, keeper, key)? {
+            (step, Some(wanting)) => {
+                begin(&mut self.doing, Doing::Wants(wanting));
+                Ok(step)
+            }
+            (step, None) => Ok(step),
         }
     }
 
@@ -199,6 +288,7 @@ impl Session {
         ensures owns { Owns (owner_at self.new.place) (share_in self.new.doing) table.new.holds }
         ensures fills { HasFill table.new self.new.doing }
         ensures others { (by : By) (share : Option ShareView) → same_owner (owner_at self.old.place) by ≡ false → Owns by share table.old.holds → Owns by share table.new.holds }
+        ensures fed { OnOk result (ForSome (K.parts keeper.old) (λ p. IsFed p self.new.doing)) }
         ensures err { OnErr result ((self.new ≡ self.old) × (table.new ≡ table.old)) }
         ensures err_contents { OnErr result (K.contents keeper.new ≡ K.contents keeper.old) }
         ensures parts { K.parts keeper.new ≡ K.parts keeper.old }
@@ -235,11 +325,21 @@ impl Session {
                     Message::Timestamp(scene.clock / 1000),
                 ))
             }
-            Message::Get { .. } | Message::Put { .. } => {
+            Message::Get {
+                start,
+                file: _,
+                key,
+            } => {
                 if self.spoken < 1 {
                     return self.refuse(alloc, table);
                 }
-                Err(NoMemory)
+                self.get(table, keeper, *start, key, scene)
+            }
+            Message::Put { file: _, key } => {
+                if self.spoken < 1 {
+                    return self.refuse(alloc, table);
+                }
+                self.put(alloc, table, keeper, key, scene)
             }
             _ => self.refuse(alloc, table),
         }
@@ -269,6 +369,7 @@ impl Session {
         ensures owns { Owns (owner_at self.new.place) (share_in self.new.doing) table.new.holds }
         ensures fills { HasFill table.new self.new.doing }
         ensures others { (by : By) (share : Option ShareView) → same_owner (owner_at self.old.place) by ≡ false → Owns by share table.old.holds → Owns by share table.new.holds }
+        ensures fed { OnOk result (ForSome (K.parts keeper.old) (λ p. IsFed p self.new.doing)) }
         ensures err { OnErr result ((self.new ≡ self.old) × (table.new ≡ table.old)) }
         ensures err_contents { OnErr result (K.contents keeper.new ≡ K.contents keeper.old) }
         ensures parts { K.parts keeper.new ≡ K.parts keeper.old }
@@ -308,6 +409,7 @@ impl Session {
         ensures owns { Owns (owner_at self.new.place) (share_in self.new.doing) table.new.holds }
         ensures fills { HasFill table.new self.new.doing }
         ensures others { (by : By) (share : Option ShareView) → same_owner (owner_at self.old.place) by ≡ false → Owns by share table.old.holds → Owns by share table.new.holds }
+        ensures fed { OnOk result (ForSome (K.parts keeper.old) (λ p. IsFed p self.new.doing)) }
         ensures err { OnErr result ((self.new ≡ self.old) × (table.new ≡ table.old)) }
         ensures err_contents { OnErr result (K.contents keeper.new ≡ K.contents keeper.old) }
         ensures parts { K.parts keeper.new ≡ K.parts keeper.old }
@@ -343,6 +445,239 @@ impl Session {
         }
     }
 
+    /// The answer to a message, of a session that gives or takes bytes: none is expected.
+    fn unasked(
+        &mut self,
+        alloc: Global,
+        table: &mut LockTable,
+        message: &Message,
+        scene: Scene,
+    ) -> Result<Step, NoMemory>
+        requires owns { Owns (owner_at self.old.place) (share_in self.old.doing) table.old.holds }
+        requires fills { HasFill table.old self.old.doing }
+        requires here { scene.place ≡ self.old.place }
+        requires phase { IsMoving self.old.doing }
+        ensures does { IfOk result (λ step. (c : Contents) (known : Option Contents) (part : ℕ) (right : Bool) → known ≡ Some c → Does scene table.old c known part right (λ h. on_message h self.old.spoken (doing_of self.old.doing) message.now) step) }
+        ensures after { IfOk result (λ step. AreAfterStep step.kind table.old table.new) }
+        ensures filled { OnOk result ((k : List ℕ) → is_filling table.new k ≡ fills_after (doing_of self.old.doing) (doing_of self.new.doing) (is_filling table.old) k) }
+        ensures next { IfOk result (λ step. (size : List ℕ → Option ℕ) → session_of self.new ≡ next_session size step (session_of self.old) (Incoming.Message message.now)) }
+        ensures place { self.new.place ≡ self.old.place }
+        ensures owns { Owns (owner_at self.new.place) (share_in self.new.doing) table.new.holds }
+        ensures fills { HasFill table.new self.new.doing }
+        ensures others { (by : By) (share : Option ShareView) → same_owner (owner_at self.old.place) by ≡ false → Owns by share table.old.holds → Owns by share table.new.holds }
+        ensures fed { OnOk result ((p : Parts) → IsFed p self.old.doing → IsFed p self.new.doing) }
+        ensures calm { IfOk result (λ step. failed_in step.kind ≡ None) }
+        ensures agrees { (known : Option (List HoldRecord)) → Agrees known table.old.holds → Agrees known table.new.holds }
+        ensures err { OnErr result ((self.new ≡ self.old) × (table.new ≡ table.old)) }
+    {
+        match message {
+            Message::Error(_) => Ok(self.give_up(table)),
+            _ => self.refuse(alloc, table),
+        }
+    }
+
+    /// The answer to a message, of a session that gave a content: what the client says of it.
+    fn judged(
+        &mut self,
+        alloc: Global,
+        table: &mut LockTable,
+        message: &Message,
+        scene: Scene,
+    ) -> Result<Step, NoMemory>
+        requires owns { Owns (owner_at self.old.place) (share_in self.old.doing) table.old.holds }
+        requires fills { HasFill table.old self.old.doing }
+        requires here { scene.place ≡ self.old.place }
+        requires phase { IsGave self.old.doing }
+        ensures does { IfOk result (λ step. (c : Contents) (known : Option Contents) (part : ℕ) (right : Bool) → known ≡ Some c → Does scene table.old c known part right (λ h. on_message h self.old.spoken (doing_of self.old.doing) message.now) step) }
+        ensures after { IfOk result (λ step. AreAfterStep step.kind table.old table.new) }
+        ensures filled { OnOk result ((k : List ℕ) → is_filling table.new k ≡ fills_after (doing_of self.old.doing) (doing_of self.new.doing) (is_filling table.old) k) }
+        ensures next { IfOk result (λ step. (size : List ℕ → Option ℕ) → session_of self.new ≡ next_session size step (session_of self.old) (Incoming.Message message.now)) }
+        ensures place { self.new.place ≡ self.old.place }
+        ensures owns { Owns (owner_at self.new.place) (share_in self.new.doing) table.new.holds }
+        ensures fills { HasFill table.new self.new.doing }
+        ensures others { (by : By) (share : Option ShareView) → same_owner (owner_at self.old.place) by ≡ false → Owns by share table.old.holds → Owns by share table.new.holds }
+        ensures fed { OnOk result ((p : Parts) → IsFed p self.old.doing → IsFed p self.new.doing) }
+        ensures calm { IfOk result (λ step. failed_in step.kind ≡ None) }
+        ensures agrees { (known : Option (List HoldRecord)) → Agrees known table.old.holds → Agrees known table.new.holds }
+        ensures err { OnErr result ((self.new ≡ self.old) × (table.new ≡ table.old)) }
+    {
+        match message {
+            Message::Error(_) => Ok(self.give_up(table)),
+            Message::Success | Message::Failure => {
+                begin(&mut self.doing, Doing::Waits);
+                Ok(Step::silent(EntryKind::Talk { job: None }))
+            }
+            _ => self.refuse(alloc, table),
+        }
+    }
+
+    /// The answer to a message, of a session that asked for bytes: how many come.
+    fn announced(
+        &mut self,
+        alloc: Global,
+        table: &mut LockTable,
+        message: &Message,
+        scene: Scene,
+    ) -> Result<Step, NoMemory>
+        requires owns { Owns (owner_at self.old.place) (share_in self.old.doing) table.old.holds }
+        requires fills { HasFill table.old self.old.doing }
+        requires here { scene.place ≡ self.old.place }
+        requires phase { IsWanting self.old.doing }
+        ensures does { IfOk result (λ step. (c : Contents) (known : Option Contents) (part : ℕ) (right : Bool) → known ≡ Some c → Does scene table.old c known part right (λ h. on_message h self.old.spoken (doing_of self.old.doing) message.now) step) }
+        ensures after { IfOk result (λ step. AreAfterStep step.kind table.old table.new) }
+        ensures filled { OnOk result ((k : List ℕ) → is_filling table.new k ≡ fills_after (doing_of self.old.doing) (doing_of self.new.doing) (is_filling table.old) k) }
+        ensures next { IfOk result (λ step. (size : List ℕ → Option ℕ) → session_of self.new ≡ next_session size step (session_of self.old) (Incoming.Message message.now)) }
+        ensures place { self.new.place ≡ self.old.place }
+        ensures owns { Owns (owner_at self.new.place) (share_in self.new.doing) table.new.holds }
+        ensures fills { HasFill table.new self.new.doing }
+        ensures others { (by : By) (share : Option ShareView) → same_owner (owner_at self.old.place) by ≡ false → Owns by share table.old.holds → Owns by share table.new.holds }
+        ensures fed { OnOk result ((p : Parts) → IsFed p self.old.doing → IsFed p self.new.doing) }
+        ensures calm { IfOk result (λ step. failed_in step.kind ≡ None) }
+        ensures agrees { (known : Option (List HoldRecord)) → Agrees known table.old.holds → Agrees known table.new.holds }
+        ensures err { OnErr result ((self.new ≡ self.old) × (table.new ≡ table.old)) }
+    {
+        match message {
+            Message::Error(_) => Ok(self.give_up(table)),
+            Message::Data(count) => {
+                expect(&mut self.doing, *count);
+                Ok(Step::silent(EntryKind::Talk { job: None }))
+            }
+            _ => self.refuse(alloc, table),
+        }
+    }
+
+    /// A piece of a part.
+    fn piece<K: Keeper>(
+        &mut self,
+        alloc: Global,
+        table: &mut LockTable,
+        keeper: &mut K,
+        bytes: &Vec<u8>,
+        scene: Scene,
+    ) -> Result<Step, NoMemory>
+        requires agrees { Agrees (K.records keeper.old) table.old.holds }
+        requires owns { Owns (owner_at self.old.place) (share_in self.old.doing) table.old.holds }
+        requires fills { HasFill table.old self.old.doing }
+        requires here { scene.place ≡ self.old.place }
+        ensures does { IfOk result (λ step. ForSome (K.contents keeper.old) (λ c. (part : ℕ) (right : Bool) → Does scene table.old c (K.contents keeper.new) part right (λ h. on_bytes h (length bytes.now.items) (doing_of self.old.doing)) step)) }
+        ensures after { IfOk result (λ step. AreAfterStep step.kind table.old table.new) }
+        ensures filled { OnOk result ((k : List ℕ) → is_filling table.new k ≡ fills_after (doing_of self.old.doing) (doing_of self.new.doing) (is_filling table.old) k) }
+        ensures next { IfOk result (λ step. (size : List ℕ → Option ℕ) → session_of self.new ≡ next_session size step (session_of self.old) (Incoming.Bytes bytes.now)) }
+        ensures place { self.new.place ≡ self.old.place }
+        ensures owns { Owns (owner_at self.new.place) (share_in self.new.doing) table.new.holds }
+        ensures fills { HasFill table.new self.new.doing }
+        ensures others { (by : By) (share : Option ShareView) → same_owner (owner_at self.old.place) by ≡ false → Owns by share table.old.holds → Owns by share table.new.holds }
+        ensures fed { OnOk result (ForSome (K.parts keeper.old) (λ p. IsFed p self.old.doing → ForSome (K.parts keeper.new) (λ p'. IsFed p' self.new.doing))) }
+        ensures err { OnErr result ((self.new ≡ self.old) × (table.new ≡ table.old)) }
+        ensures err_contents { OnErr result (K.contents keeper.new ≡ K.contents keeper.old) }
+        ensures parts { IfOk result (λ step. K.parts keeper.new ≡ parts_after self.old.doing (Incoming.Bytes bytes.now) step.kind (K.parts keeper.old)) }
+        ensures err_parts { OnErr result (K.parts keeper.new ≡ K.parts keeper.old) }
+        ensures err_records { OnErr result (K.records keeper.new ≡ K.records keeper.old) }
+        ensures agrees { Agrees (K.records keeper.new) table.new.holds }
+        ensures later { K.faults keeper.old ≤ K.faults keeper.new }
+        ensures cause { IfOk result (λ step. IfSome (failed_in step.kind) (λ call. Rose (K.faults keeper.old) (K.faults keeper.new))) }
+    {
+        let Doing::Takes(taking) = &self.doing else {
+            return self.refuse(alloc, table);
+        };
+        if bytes.is_empty() || taking.left < bytes.len() as u64 {
+            return self.refuse(alloc, table);
+        }
+        match keeper.append_part(taking.fill.key(), bytes) {
+            Ok(()) => {
+                append(&mut self.doing, bytes);
+                Ok(Step::silent(EntryKind::Talk { job: None }))
+            }
+            Err(KeeperFault::Failed) => {
+                self.reset(table);
+                Ok(transfer::lost(scene, Call::Append))
+            }
+            Err(KeeperFault::NoMemory) => Err(NoMemory),
+        }
+    }
+
+    /// The answer to a message, of a session that has all bytes of a part: whether they are good.
+    fn received<K: Keeper>(
+        &mut self,
+        alloc: Global,
+        table: &mut LockTable,
+        keeper: &mut K,
+        message: &Message,
+        scene: Scene,
+    ) -> Result<Step, NoMemory>
+        requires agrees { Agrees (K.records keeper.old) table.old.holds }
+        requires owns { Owns (owner_at self.old.place) (share_in self.old.doing) table.old.holds }
+        requires fills { HasFill table.old self.old.doing }
+        requires here { scene.place ≡ self.old.place }
+        requires phase { IsTook self.old.doing }
+        ensures does { IfOk result (λ step. ForSome (K.contents keeper.old) (λ c. (part : ℕ) (right : Bool) → SeesPart (K.parts keeper.old) self.old.doing (Incoming.Message message.now) part right → Does scene table.old c (K.contents keeper.new) part right (λ h. on_message h self.old.spoken (doing_of self.old.doing) message.now) step)) }
+        ensures after { IfOk result (λ step. AreAfterStep step.kind table.old table.new) }
+        ensures filled { OnOk result ((k : List ℕ) → is_filling table.new k ≡ fills_after (doing_of self.old.doing) (doing_of self.new.doing) (is_filling table.old) k) }
+        ensures next { IfOk result (λ step. (size : List ℕ → Option ℕ) → session_of self.new ≡ next_session size step (session_of self.old) (Incoming.Message message.now)) }
+        ensures place { self.new.place ≡ self.old.place }
+        ensures owns { Owns (owner_at self.new.place) (share_in self.new.doing) table.new.holds }
+        ensures fills { HasFill table.new self.new.doing }
+        ensures others { (by : By) (share : Option ShareView) → same_owner (owner_at self.old.place) by ≡ false → Owns by share table.old.holds → Owns by share table.new.holds }
+        ensures fed { OnOk result (ForSome (K.parts keeper.old) (λ p. IsFed p self.old.doing → ForSome (K.parts keeper.new) (λ p'. IsFed p' self.new.doing))) }
+        ensures err { OnErr result ((self.new ≡ self.old) × (table.new ≡ table.old)) }
+        ensures err_contents { OnErr result (K.contents keeper.new ≡ K.contents keeper.old) }
+        ensures parts { IfOk result (λ step. K.parts keeper.new ≡ parts_after self.old.doing (Incoming.Message message.now) step.kind (K.parts keeper.old)) }
+        ensures err_parts { OnErr result (K.parts keeper.new ≡ K.parts keeper.old) }
+        ensures err_records { OnErr result (K.records keeper.new ≡ K.records keeper.old) }
+        ensures agrees { Agrees (K.records keeper.new) table.new.holds }
+        ensures later { K.faults keeper.old ≤ K.faults keeper.new }
+        ensures cause { IfOk result (λ step. IfSome (failed_in step.kind) (λ call. Rose (K.faults keeper.old) (K.faults keeper.new))) }
+    {
+        match message {
+            Message::Error(_) => Ok(self.give_up(table)),
+            Message::Valid => self.verify(alloc, table, keeper, scene),
+            Message::Invalid => {
+                self.let_go(table);
+                Ok(Step::says(EntryKind::Talk { job: None }, Message::Failure))
+            }
+            _ => self.refuse(alloc, table),
+        }
+    }
+
+    /// VALID.
+    fn verify<K: Keeper>(
+        &mut self,
+        alloc: Global,
+        table: &mut LockTable,
+        keeper: &mut K,
+        scene: Scene,
+    ) -> Result<Step, NoMemory>
+        requires agrees { Agrees (K.records keeper.old) table.old.holds }
+        requires owns { Owns (owner_at self.old.place) (share_in self.old.doing) table.old.holds }
+        requires fills { HasFill table.old self.old.doing }
+        requires here { scene.place ≡ self.old.place }
+        requires phase { IsTook self.old.doing }
+        ensures does { IfOk result (λ step. ForSome (K.contents keeper.old) (λ c. (part : ℕ) (right : Bool) → SeesPart (K.parts keeper.old) self.old.doing (Incoming.Message Message.Valid) part right → Does scene table.old c (K.contents keeper.new) part right (λ h. on_message h self.old.spoken (doing_of self.old.doing) Message.Valid) step)) }
+        ensures after { IfOk result (λ step. AreAfterStep step.kind table.old table.new) }
+        ensures filled { OnOk result ((k : List ℕ) → is_filling table.new k ≡ fills_after (doing_of self.old.doing) (doing_of self.new.doing) (is_filling table.old) k) }
+        ensures next { IfOk result (λ step. (size : List ℕ → Option ℕ) → session_of self.new ≡ next_session size step (session_of self.old) (Incoming.Message Message.Valid)) }
+        ensures place { self.new.place ≡ self.old.place }
+        ensures owns { Owns (owner_at self.new.place) (share_in self.new.doing) table.new.holds }
+        ensures fills { HasFill table.new self.new.doing }
+        ensures others { (by : By) (share : Option ShareView) → same_owner (owner_at self.old.place) by ≡ false → Owns by share table.old.holds → Owns by share table.new.holds }
+        ensures fed { OnOk result (ForSome (K.parts keeper.old) (λ p. IsFed p self.old.doing → ForSome (K.parts keeper.new) (λ p'. IsFed p' self.new.doing))) }
+        ensures err { OnErr result ((self.new ≡ self.old) × (table.new ≡ table.old)) }
+        ensures err_contents { OnErr result (K.contents keeper.new ≡ K.contents keeper.old) }
+        ensures parts { IfOk result (λ step. K.parts keeper.new ≡ parts_after self.old.doing (Incoming.Message Message.Valid) step.kind (K.parts keeper.old)) }
+        ensures err_parts { OnErr result (K.parts keeper.new ≡ K.parts keeper.old) }
+        ensures err_records { OnErr result (K.records keeper.new ≡ K.records keeper.old) }
+        ensures agrees { Agrees (K.records keeper.new) table.new.holds }
+        ensures later { K.faults keeper.old ≤ K.faults keeper.new }
+        ensures cause { IfOk result (λ step. IfSome (failed_in step.kind) (λ call. Rose (K.faults keeper.old) (K.faults keeper.new))) }
+    {
+        let Doing::Took(taken) = &self.doing else {
+            return self.refuse(alloc, table);
+        };
+        let step = transfer::verify(scene, alloc, keeper, taken)?;
+        self.let_go(table);
+        Ok(step)
+    }
+
     /// The answer to what is heard.
     fn hear<K: Keeper>(
         &mut self,
@@ -366,9 +701,11 @@ impl Session {
         ensures owns { Owns (owner_at self.new.place) (share_in self.new.doing) table.new.holds }
         ensures fills { HasFill table.new self.new.doing }
         ensures others { (by : By) (share : Option ShareView) → same_owner (owner_at self.old.place) by ≡ false → Owns by share table.old.holds → Owns by share table.new.holds }
+        ensures fed { OnOk result (ForSome (K.parts keeper.old) (λ p. IsFed p self.old.doing → ForSome (K.parts keeper.new) (λ p'. IsFed p' self.new.doing))) }
         ensures err { OnErr result ((self.new ≡ self.old) × (table.new ≡ table.old)) }
         ensures err_contents { OnErr result (K.contents keeper.new ≡ K.contents keeper.old) }
-        ensures parts { K.parts keeper.new ≡ K.parts keeper.old }
+        ensures parts { IfOk result (λ step. K.parts keeper.new ≡ parts_after self.old.doing incoming.now step.kind (K.parts keeper.old)) }
+        ensures err_parts { OnErr result (K.parts keeper.new ≡ K.parts keeper.old) }
         ensures err_records { OnErr result (K.records keeper.new ≡ K.records keeper.old) }
         ensures agrees { Agrees (K.records keeper.new) table.new.holds }
         ensures later { K.faults keeper.old ≤ K.faults keeper.new }
@@ -386,9 +723,12 @@ impl Session {
             Incoming::Message(message) => match &self.doing {
                 Doing::Waits => self.request(alloc, table, keeper, message, scene),
                 Doing::Guards { share: _ } => self.guarded(alloc, table, keeper, message, scene),
-                _ => Err(NoMemory),
+                Doing::Gives(_) | Doing::Takes(_) => self.unasked(alloc, table, message, scene),
+                Doing::Gave => self.judged(alloc, table, message, scene),
+                Doing::Wants(_) => self.announced(alloc, table, message, scene),
+                Doing::Took(_) => self.received(alloc, table, keeper, message, scene),
             },
-            Incoming::Bytes(_) => Err(NoMemory),
+            Incoming::Bytes(bytes) => self.piece(alloc, table, keeper, bytes, scene),
             Incoming::Bad => self.refuse(alloc, table),
         }
     }
@@ -426,6 +766,10 @@ impl Session {
         ensures next { IfOk result (λ step. (size : List ℕ → Option ℕ) (sent : List FrameView) (f : FrameView)
             → Brings f.body incoming.now → SaysSo step sent → SeesSize (K.contents keeper.old) incoming.now size
             → session_of self.new ≡ session_after size step.kind (session_of self.old) sent (Some f)) }
+
+        // The part that it takes grows by what comes, and is spent at the verdict; what it has summed stays the store's part.
+        ensures parts { IfOk result (λ step. K.parts keeper.new ≡ parts_after_of self.old incoming.now step.kind (K.parts keeper.old)) }
+        ensures fed { OnOk result (ForSome (K.parts keeper.old) (λ p. IsFedOf p self.old → ForSome (K.parts keeper.new) (λ p'. IsFedOf p' self.new))) }
         ensures filled { OnOk result ((key : List ℕ) → is_filling table.new key ≡ fills_after (session_of self.old).doing (session_of self.new).doing (is_filling table.old) key) }
         ensures place { place_of self.new ≡ place_of self.old }
         ensures owns { Owns (owner_at (place_of self.new)) (share_of self.new) table.new.holds }
@@ -436,6 +780,7 @@ impl Session {
         ensures cause { IfOk result (λ step. IfSome (failed_in step.kind) (λ call. Rose (K.faults keeper.old) (K.faults keeper.new))) }
         ensures err { OnErr result ((self.new ≡ self.old) × (table.new ≡ table.old)) }
         ensures err_contents { OnErr result (K.contents keeper.new ≡ K.contents keeper.old) }
+        ensures err_parts { OnErr result (K.parts keeper.new ≡ K.parts keeper.old) }
         ensures err_records { OnErr result (K.records keeper.new ≡ K.records keeper.old) }
     {
         let scene = Scene {
@@ -444,6 +789,52 @@ impl Session {
             number,
         };
         self.hear(alloc, table, keeper, incoming, scene)
+    }
+
+    /// What is sent next of a content, where nothing has come. After Gone and Fault the connection is closed, and the session
+    /// is as new. After NoMemory all is as before.
+    pub fn more<K: Keeper>(&mut self, alloc: Global, keeper: &mut K) -> Result<More, NoMemory>
+        ensures step { IfOk result (λ more. (s : SetUp) (st : State) (k : Look) (a : EndName) (c : Contents)
+            → a ≡ server_end (place_of self.old).peer (place_of self.old).slot → K.contents keeper.old ≡ Some c → ((key : List ℕ) → size_in c key ≡ st.content key)
+            → st.sessions a ≡ session_of self.old → k.fails ≡ failed_more more
+            → gives_next (here s st k a) (st.sessions a).doing ≡ reply_more (place_of self.old) more) }
+        ensures bytes { IfOk result (λ more. ForSome (K.contents keeper.old) (λ c. IsPieceOf c (session_of self.old).doing more)) }
+        ensures next { IfOk result (λ more. session_of self.new ≡ session_sent more (session_of self.old)) }
+        ensures place { place_of self.new ≡ place_of self.old }
+        ensures share { share_of self.new ≡ share_of self.old }
+        ensures fills { (rows : Rows) → HasFillOf rows self.old → HasFillOf rows self.new }
+        ensures fed { (p : Parts) → IsFedOf p self.old → IsFedOf p self.new }
+        ensures err { OnErr result (self.new ≡ self.old) }
+        ensures contents { K.contents keeper.new ≡ K.contents keeper.old }
+        ensures parts { K.parts keeper.new ≡ K.parts keeper.old }
+        ensures records { K.records keeper.new ≡ K.records keeper.old }
+        ensures later { K.faults keeper.old ≤ K.faults keeper.new }
+        ensures cause { IfOk result (λ more. IfSome (failed_more more) (λ call. Rose (K.faults keeper.old) (K.faults keeper.new))) }
+    {
+        let Doing::Gives(giving) = &self.doing else {
+            return Ok(More::Nothing);
+        };
+        let more = next_of(self.place, alloc, keeper, giving)?;
+        self.sent(&more);
+        Ok(more)
+    }
+
+    /// Goes on after it sent this of a content.
+    fn sent(&mut self, more: &More)
+        requires within { WithinOf more.now self.old.doing }
+        ensures next { session_of self.new ≡ session_sent more.now (session_of self.old) }
+        ensures place { self.new.place ≡ self.old.place }
+        ensures bare { IsBare self.new.doing }
+    {
+        match more {
+            More::Piece(bytes) => pass(&mut self.doing, bytes.len() as u64),
+            More::Last(_) => begin(&mut self.doing, Doing::Gave),
+            More::Nothing => {}
+            More::Gone | More::Fault(_) => {
+                self.spoken = 0;
+                begin(&mut self.doing, Doing::Waits);
+            }
+        }
     }
 
     /// The connection was closed: a hold that the session guards is kept, a part that it fills stays, and it is as new.
@@ -481,13 +872,13 @@ impl Session {
     }
 }
 
-/// A session that waits does this from now on.
+/// A session without a token does this from now on.
 fn begin(doing: &mut Doing, next: Doing)
-    requires { doing.old ≡ Doing.Waits }
+    requires { IsBare doing.old }
     ensures { doing.new ≡ next }
 {
     match mem::replace(doing, next) {
-        Doing::Waits => {}
+        Doing::Waits | Doing::Gives(_) | Doing::Gave => {}
         _ => unreachable!(),
     }
 }
@@ -527,5 +918,53 @@ fn spend(doing: Doing, table: &mut LockTable)
                 sum: _,
             },
         ) => table.unfill(fill),
+    }
+}
+
+/// So many bytes are to come.
+fn expect(doing: &mut Doing, count: u64)
+    requires phase { IsWanting doing.old }
+    ensures doing { doing_of doing.new ≡ wanted count (doing_of doing.old) }
+    ensures share { share_in doing.new ≡ share_in doing.old }
+    ensures fills { (rows : Rows) → HasFill rows doing.old → HasFill rows doing.new }
+    ensures fed { (p : Parts) → IsFed p doing.old → IsFed p doing.new }
+{
+    match mem::replace(doing, Doing::Waits) {
+        Doing::Wants(wanting) => begin(doing, wanting.announced(count)),
+        _ => unreachable!(),
+    }
+}
+
+/// The piece was put to the part.
+fn append(doing: &mut Doing, piece: &[u8])
+    requires room { HasRoom doing.old (length piece.now) }
+    ensures doing { doing_of doing.new ≡ took_bytes (length piece.now) (doing_of doing.old) }
+    ensures share { share_in doing.new ≡ share_in doing.old }
+    ensures fills { (rows : Rows) → HasFill rows doing.old → HasFill rows doing.new }
+    ensures fed { (p p' : Parts) → IsFed p doing.old → IsLonger doing.old p p' piece.now → IsFed p' doing.new }
+{
+    match mem::replace(doing, Doing::Waits) {
+        Doing::Takes(taking) => begin(doing, taking.appended(piece)),
+        _ => unreachable!(),
+    }
+}
+
+/// So many bytes of a content were sent.
+fn pass(doing: &mut Doing, count: u64)
+    requires room { HasLeft doing.old count }
+    ensures doing { doing_of doing.new ≡ gave_bytes count (doing_of doing.old) }
+    ensures bare { IsBare doing.new }
+{
+    match mem::replace(doing, Doing::Waits) {
+        Doing::Gives(Giving { key, at, end, good }) => begin(
+            doing,
+            Doing::Gives(Giving {
+                key,
+                at: at + count,
+                end,
+                good,
+            }),
+        ),
+        _ => unreachable!(),
     }
 }
