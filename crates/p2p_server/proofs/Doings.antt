@@ -1,5 +1,5 @@
 -- Steps whose entries change no row, and removals.
-use Rattle.std.proofs.Common.{◌≡◌, ℕ, Bool, true, false, List, Option, Some, None, refl, sym, ap, subst, ◌∙◌}
+use Rattle.std.proofs.Common.{◌≡◌, ℕ, Bool, true, false, List, [], ◌∷◌, Option, Some, None, refl, sym, ap, subst, ◌∙◌}
 use Rattle.std.specs.Prelude.{if◌then◌else◌, bytes_eq, ◌&&◌, not, is_some, length}
 use Rattle.std.specs.Option.{option_map}
 use Rattle.annex_base.specs.declared.kinds.Call.{Call}
@@ -7,11 +7,12 @@ use Rattle.annex_base.specs.declared.kinds.Call.TheVariants as calls
 use Rattle.annex_base.specs.declared.kinds.Found.{Found}
 use Rattle.annex_base.proofs.Conditions.{bytes_eq-true}
 use Rattle.run_data.specs.declared.entry.By.{By}
-use Rattle.run_data.specs.declared.entry.EntryKind.TheVariants.{Check, Fault, Gone}
+use Rattle.run_data.specs.declared.entry.EntryKind.TheVariants.{Check, Fault, Gone, Talk}
 use Rattle.p2p_wire.specs.declared.message.Message.{Message}
 use Rattle.p2p_wire.specs.declared.message.Message.TheVariants.{Success, Failure}
 use Rattle.object_store.specs.Stores.{Contents, with_at}
-use Rattle.node_model.specs.SessionStep.{Here, Reply, reply}
+use Rattle.run_data.specs.declared.entry.FrameText.TheVariants.{Closing}
+use Rattle.node_model.specs.SessionStep.{Here, Reply, reply, silent}
 use Rattle.content_lock.specs.Rows.{AreAfter, Rows, bar_at}
 use Rattle.content_lock.specs.Stored.{without_content}
 use Rattle.p2p_server.specs.declared.step.Step.{Step}
@@ -31,6 +32,29 @@ pub faults : (x : Scene) (rows : Rows) (c : Contents) (known : Option Contents) 
     → step ≡ record { kind = Fault call (owner_of x); reply = Some Failure; close = false } → known ≡ Some c
     → reply (Fault call (owner_of x)) Failure ≡ asked (here_of x rows c (Some call) part right) → Does x rows c known part right asked step
 faults x rows c known part right asked call step is same f =
+    subst (λ (s : Step). Does x rows c known part right asked s) (sym is)
+    (record { answers = f; changes = record { contents = c; told = same; present = λ k. refl; sizes = λ k. refl } })
+
+-- a fault that closes the connection
+pub losses : (x : Scene) (rows : Rows) (c : Contents) (known : Option Contents) (part : ℕ) (right : Bool) (asked : Here → Reply) (call : Call) (step : Step)
+    → step ≡ record { kind = Fault call (owner_of x); reply = None; close = true } → known ≡ Some c
+    → record { kind = Fault call (owner_of x); says = Closing ∷ [] } ≡ asked (here_of x rows c (Some call) part right) → Does x rows c known part right asked step
+losses x rows c known part right asked call step is same f =
+    subst (λ (s : Step). Does x rows c known part right asked s) (sym is)
+    (record { answers = f; changes = record { contents = c; told = same; present = λ k. refl; sizes = λ k. refl } })
+
+-- an answer that is no entry of its own
+pub talks : (x : Scene) (rows : Rows) (c : Contents) (known : Option Contents) (part : ℕ) (right : Bool) (asked : Here → Reply) (m : Message) (step : Step)
+    → step ≡ record { kind = Talk None; reply = Some m; close = false } → known ≡ Some c
+    → reply (Talk None) m ≡ asked (here_of x rows c None part right) → Does x rows c known part right asked step
+talks x rows c known part right asked m step is same f =
+    subst (λ (s : Step). Does x rows c known part right asked s) (sym is)
+    (record { answers = f; changes = record { contents = c; told = same; present = λ k. refl; sizes = λ k. refl } })
+
+pub quiets : (x : Scene) (rows : Rows) (c : Contents) (known : Option Contents) (part : ℕ) (right : Bool) (asked : Here → Reply) (step : Step)
+    → step ≡ record { kind = Talk None; reply = None; close = false } → known ≡ Some c
+    → silent (Talk None) ≡ asked (here_of x rows c None part right) → Does x rows c known part right asked step
+quiets x rows c known part right asked step is same f =
     subst (λ (s : Step). Does x rows c known part right asked s) (sym is)
     (record { answers = f; changes = record { contents = c; told = same; present = λ k. refl; sizes = λ k. refl } })
 

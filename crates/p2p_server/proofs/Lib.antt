@@ -3,3 +3,8 @@ pub mod Doings
 pub mod Agreeing
 pub mod StateFacts
 pub mod Transfers
+pub mod Numbers
+pub mod Holding
+pub mod ReplyLines
+pub mod Sending
+pub mod Calm

@@ -1,5 +1,5 @@
 -- Contents that come and go: replies, what a read gives, and what a verdict changes.
-use Rattle.std.proofs.Common.{◌≡◌, ◌≢◌, ℕ, zero, suc, ◌+◌, ◌-◌, ◌≤◌, ◌<◌, ◌++◌, ◌×◌, Bool, true, false, min, List, [], ◌∷◌, length, take, drop, map, Option, Some, None, refl, sym, ap, subst, ◌∙◌, arith, length-drop}
+use Rattle.std.proofs.Common.{◌≡◌, ◌≢◌, ℕ, zero, suc, ◌+◌, ◌-◌, ◌≤◌, ◌<◌, ◌++◌, Bool, true, false, min, List, [], ◌∷◌, length, take, drop, map, Option, Some, None, refl, sym, ap, subst, ◌∙◌, arith, length-drop}
 use Rattle.std.specs.Prelude.{if◌then◌else◌, bytes_eq, nat_lt, nat_le, is_some, ◌||◌}
 use Rattle.std.specs.Option.{option_map, unwrap_or}
 use Rattle.std.proofs.Math.Seq.{take-add}
@@ -17,10 +17,21 @@ use Rattle.node_model.specs.Calls.{to_offer}
 use Rattle.node_model.specs.Look.{failing}
 use Rattle.node_model.specs.Rows.{keep_of}
 use Rattle.node_model.specs.Sessions.{reaches}
-use Rattle.node_model.specs.SessionStep.{Here, Reply, by_of, on_put, reply}
+use Rattle.node_model.specs.SessionStep.{Here, Reply, by_of, on_put, on_valid, reply}
 use Rattle.content_lock.specs.Rows.{Rows}
-use Rattle.p2p_server.specs.Answers.{Changes, is_in, size_in}
-use Rattle.p2p_server.specs.Talking.{AreAfterStep, Tells}
+use Rattle.p2p_server.specs.declared.place.Scene.{Scene}
+use Rattle.p2p_server.specs.declared.step.Step.{Step}
+use Rattle.p2p_server.specs.Answers.{Changes, Does, is_in, size_in}
+use Rattle.key_verify.specs.declared.digester.Sum.{Sum}
+use Rattle.key_verify.specs.declared.verdict.Verdict.{Verdict}
+use Rattle.key_verify.specs.declared.verdict.Verdict.TheVariants.{Right, WrongDigest, WrongSize}
+use Rattle.key_verify.specs.Matching.{MatchesKey}
+use Rattle.key_verify.specs.Sums.{sum_of}
+use Rattle.std.proofs.lemmas.Bool.{false_from_ne_true}
+use Rattle.std.proofs.lemmas.Option.{same_Some}
+use Rattle.std.specs.Prelude.{◌↔◌}
+use Rattle.p2p_server.specs.declared.doing.Taken.{Taken}
+use Rattle.p2p_server.specs.Talking.{AreAfterStep, IsSumOf, SeesTaken, Tells}
 
 -- what was let go in a phase without a share changes no row, so an entry that changes none fits
 pub stays : (kind : EntryKind) (peer slot : ℕ) (rows now : Rows) → map (keep_of (Peer peer slot)) rows.holds ≡ rows.holds → AreAfterStep (Close peer slot false) rows now
@@ -56,12 +67,6 @@ pub put_read : (h : Here) (key : List ℕ) → h.fails ≡ Some calls.ReadPart �
 put_read h key f p b some = rw (f, p, b, some) refl
 
 -- ---- reading
-
-read_whole : (xs : List ℕ) (at n : ℕ) → min (length xs - at) n ≡ n → 0 < n → nat_le (at + n) (length xs) ≡ true
-read_whole xs at n e some = grind arith
-
-read_short : (xs : List ℕ) (at n m : ℕ) → min (length xs - at) n ≡ m → m ≢ n → nat_le (at + n) (length xs) ≡ false
-read_short xs at n m e other = grind arith
 
 take_front : {X : Type 0} (n : ℕ) (xs ys : List X) → n ≤ length xs → take n (take n xs ++ ys) ≡ take n xs
 take_front zero xs ys e = refl
@@ -104,3 +109,48 @@ gains c p was known parts key by size is told now long = record {
   present = λ k. gain_there c key k (p key);
   sizes = λ k. gain_size c key k (p key) ∙ ap (λ (n : ℕ). if bytes_eq key k then Some n else size_in c k) (sym long);
 }
+
+-- ---- the verdict
+
+-- a part that was judged right matches its key
+pub sees_right : (known : Option Parts) (t : Taken) (sum : Sum) (key : List ℕ) (right : Bool) (v : Verdict) → t.sum ≡ Some sum → key ≡ t.fill
+    → ((bytes : List ℕ) → sum ≡ sum_of key bytes → ((v ≡ Right) ↔ MatchesKey key bytes)) → v ≡ Right → SeesTaken known t right → (right ≡ true) × (sum.size ≡ t.size) × Tells known (λ p. sum.size ≡ length (p key))
+sees_right None t sum key right v has same judged is sees = absurd sees
+sees_right (Some p) t sum key right v has same judged is sees =
+    let told : sum ≡ sum_of key (p key) = summed t.sum has t.fill (sym same) sees.0.1 in
+    let matches : MatchesKey t.fill (p t.fill) = subst (λ (k : List ℕ). MatchesKey k (p k)) same ((judged (p key) told).0 is) in
+    let size : sum.size ≡ length (p key) = ap (λ (s : Sum). s.size) told in
+    (sees.1.1 matches, size ∙ ap (λ (k : List ℕ). length (p k)) same ∙ sym sees.0.0, size)
+  where
+    summed : (s : Option Sum) → s ≡ Some sum → (fill : List ℕ) → fill ≡ key → IsSumOf s fill (p fill) → sum ≡ sum_of key (p key)
+    summed None e fill f is = absurd is
+    summed (Some x) e fill f is = subst (λ (k : List ℕ). sum ≡ sum_of k (p k)) f (same_Some _ _ (sym e) ∙ is)
+
+-- and one that wasn't doesn't
+pub sees_wrong : (known : Option Parts) (t : Taken) (sum : Sum) (key : List ℕ) (right : Bool) (v : Verdict) → t.sum ≡ Some sum → key ≡ t.fill
+    → ((bytes : List ℕ) → sum ≡ sum_of key bytes → ((v ≡ Right) ↔ MatchesKey key bytes)) → (v ≡ Right → ⊥) → SeesTaken known t right → right ≡ false
+sees_wrong None t sum key right v has same judged other sees = absurd sees
+sees_wrong (Some p) t sum key right v has same judged other sees = false_from_ne_true right
+    (λ yes. other ((judged (p key) (summed t.sum has t.fill (sym same) sees.0.1)).1 (subst (λ (k : List ℕ). MatchesKey k (p k)) (sym same) (sees.1.0 yes))))
+  where
+    summed : (s : Option Sum) → s ≡ Some sum → (fill : List ℕ) → fill ≡ key → IsSumOf s fill (p fill) → sum ≡ sum_of key (p key)
+    summed None e fill f is = absurd is
+    summed (Some x) e fill f is = subst (λ (k : List ℕ). sum ≡ sum_of k (p k)) f (same_Some _ _ (sym e) ∙ is)
+
+-- one without a sum isn't seen
+pub sees_none : (known : Option Parts) (t : Taken) (right : Bool) → t.sum ≡ None → SeesTaken known t right → ⊥
+sees_none None t right none sees = sees
+sees_none (Some p) t right none sees = subst (λ (s : Option Sum). IsSumOf s t.fill (p t.fill)) none sees.0.1
+
+pub judged_so : (x : Scene) (rows : Rows) (c : Contents) (known : Option Contents) (part : ℕ) (right b : Bool) (key fill : List ℕ) (n size : ℕ) (step : Step) → right ≡ b → key ≡ fill → n ≡ size
+    → Does x rows c known part b (λ h. on_valid h key n) step → Does x rows c known part right (λ h. on_valid h fill size) step
+judged_so x rows c known part right b key fill n size step r k e d =
+    subst (λ (a : Bool). Does x rows c known part a (λ h. on_valid h fill size) step) (sym r)
+    (subst (λ (f : List ℕ). Does x rows c known part b (λ h. on_valid h f size) step) k
+      (subst (λ (m : ℕ). Does x rows c known part b (λ h. on_valid h key m) step) e d))
+
+pub wrong_size : (v : Verdict) (want got : ℕ) → v ≡ WrongSize want got → v ≡ Right → ⊥
+wrong_size v want got is e = cc
+
+pub wrong_digest : (v : Verdict) (want got : List ℕ) → v ≡ WrongDigest want got → v ≡ Right → ⊥
+wrong_digest v want got is e = cc

@@ -1,5 +1,5 @@
 -- What a session is, what it hears, and what it goes on to be (the project's own).
-use Rattle.std.specs.Prelude.{◌≡◌, ◌↔◌, ℕ, ◌-◌, Bool, true, false, if◌then◌else◌, List, [], ◌++◌, length, Option, Some, None}
+use Rattle.std.specs.Prelude.{◌≡◌, ◌↔◌, ℕ, ◌-◌, Bool, true, false, not, ◌&&◌, if◌then◌else◌, List, [], ◌++◌, length, Option, Some, None}
 use Rattle.std.specs.Option.{option_map}
 use Rattle.run_data.specs.declared.entry.EntryKind.{EntryKind}
 use Rattle.run_data.specs.declared.entry.EntryKind.TheVariants.{Fault, Talk}
@@ -56,6 +56,15 @@ share_in _ = None
 abbrev pub share_of : Session → Option ShareView
 share_of s = share_in s.doing
 
+-- the number and the key of a hold that is guarded
+abbrev pub label_in : Option ShareView → Option (ℕ × List ℕ)
+label_in None = None
+label_in (Some s) = Some (s.number, s.key)
+
+abbrev pub guarded_in : sessions.Doing → Option (ℕ × List ℕ)
+guarded_in (sessions.Guards hold key) = Some (hold, key)
+guarded_in _ = None
+
 -- ---- what is heard
 
 abbrev pub heard_line : Option Message → Incoming → Type 0
@@ -100,6 +109,15 @@ next_session size step was i = session_left step.close (took_heard size step.kin
 -- the keys that are filled after one session's step: those that it fills, and those that others fill
 abbrev pub fills_after : sessions.Doing → sessions.Doing → (List ℕ → Bool) → List ℕ → Bool
 fills_after was now filled key = if sessions.is_filling key now then true else (if sessions.is_filling key was then false else filled key)
+
+-- the session fills the key from now on
+abbrev pub fills_new : sessions.Doing → sessions.Doing → List ℕ → Bool
+fills_new was now key = sessions.is_filling key now && not (sessions.is_filling key was)
+
+-- the keys that are filled, after one session's step: each that it fills anew was free
+pub record FillsSo (was now : sessions.Doing) (filled filled' : List ℕ → Bool) : Type 0 where
+  pub after : (key : List ℕ) → filled' key ≡ fills_after was now filled key
+  pub free : (key : List ℕ) → (fills_new was now key && filled key) ≡ false
 
 -- the table gave the fill that the session has
 abbrev pub HasFill : Rows → Doing → Type 0

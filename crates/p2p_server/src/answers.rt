@@ -12,6 +12,7 @@ ghost use Rattle.content_lock.specs.Rows.{AreAfter};
 ghost use Rattle.content_lock.specs.Stored.{Agrees};
 ghost use Rattle.content_lock.specs.Tokens.{Owns, ShareView};
 ghost use Rattle.p2p_server.specs.Answers.{Does, failed_in, owner_of};
+ghost use Rattle.p2p_server.specs.Bounds.{Fits};
 ghost use Rattle.p2p_server.specs.Talking.{IsPlain};
 
 use crate::place::Scene;
@@ -60,6 +61,7 @@ pub(crate) fn check_present<K: Keeper>(
     ensures does { ForSome (K.contents keeper.old) (λ c. (part : ℕ) (right : Bool) → Does scene table.now c (K.contents keeper.new) part right (λ h. tries h (calls.Has ∷ []) refuses (check_answer key (is_here h key) (bar_on h key))) result) }
     ensures plain { IsPlain result }
     ensures after { AreAfter result.kind table.now table.now }
+    ensures fits { Fits scene.number result }
     ensures parts { K.parts keeper.new ≡ K.parts keeper.old }
     ensures records { K.records keeper.new ≡ K.records keeper.old }
     ensures later { K.faults keeper.old ≤ K.faults keeper.new }
@@ -81,6 +83,7 @@ pub(crate) fn remove<K: Keeper>(scene: Scene, table: &LockTable, keeper: &mut K,
     ensures does { ForSome (K.contents keeper.old) (λ c. (part : ℕ) (right : Bool) → Does scene table.now c (K.contents keeper.new) part right (λ h. on_remove h key) result) }
     ensures plain { IsPlain result }
     ensures after { AreAfter result.kind table.now table.now }
+    ensures fits { Fits scene.number result }
     ensures parts { K.parts keeper.new ≡ K.parts keeper.old }
     ensures records { K.records keeper.new ≡ K.records keeper.old }
     ensures later { K.faults keeper.old ≤ K.faults keeper.new }
@@ -112,6 +115,7 @@ pub(crate) fn remove_before<K: Keeper>(
     ensures does { ForSome (K.contents keeper.old) (λ c. (part : ℕ) (right : Bool) → Does scene table.now c (K.contents keeper.new) part right (λ h. on_remove_before h before key) result) }
     ensures plain { IsPlain result }
     ensures after { AreAfter result.kind table.now table.now }
+    ensures fits { Fits scene.number result }
     ensures parts { K.parts keeper.new ≡ K.parts keeper.old }
     ensures records { K.records keeper.new ≡ K.records keeper.old }
     ensures later { K.faults keeper.old ≤ K.faults keeper.new }
@@ -137,6 +141,7 @@ pub(crate) fn lock<K: Keeper>(
     requires free { Owns (owner_of scene) None table.old.holds }
     ensures does { IfOk result (λ r. ForSome (K.contents keeper.old) (λ c. (part : ℕ) (right : Bool) → Does scene table.old c (K.contents keeper.new) part right (λ h. on_lock h key) r.0)) }
     ensures after { IfOk result (λ r. AreAfter r.0.kind table.old table.new) }
+    ensures fits { IfOk result (λ r. Fits scene.number r.0) }
     ensures shared { IfOk result (λ r. IfSome r.1 (λ s. guards r.0.kind ≡ guards (EntryKind.Share s.number 0 (owner_of scene) s.key))) }
     ensures refused { IfOk result (λ r. IfNone r.1 (guards r.0.kind ≡ Waits)) }
     ensures owns { IfOk result (λ r. Owns (owner_of scene) r.1 table.new.holds) }

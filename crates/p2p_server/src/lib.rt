@@ -4,6 +4,7 @@
 mod answers;
 mod doing;
 mod incoming;
+mod laws;
 mod more;
 mod place;
 mod session;
@@ -11,6 +12,7 @@ mod step;
 mod transfer;
 
 pub use incoming::Incoming;
+pub use laws::{others_leave_it, replies_are_short_lines};
 pub use more::More;
 pub use place::Place;
 pub use session::Session;

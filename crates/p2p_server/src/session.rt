@@ -23,10 +23,11 @@ ghost use Rattle.content_lock.specs.Rows.{Rows, is_filling};
 ghost use Rattle.content_lock.specs.Stored.{Agrees};
 ghost use Rattle.content_lock.specs.Tokens.{Owns, ShareView, given_in};
 ghost use Rattle.p2p_server.specs.Answers.{Does, failed_in, owner_at, reply_of, size_in};
+ghost use Rattle.p2p_server.specs.Bounds.{Fits, FitsMore, IsReplyIf};
 ghost use Rattle.p2p_server.specs.Giving.{IsPieceOf, failed_more, reply_more, session_sent};
 ghost use Rattle.p2p_server.specs.Phases.{HasLeft, HasRoom, IsBare, IsGave, IsGuarding, IsLonger, IsMoving, IsTook, IsWanting, WithinOf};
 ghost use Rattle.p2p_server.specs.States.{IsScene, Keeps, Stand, stand_after, stand_of};
-ghost use Rattle.p2p_server.specs.Talking.{AreAfterStep, Brings, HasFill, HasFillOf, IsFed, IsFedOf, SaysSo, SeesPart, SeesPartOf, SeesSize, Tells, doing_of, fills_after, next_session, on_heard, parts_after, parts_after_of, place_of, session_of, share_in, share_of};
+ghost use Rattle.p2p_server.specs.Talking.{AreAfterStep, Brings, FillsSo, HasFill, HasFillOf, IsFed, IsFedOf, SaysSo, SeesPart, SeesPartOf, SeesSize, Tells, doing_of, guarded_in, label_in, next_session, on_heard, parts_after, parts_after_of, place_of, session_of, share_in, share_of};
 
 use crate::doing::{Doing, Giving, Taken, Taking, Wanting};
 use crate::incoming::Incoming;
@@ -56,6 +57,9 @@ impl Session {
     pub fn new(place: Place) -> Session
         ensures session { session_of result ≡ new_session }
         ensures place { place_of result ≡ place }
+        ensures share { share_of result ≡ None }
+        ensures fills { (rows : Rows) → HasFillOf rows result }
+        ensures fed { (p : Parts) → IsFedOf p result }
     {
         Session {
             place,
@@ -70,7 +74,7 @@ impl Session {
         requires fills { HasFill table.old self.old.doing }
         ensures session { self.new ≡ record { place = self.old.place; spoken = self.old.spoken; doing = Doing.Waits } }
         ensures after { AreAfterStep (EntryKind.Close self.old.place.peer self.old.place.slot false) table.old table.new }
-        ensures filled { (k : List ℕ) → is_filling table.new k ≡ fills_after (doing_of self.old.doing) sessions.Waits (is_filling table.old) k }
+        ensures filled { FillsSo (doing_of self.old.doing) sessions.Waits (is_filling table.old) (is_filling table.new) }
         ensures owns { Owns (owner_at self.old.place) None table.new.holds }
         ensures others { (by : By) (share : Option ShareView) → same_owner (owner_at self.old.place) by ≡ false → Owns by share table.old.holds → Owns by share table.new.holds }
         ensures agrees { (known : Option (List HoldRecord)) → Agrees known table.old.holds → Agrees known table.new.holds }
@@ -85,7 +89,7 @@ impl Session {
         requires fills { HasFill table.old self.old.doing }
         ensures session { self.new ≡ record { place = self.old.place; spoken = 0; doing = Doing.Waits } }
         ensures after { AreAfterStep (EntryKind.Close self.old.place.peer self.old.place.slot false) table.old table.new }
-        ensures filled { (k : List ℕ) → is_filling table.new k ≡ fills_after (doing_of self.old.doing) sessions.Waits (is_filling table.old) k }
+        ensures filled { FillsSo (doing_of self.old.doing) sessions.Waits (is_filling table.old) (is_filling table.new) }
         ensures owns { Owns (owner_at self.old.place) None table.new.holds }
         ensures others { (by : By) (share : Option ShareView) → same_owner (owner_at self.old.place) by ≡ false → Owns by share table.old.holds → Owns by share table.new.holds }
         ensures agrees { (known : Option (List HoldRecord)) → Agrees known table.old.holds → Agrees known table.new.holds }
@@ -101,7 +105,8 @@ impl Session {
         ensures says { IfOk result (λ step. step ≡ record { kind = EntryKind.Close self.old.place.peer self.old.place.slot false; reply = Some (Message.Error (codes "unexpected")); close = true }) }
         ensures session { OnOk result (self.new ≡ record { place = self.old.place; spoken = 0; doing = Doing.Waits }) }
         ensures after { IfOk result (λ step. AreAfterStep step.kind table.old table.new) }
-        ensures filled { OnOk result ((k : List ℕ) → is_filling table.new k ≡ fills_after (doing_of self.old.doing) (doing_of self.new.doing) (is_filling table.old) k) }
+        ensures fits { IfOk result (λ step. (n : ℕ) → Fits n step) }
+        ensures filled { OnOk result (FillsSo (doing_of self.old.doing) (doing_of self.new.doing) (is_filling table.old) (is_filling table.new)) }
         ensures owns { Owns (owner_at self.new.place) (share_in self.new.doing) table.new.holds }
         ensures fills { HasFill table.new self.new.doing }
         ensures others { (by : By) (share : Option ShareView) → same_owner (owner_at self.old.place) by ≡ false → Owns by share table.old.holds → Owns by share table.new.holds }
@@ -120,7 +125,8 @@ impl Session {
         ensures says { result ≡ record { kind = EntryKind.Close self.old.place.peer self.old.place.slot false; reply = None; close = true } }
         ensures session { self.new ≡ record { place = self.old.place; spoken = 0; doing = Doing.Waits } }
         ensures after { AreAfterStep result.kind table.old table.new }
-        ensures filled { (k : List ℕ) → is_filling table.new k ≡ fills_after (doing_of self.old.doing) (doing_of self.new.doing) (is_filling table.old) k }
+        ensures fits { (n : ℕ) → Fits n result }
+        ensures filled { FillsSo (doing_of self.old.doing) (doing_of self.new.doing) (is_filling table.old) (is_filling table.new) }
         ensures owns { Owns (owner_at self.new.place) (share_in self.new.doing) table.new.holds }
         ensures fills { HasFill table.new self.new.doing }
         ensures others { (by : By) (share : Option ShareView) → same_owner (owner_at self.old.place) by ≡ false → Owns by share table.old.holds → Owns by share table.new.holds }
@@ -134,6 +140,7 @@ impl Session {
     fn agree(&mut self, n: u64) -> Step
         ensures says { result ≡ record { kind = EntryKind.Talk None; reply = Some (Message.Version (min n self.old.place.version)); close = false } }
         ensures session { self.new ≡ record { place = self.old.place; spoken = min n self.old.place.version; doing = self.old.doing } }
+        ensures fits { (number : ℕ) → Fits number result }
     {
         self.spoken = n.min(self.place.version as u64);
         Step::says(EntryKind::Talk { job: None }, Message::Version(self.spoken))
@@ -156,7 +163,8 @@ impl Session {
         requires waits { self.old.doing ≡ Doing.Waits }
         ensures does { IfOk result (λ step. ForSome (K.contents keeper.old) (λ c. (part : ℕ) (right : Bool) → SeesPart (K.parts keeper.old) self.old.doing (Incoming.Message (Message.LockContent key.now)) part right → Does scene table.old c (K.contents keeper.new) part right (λ h. on_message h self.old.spoken (doing_of self.old.doing) (Message.LockContent key.now)) step)) }
         ensures after { IfOk result (λ step. AreAfterStep step.kind table.old table.new) }
-        ensures filled { OnOk result ((k : List ℕ) → is_filling table.new k ≡ fills_after (doing_of self.old.doing) (doing_of self.new.doing) (is_filling table.old) k) }
+        ensures fits { IfOk result (Fits scene.number) }
+        ensures filled { OnOk result (FillsSo (doing_of self.old.doing) (doing_of self.new.doing) (is_filling table.old) (is_filling table.new)) }
         ensures next { IfOk result (λ step. (size : List ℕ → Option ℕ) → SeesSize (K.contents keeper.old) (Incoming.Message (Message.LockContent key.now)) size → session_of self.new ≡ next_session size step (session_of self.old) (Incoming.Message (Message.LockContent key.now))) }
         ensures place { self.new.place ≡ self.old.place }
         ensures owns { Owns (owner_at self.new.place) (share_in self.new.doing) table.new.holds }
@@ -197,7 +205,8 @@ impl Session {
         requires waits { self.old.doing ≡ Doing.Waits }
         ensures does { IfOk result (λ step. ForSome (K.contents keeper.old) (λ c. (part : ℕ) (right : Bool) → Does scene table.now c (K.contents keeper.new) part right (λ h. tries h (calls.Size ∷ []) (Closing ∷ []) (reply (EntryKind.Talk None) (Message.Data (bytes_left (content_of h key.now) start)))) step)) }
         ensures after { IfOk result (λ step. AreAfterStep step.kind table.now table.now) }
-        ensures filled { OnOk result ((k : List ℕ) → is_filling table.now k ≡ fills_after (doing_of self.old.doing) (doing_of self.new.doing) (is_filling table.now) k) }
+        ensures fits { IfOk result (Fits scene.number) }
+        ensures filled { OnOk result (FillsSo (doing_of self.old.doing) (doing_of self.new.doing) (is_filling table.now) (is_filling table.now)) }
         ensures next { IfOk result (λ step. (size : List ℕ → Option ℕ) → Tells (K.contents keeper.old) (λ c. size key.now ≡ size_in c key.now) → session_of self.new ≡ session_left step.close (record { version = version_told self.old.spoken step.reply; doing = gives key.now start (reaches (size key.now) start) step.reply })) }
         ensures place { self.new.place ≡ self.old.place }
         ensures owns { Owns (owner_at self.new.place) (share_in self.new.doing) table.now.holds }
@@ -212,12 +221,13 @@ impl Session {
         ensures later { K.faults keeper.old ≤ K.faults keeper.new }
         ensures cause { IfOk result (λ step. IfSome (failed_in step.kind) (λ call. Rose (K.faults keeper.old) (K.faults keeper.new))) }
     {
-        match transfer::get(scene, keeper, start, key)? {
-            (step, Some(giving)) => {
+        let (step, giving) = transfer::get(scene, keeper, start, key)?;
+        match giving {
+            Some(giving) => {
                 begin(&mut self.doing, Doing::Gives(giving));
                 Ok(step)
             }
-            (step, None) => {
+            None => {
                 self.spoken = 0;
                 Ok(step)
             }
@@ -240,7 +250,8 @@ impl Session {
         requires waits { self.old.doing ≡ Doing.Waits }
         ensures does { IfOk result (λ step. ForSome (K.contents keeper.old) (λ c. (part : ℕ) (right : Bool) → Tells (K.parts keeper.old) (λ p. part ≡ length (p key.now)) → Does scene table.old c (K.contents keeper.new) part right (λ h. on_put h key.now) step)) }
         ensures after { IfOk result (λ step. AreAfterStep step.kind table.old table.new) }
-        ensures filled { OnOk result ((k : List ℕ) → is_filling table.new k ≡ fills_after (doing_of self.old.doing) (doing_of self.new.doing) (is_filling table.old) k) }
+        ensures fits { IfOk result (Fits scene.number) }
+        ensures filled { OnOk result (FillsSo (doing_of self.old.doing) (doing_of self.new.doing) (is_filling table.old) (is_filling table.new)) }
         ensures next { IfOk result (λ step. (size : List ℕ → Option ℕ) → session_of self.new ≡ session_left step.close (record { version = version_told self.old.spoken step.reply; doing = wants key.now step.reply })) }
         ensures place { self.new.place ≡ self.old.place }
         ensures owns { Owns (owner_at self.new.place) (share_in self.new.doing) table.new.holds }
@@ -255,12 +266,13 @@ impl Session {
         ensures later { K.faults keeper.old ≤ K.faults keeper.new }
         ensures cause { IfOk result (λ step. IfSome (failed_in step.kind) (λ call. Rose (K.faults keeper.old) (K.faults keeper.new))) }
     {
-        match transfer::put(scene, alloc, table, keeper, key)? {
-            (step, Some(wanting)) => {
+        let (step, wanting) = transfer::put(scene, alloc, table, keeper, key)?;
+        match wanting {
+            Some(wanting) => {
                 begin(&mut self.doing, Doing::Wants(wanting));
                 Ok(step)
             }
-            (step, None) => Ok(step),
+            None => Ok(step),
         }
     }
 
@@ -282,7 +294,8 @@ impl Session {
         requires waits { self.old.doing ≡ Doing.Waits }
         ensures does { IfOk result (λ step. ForSome (K.contents keeper.old) (λ c. (part : ℕ) (right : Bool) → SeesPart (K.parts keeper.old) self.old.doing (Incoming.Message message.now) part right → Does scene table.old c (K.contents keeper.new) part right (λ h. on_message h self.old.spoken (doing_of self.old.doing) (message.now)) step)) }
         ensures after { IfOk result (λ step. AreAfterStep step.kind table.old table.new) }
-        ensures filled { OnOk result ((k : List ℕ) → is_filling table.new k ≡ fills_after (doing_of self.old.doing) (doing_of self.new.doing) (is_filling table.old) k) }
+        ensures fits { IfOk result (Fits scene.number) }
+        ensures filled { OnOk result (FillsSo (doing_of self.old.doing) (doing_of self.new.doing) (is_filling table.old) (is_filling table.new)) }
         ensures next { IfOk result (λ step. (size : List ℕ → Option ℕ) → SeesSize (K.contents keeper.old) (Incoming.Message message.now) size → session_of self.new ≡ next_session size step (session_of self.old) (Incoming.Message message.now)) }
         ensures place { self.new.place ≡ self.old.place }
         ensures owns { Owns (owner_at self.new.place) (share_in self.new.doing) table.new.holds }
@@ -363,7 +376,8 @@ impl Session {
         requires guards { IsGuarding self.old.doing }
         ensures does { IfOk result (λ step. ForSome (K.contents keeper.old) (λ c. (part : ℕ) (right : Bool) → SeesPart (K.parts keeper.old) self.old.doing (Incoming.Message message.now) part right → Does scene table.old c (K.contents keeper.new) part right (λ h. on_message h self.old.spoken (doing_of self.old.doing) (message.now)) step)) }
         ensures after { IfOk result (λ step. AreAfterStep step.kind table.old table.new) }
-        ensures filled { OnOk result ((k : List ℕ) → is_filling table.new k ≡ fills_after (doing_of self.old.doing) (doing_of self.new.doing) (is_filling table.old) k) }
+        ensures fits { IfOk result (Fits scene.number) }
+        ensures filled { OnOk result (FillsSo (doing_of self.old.doing) (doing_of self.new.doing) (is_filling table.old) (is_filling table.new)) }
         ensures next { IfOk result (λ step. (size : List ℕ → Option ℕ) → SeesSize (K.contents keeper.old) (Incoming.Message message.now) size → session_of self.new ≡ next_session size step (session_of self.old) (Incoming.Message message.now)) }
         ensures place { self.new.place ≡ self.old.place }
         ensures owns { Owns (owner_at self.new.place) (share_in self.new.doing) table.new.holds }
@@ -403,7 +417,8 @@ impl Session {
         requires guards { IsGuarding self.old.doing }
         ensures does { IfOk result (λ step. ForSome (K.contents keeper.old) (λ c. (part : ℕ) (right : Bool) → SeesPart (K.parts keeper.old) self.old.doing (Incoming.Message (Message.UnlockContent key.now)) part right → Does scene table.old c (K.contents keeper.new) part right (λ h. on_message h self.old.spoken (doing_of self.old.doing) (Message.UnlockContent key.now)) step)) }
         ensures after { IfOk result (λ step. AreAfterStep step.kind table.old table.new) }
-        ensures filled { OnOk result ((k : List ℕ) → is_filling table.new k ≡ fills_after (doing_of self.old.doing) (doing_of self.new.doing) (is_filling table.old) k) }
+        ensures fits { IfOk result (Fits scene.number) }
+        ensures filled { OnOk result (FillsSo (doing_of self.old.doing) (doing_of self.new.doing) (is_filling table.old) (is_filling table.new)) }
         ensures next { IfOk result (λ step. (size : List ℕ → Option ℕ) → SeesSize (K.contents keeper.old) (Incoming.Message (Message.UnlockContent key.now)) size → session_of self.new ≡ next_session size step (session_of self.old) (Incoming.Message (Message.UnlockContent key.now))) }
         ensures place { self.new.place ≡ self.old.place }
         ensures owns { Owns (owner_at self.new.place) (share_in self.new.doing) table.new.holds }
@@ -459,7 +474,8 @@ impl Session {
         requires phase { IsMoving self.old.doing }
         ensures does { IfOk result (λ step. (c : Contents) (known : Option Contents) (part : ℕ) (right : Bool) → known ≡ Some c → Does scene table.old c known part right (λ h. on_message h self.old.spoken (doing_of self.old.doing) message.now) step) }
         ensures after { IfOk result (λ step. AreAfterStep step.kind table.old table.new) }
-        ensures filled { OnOk result ((k : List ℕ) → is_filling table.new k ≡ fills_after (doing_of self.old.doing) (doing_of self.new.doing) (is_filling table.old) k) }
+        ensures fits { IfOk result (Fits scene.number) }
+        ensures filled { OnOk result (FillsSo (doing_of self.old.doing) (doing_of self.new.doing) (is_filling table.old) (is_filling table.new)) }
         ensures next { IfOk result (λ step. (size : List ℕ → Option ℕ) → session_of self.new ≡ next_session size step (session_of self.old) (Incoming.Message message.now)) }
         ensures place { self.new.place ≡ self.old.place }
         ensures owns { Owns (owner_at self.new.place) (share_in self.new.doing) table.new.holds }
@@ -490,7 +506,8 @@ impl Session {
         requires phase { IsGave self.old.doing }
         ensures does { IfOk result (λ step. (c : Contents) (known : Option Contents) (part : ℕ) (right : Bool) → known ≡ Some c → Does scene table.old c known part right (λ h. on_message h self.old.spoken (doing_of self.old.doing) message.now) step) }
         ensures after { IfOk result (λ step. AreAfterStep step.kind table.old table.new) }
-        ensures filled { OnOk result ((k : List ℕ) → is_filling table.new k ≡ fills_after (doing_of self.old.doing) (doing_of self.new.doing) (is_filling table.old) k) }
+        ensures fits { IfOk result (Fits scene.number) }
+        ensures filled { OnOk result (FillsSo (doing_of self.old.doing) (doing_of self.new.doing) (is_filling table.old) (is_filling table.new)) }
         ensures next { IfOk result (λ step. (size : List ℕ → Option ℕ) → session_of self.new ≡ next_session size step (session_of self.old) (Incoming.Message message.now)) }
         ensures place { self.new.place ≡ self.old.place }
         ensures owns { Owns (owner_at self.new.place) (share_in self.new.doing) table.new.holds }
@@ -525,7 +542,8 @@ impl Session {
         requires phase { IsWanting self.old.doing }
         ensures does { IfOk result (λ step. (c : Contents) (known : Option Contents) (part : ℕ) (right : Bool) → known ≡ Some c → Does scene table.old c known part right (λ h. on_message h self.old.spoken (doing_of self.old.doing) message.now) step) }
         ensures after { IfOk result (λ step. AreAfterStep step.kind table.old table.new) }
-        ensures filled { OnOk result ((k : List ℕ) → is_filling table.new k ≡ fills_after (doing_of self.old.doing) (doing_of self.new.doing) (is_filling table.old) k) }
+        ensures fits { IfOk result (Fits scene.number) }
+        ensures filled { OnOk result (FillsSo (doing_of self.old.doing) (doing_of self.new.doing) (is_filling table.old) (is_filling table.new)) }
         ensures next { IfOk result (λ step. (size : List ℕ → Option ℕ) → session_of self.new ≡ next_session size step (session_of self.old) (Incoming.Message message.now)) }
         ensures place { self.new.place ≡ self.old.place }
         ensures owns { Owns (owner_at self.new.place) (share_in self.new.doing) table.new.holds }
@@ -561,7 +579,8 @@ impl Session {
         requires here { scene.place ≡ self.old.place }
         ensures does { IfOk result (λ step. ForSome (K.contents keeper.old) (λ c. (part : ℕ) (right : Bool) → Does scene table.old c (K.contents keeper.new) part right (λ h. on_bytes h (length bytes.now.items) (doing_of self.old.doing)) step)) }
         ensures after { IfOk result (λ step. AreAfterStep step.kind table.old table.new) }
-        ensures filled { OnOk result ((k : List ℕ) → is_filling table.new k ≡ fills_after (doing_of self.old.doing) (doing_of self.new.doing) (is_filling table.old) k) }
+        ensures fits { IfOk result (Fits scene.number) }
+        ensures filled { OnOk result (FillsSo (doing_of self.old.doing) (doing_of self.new.doing) (is_filling table.old) (is_filling table.new)) }
         ensures next { IfOk result (λ step. (size : List ℕ → Option ℕ) → session_of self.new ≡ next_session size step (session_of self.old) (Incoming.Bytes bytes.now)) }
         ensures place { self.new.place ≡ self.old.place }
         ensures owns { Owns (owner_at self.new.place) (share_in self.new.doing) table.new.holds }
@@ -612,7 +631,8 @@ impl Session {
         requires phase { IsTook self.old.doing }
         ensures does { IfOk result (λ step. ForSome (K.contents keeper.old) (λ c. (part : ℕ) (right : Bool) → SeesPart (K.parts keeper.old) self.old.doing (Incoming.Message message.now) part right → Does scene table.old c (K.contents keeper.new) part right (λ h. on_message h self.old.spoken (doing_of self.old.doing) message.now) step)) }
         ensures after { IfOk result (λ step. AreAfterStep step.kind table.old table.new) }
-        ensures filled { OnOk result ((k : List ℕ) → is_filling table.new k ≡ fills_after (doing_of self.old.doing) (doing_of self.new.doing) (is_filling table.old) k) }
+        ensures fits { IfOk result (Fits scene.number) }
+        ensures filled { OnOk result (FillsSo (doing_of self.old.doing) (doing_of self.new.doing) (is_filling table.old) (is_filling table.new)) }
         ensures next { IfOk result (λ step. (size : List ℕ → Option ℕ) → session_of self.new ≡ next_session size step (session_of self.old) (Incoming.Message message.now)) }
         ensures place { self.new.place ≡ self.old.place }
         ensures owns { Owns (owner_at self.new.place) (share_in self.new.doing) table.new.holds }
@@ -654,7 +674,8 @@ impl Session {
         requires phase { IsTook self.old.doing }
         ensures does { IfOk result (λ step. ForSome (K.contents keeper.old) (λ c. (part : ℕ) (right : Bool) → SeesPart (K.parts keeper.old) self.old.doing (Incoming.Message Message.Valid) part right → Does scene table.old c (K.contents keeper.new) part right (λ h. on_message h self.old.spoken (doing_of self.old.doing) Message.Valid) step)) }
         ensures after { IfOk result (λ step. AreAfterStep step.kind table.old table.new) }
-        ensures filled { OnOk result ((k : List ℕ) → is_filling table.new k ≡ fills_after (doing_of self.old.doing) (doing_of self.new.doing) (is_filling table.old) k) }
+        ensures fits { IfOk result (Fits scene.number) }
+        ensures filled { OnOk result (FillsSo (doing_of self.old.doing) (doing_of self.new.doing) (is_filling table.old) (is_filling table.new)) }
         ensures next { IfOk result (λ step. (size : List ℕ → Option ℕ) → session_of self.new ≡ next_session size step (session_of self.old) (Incoming.Message Message.Valid)) }
         ensures place { self.new.place ≡ self.old.place }
         ensures owns { Owns (owner_at self.new.place) (share_in self.new.doing) table.new.holds }
@@ -695,7 +716,8 @@ impl Session {
         requires here { scene.place ≡ self.old.place }
         ensures does { IfOk result (λ step. ForSome (K.contents keeper.old) (λ c. (part : ℕ) (right : Bool) → SeesPart (K.parts keeper.old) self.old.doing (incoming.now) part right → Does scene table.old c (K.contents keeper.new) part right (λ h. on_heard h (session_of self.old) incoming.now) step)) }
         ensures after { IfOk result (λ step. AreAfterStep step.kind table.old table.new) }
-        ensures filled { OnOk result ((k : List ℕ) → is_filling table.new k ≡ fills_after (doing_of self.old.doing) (doing_of self.new.doing) (is_filling table.old) k) }
+        ensures fits { IfOk result (Fits scene.number) }
+        ensures filled { OnOk result (FillsSo (doing_of self.old.doing) (doing_of self.new.doing) (is_filling table.old) (is_filling table.new)) }
         ensures next { IfOk result (λ step. (size : List ℕ → Option ℕ) → SeesSize (K.contents keeper.old) (incoming.now) size → session_of self.new ≡ next_session size step (session_of self.old) (incoming.now)) }
         ensures place { self.new.place ≡ self.old.place }
         ensures owns { Owns (owner_at self.new.place) (share_in self.new.doing) table.new.holds }
@@ -723,7 +745,8 @@ impl Session {
             Incoming::Message(message) => match &self.doing {
                 Doing::Waits => self.request(alloc, table, keeper, message, scene),
                 Doing::Guards { share: _ } => self.guarded(alloc, table, keeper, message, scene),
-                Doing::Gives(_) | Doing::Takes(_) => self.unasked(alloc, table, message, scene),
+                Doing::Gives(_) => self.unasked(alloc, table, message, scene),
+                Doing::Takes(_) => self.unasked(alloc, table, message, scene),
                 Doing::Gave => self.judged(alloc, table, message, scene),
                 Doing::Wants(_) => self.announced(alloc, table, message, scene),
                 Doing::Took(_) => self.received(alloc, table, keeper, message, scene),
@@ -762,6 +785,12 @@ impl Session {
         ensures rows { IfOk result (λ step. (stand : Stand) (part : ℕ) (right : Bool) → Keeps table.old (K.contents keeper.old) stand
             → SeesPartOf (K.parts keeper.old) self.old incoming.now part right → Keeps table.new (K.contents keeper.new) (stand_after step.kind stand)) }
 
+        // The holds and bars are those that its entry leaves, also where the store doesn't tell its contents. Numbers of holds
+        // stay below that of the next entry; replies are short.
+        ensures after { IfOk result (λ step. AreAfterStep step.kind table.old table.new) }
+        ensures reply { IfOk result (λ step. IsReplyIf step.reply) }
+        ensures numbers { (n : ℕ) → number < n → All (λ h. h.number < n) table.new.holds }
+
         // And it goes on as the definitions' session does, over what is sent of the step.
         ensures next { IfOk result (λ step. (size : List ℕ → Option ℕ) (sent : List FrameView) (f : FrameView)
             → Brings f.body incoming.now → SaysSo step sent → SeesSize (K.contents keeper.old) incoming.now size
@@ -770,8 +799,9 @@ impl Session {
         // The part that it takes grows by what comes, and is spent at the verdict; what it has summed stays the store's part.
         ensures parts { IfOk result (λ step. K.parts keeper.new ≡ parts_after_of self.old incoming.now step.kind (K.parts keeper.old)) }
         ensures fed { OnOk result (ForSome (K.parts keeper.old) (λ p. IsFedOf p self.old → ForSome (K.parts keeper.new) (λ p'. IsFedOf p' self.new))) }
-        ensures filled { OnOk result ((key : List ℕ) → is_filling table.new key ≡ fills_after (session_of self.old).doing (session_of self.new).doing (is_filling table.old) key) }
+        ensures filled { OnOk result (FillsSo (session_of self.old).doing (session_of self.new).doing (is_filling table.old) (is_filling table.new)) }
         ensures place { place_of self.new ≡ place_of self.old }
+        ensures guards { label_in (share_of self.new) ≡ guarded_in (session_of self.new).doing }
         ensures owns { Owns (owner_at (place_of self.new)) (share_of self.new) table.new.holds }
         ensures fills { HasFillOf table.new self.new }
         ensures others { (by : By) (share : Option ShareView) → same_owner (owner_at (place_of self.old)) by ≡ false → Owns by share table.old.holds → Owns by share table.new.holds }
@@ -799,6 +829,7 @@ impl Session {
             → st.sessions a ≡ session_of self.old → k.fails ≡ failed_more more
             → gives_next (here s st k a) (st.sessions a).doing ≡ reply_more (place_of self.old) more) }
         ensures bytes { IfOk result (λ more. ForSome (K.contents keeper.old) (λ c. IsPieceOf c (session_of self.old).doing more)) }
+        ensures short { IfOk result FitsMore }
         ensures next { IfOk result (λ more. session_of self.new ≡ session_sent more (session_of self.old)) }
         ensures place { place_of self.new ≡ place_of self.old }
         ensures share { share_of self.new ≡ share_of self.old }
@@ -844,9 +875,12 @@ impl Session {
         ensures session { session_of self.new ≡ new_session }
         ensures place { place_of self.new ≡ place_of self.old }
         ensures after { AreAfterStep (EntryKind.Close (place_of self.old).peer (place_of self.old).slot false) table.old table.new }
-        ensures filled { (key : List ℕ) → is_filling table.new key ≡ fills_after (session_of self.old).doing sessions.Waits (is_filling table.old) key }
+        ensures numbers { (n : ℕ) → All (λ h. h.number < n) table.old.holds → All (λ h. h.number < n) table.new.holds }
+        ensures filled { FillsSo (session_of self.old).doing sessions.Waits (is_filling table.old) (is_filling table.new) }
+        ensures share { share_of self.new ≡ None }
         ensures owns { Owns (owner_at (place_of self.new)) (share_of self.new) table.new.holds }
         ensures fills { HasFillOf table.new self.new }
+        ensures fed { (p : Parts) → IsFedOf p self.new }
         ensures others { (by : By) (share : Option ShareView) → same_owner (owner_at (place_of self.old)) by ≡ false → Owns by share table.old.holds → Owns by share table.new.holds }
         ensures agrees { (known : Option (List HoldRecord)) → Agrees known table.old.holds → Agrees known table.new.holds }
     {
@@ -858,7 +892,8 @@ impl Session {
         requires owns { Owns (owner_at (place_of self)) (share_of self) table.old.holds }
         requires fills { HasFillOf table.old self }
         ensures after { AreAfterStep (EntryKind.Close (place_of self).peer (place_of self).slot false) table.old table.new }
-        ensures filled { (key : List ℕ) → is_filling table.new key ≡ fills_after (session_of self).doing sessions.Waits (is_filling table.old) key }
+        ensures numbers { (n : ℕ) → All (λ h. h.number < n) table.old.holds → All (λ h. h.number < n) table.new.holds }
+        ensures filled { FillsSo (session_of self).doing sessions.Waits (is_filling table.old) (is_filling table.new) }
         ensures owns { Owns (owner_at (place_of self)) None table.new.holds }
         ensures others { (by : By) (share : Option ShareView) → same_owner (owner_at (place_of self)) by ≡ false → Owns by share table.old.holds → Owns by share table.new.holds }
         ensures agrees { (known : Option (List HoldRecord)) → Agrees known table.old.holds → Agrees known table.new.holds }
@@ -888,7 +923,7 @@ fn spend(doing: Doing, table: &mut LockTable)
     requires given { given_in table.old.holds (share_in doing) ≡ share_in doing }
     requires fills { HasFill table.old doing }
     ensures after { (by : By) → Owns by (share_in doing) table.old.holds → AreAfterStep (EntryKind.Fault Unhold by) table.old table.new }
-    ensures filled { (k : List ℕ) → is_filling table.new k ≡ fills_after (doing_of doing) sessions.Waits (is_filling table.old) k }
+    ensures filled { FillsSo (doing_of doing) sessions.Waits (is_filling table.old) (is_filling table.new) }
     ensures owns { (by : By) → Owns by (share_in doing) table.old.holds → Owns by None table.new.holds }
     ensures others { (by other : By) (share : Option ShareView) → Owns by (share_in doing) table.old.holds → same_owner by other ≡ false → Owns other share table.old.holds → Owns other share table.new.holds }
     ensures agrees { (known : Option (List HoldRecord)) → Agrees known table.old.holds → Agrees known table.new.holds }

@@ -12,8 +12,9 @@ ghost use Rattle.node_model.specs.Sessions.{Gives, Waits, gives, reaches, takes_
 ghost use Rattle.node_model.specs.SessionStep.{Here, bytes_left, content_of, on_put, on_valid, reply, tries};
 ghost use Rattle.content_lock.specs.Rows.{Rows, is_filling};
 ghost use Rattle.p2p_server.specs.Answers.{Changes, Does, failed_in, owner_of, reply_of, size_in};
+ghost use Rattle.p2p_server.specs.Bounds.{Fits};
 ghost use Rattle.p2p_server.specs.Phases.{wanted_in};
-ghost use Rattle.p2p_server.specs.Talking.{AreAfterStep, HasFill, IsFed, IsFedBy, IsPlain, SeesTaken, Tells, doing_of, fills_after, parts_after_valid};
+ghost use Rattle.p2p_server.specs.Talking.{AreAfterStep, FillsSo, HasFill, IsFed, IsFedBy, IsPlain, SeesTaken, Tells, doing_of, parts_after_valid};
 
 use crate::answers::failed;
 use crate::doing::{Doing, Giving, Taken, Taking, Wanting};
@@ -34,9 +35,11 @@ const LIMIT: u128 = 1 << 62;
 
 /// The bytes of a content from a place on.
 fn giving(key: Key, start: u64, size: Option<u64>) -> Giving
+    requires small { IfSome size (λ n. n < 2 ^ 62) }
     ensures key { result.key ≡ key }
     ensures at { result.at ≡ start }
     ensures left { result.end - result.at ≡ bytes_left size start }
+    ensures small { result.end - result.at < 2 ^ 62 }
     ensures good { result.good ≡ reaches size start }
 {
     match size {
@@ -64,6 +67,7 @@ pub(crate) fn get<K: Keeper>(
 ) -> Result<(Step, Option<Giving>), NoMemory>
     ensures does { IfOk result (λ r. ForSome (K.contents keeper.old) (λ c. (rows : Rows) (part : ℕ) (right : Bool) → Does scene rows c (K.contents keeper.new) part right (λ h. tries h (calls.Size ∷ []) (Closing ∷ []) (reply (EntryKind.Talk None) (Message.Data (bytes_left (content_of h key.now) start)))) r.0)) }
     ensures after { IfOk result (λ r. (rows : Rows) → AreAfterStep r.0.kind rows rows) }
+    ensures fits { IfOk result (λ r. Fits scene.number r.0) }
     ensures given { IfOk result (λ r. IfSome r.1 (λ g. (r.0.close ≡ false) × ((size : List ℕ → Option ℕ) → Tells (K.contents keeper.old) (λ c. size key.now ≡ size_in c key.now) → gives key.now start (reaches (size key.now) start) r.0.reply ≡ Gives g.key g.at (g.end - g.at) g.good))) }
     ensures plain { IfOk result (λ r. (v : ℕ) → version_told v r.0.reply ≡ v) }
     ensures lost { IfOk result (λ r. IfNone r.1 (r.0.close ≡ true)) }
@@ -111,8 +115,9 @@ pub(crate) fn put<K: Keeper>(
 ) -> Result<(Step, Option<Wanting>), NoMemory>
     ensures does { IfOk result (λ r. ForSome (K.contents keeper.old) (λ c. (part : ℕ) (right : Bool) → Tells (K.parts keeper.old) (λ p. part ≡ length (p key.now)) → Does scene table.old c (K.contents keeper.new) part right (λ h. on_put h key.now) r.0)) }
     ensures after { IfOk result (λ r. AreAfterStep r.0.kind table.old table.new) }
+    ensures fits { IfOk result (λ r. Fits scene.number r.0) }
     ensures given { IfOk result (λ r. IfSome r.1 (λ w. is_filling table.new w.fill ≡ true)) }
-    ensures filled { IfOk result (λ r. (k : List ℕ) → is_filling table.new k ≡ fills_after Waits (wanted_in r.1) (is_filling table.old) k) }
+    ensures filled { IfOk result (λ r. FillsSo Waits (wanted_in r.1) (is_filling table.old) (is_filling table.new)) }
     ensures next { IfOk result (λ r. wants key.now r.0.reply ≡ wanted_in r.1) }
     ensures plain { IfOk result (λ r. IsPlain r.0) }
     ensures fed { IfOk result (λ r. ForSome (K.parts keeper.old) (λ p. IfSome r.1 (λ w. IsFedBy w.digester w.fill (p w.fill)))) }
@@ -154,9 +159,10 @@ fn ask<K: Keeper>(
     requires free { is_filling table.old key.now ≡ false }
     ensures does { IfOk result (λ r. (h : Here) → Tells (K.parts keeper.old) (λ p. h.part ≡ length (p key.now)) → h.present key.now ≡ false → h.filled key.now ≡ false → h.at ≡ server_end scene.place.peer scene.place.slot → h.fails ≡ failed_in r.0.kind → reply_of r.0 ≡ on_put h key.now) }
     ensures after { IfOk result (λ r. AreAfterStep r.0.kind table.old table.new) }
+    ensures fits { IfOk result (λ r. Fits scene.number r.0) }
     ensures still { IfOk result (λ r. (c : Contents) (known : Option Contents) → known ≡ Some c → Changes known c r.0.kind) }
     ensures given { IfOk result (λ r. IfSome r.1 (λ w. is_filling table.new w.fill ≡ true)) }
-    ensures filled { IfOk result (λ r. (k : List ℕ) → is_filling table.new k ≡ fills_after Waits (wanted_in r.1) (is_filling table.old) k) }
+    ensures filled { IfOk result (λ r. FillsSo Waits (wanted_in r.1) (is_filling table.old) (is_filling table.new)) }
     ensures next { IfOk result (λ r. wants key.now r.0.reply ≡ wanted_in r.1) }
     ensures plain { IfOk result (λ r. IsPlain r.0) }
     ensures fed { IfOk result (λ r. ForSome (K.parts keeper.old) (λ p. IfSome r.1 (λ w. IsFedBy w.digester w.fill (p w.fill)))) }
@@ -292,11 +298,18 @@ fn awaiting(fill: Fill, size: u128, left: u64, digester: Option<Digester>) -> Do
             digester,
         });
     }
-    let sum = match digester {
-        Some(digester) => Some(digester.finish()),
-        None => None,
-    };
-    Doing::Took(Taken { fill, size, sum })
+    match digester {
+        Some(digester) => Doing::Took(Taken {
+            fill,
+            size,
+            sum: Some(digester.finish()),
+        }),
+        None => Doing::Took(Taken {
+            fill,
+            size,
+            sum: None,
+        }),
+    }
 }
 
 impl Wanting {
@@ -345,6 +358,7 @@ pub(crate) fn verify<K: Keeper>(
 ) -> Result<Step, NoMemory>
     ensures does { IfOk result (λ step. ForSome (K.contents keeper.old) (λ c. (rows : Rows) (part : ℕ) (right : Bool) → SeesTaken (K.parts keeper.old) taken.now right → Does scene rows c (K.contents keeper.new) part right (λ h. on_valid h taken.now.fill taken.now.size) step)) }
     ensures after { IfOk result (λ step. (rows : Rows) → AreAfterStep step.kind rows rows) }
+    ensures fits { IfOk result (Fits scene.number) }
     ensures plain { IfOk result IsPlain }
     ensures parts { IfOk result (λ step. K.parts keeper.new ≡ parts_after_valid taken.now.fill step.kind (K.parts keeper.old)) }
     ensures err_contents { OnErr result (K.contents keeper.new ≡ K.contents keeper.old) }
@@ -356,10 +370,9 @@ pub(crate) fn verify<K: Keeper>(
     let key = taken.fill.key().copy()?;
     match &taken.sum {
         Some(sum) => match judge_sum(alloc, &key, sum)? {
-            Verdict::Right => commit(scene, keeper, key, taken.size as u64),
-            Verdict::WrongSize { .. } | Verdict::WrongDigest { .. } => Ok(discard(
-                scene, keeper, &key,
-            )),
+            Verdict::Right => commit(scene, keeper, key, sum.size),
+            Verdict::WrongSize { .. } => Ok(discard(scene, keeper, &key)),
+            Verdict::WrongDigest { .. } => Ok(discard(scene, keeper, &key)),
         },
         None => Ok(discard(scene, keeper, &key)),
     }
@@ -369,6 +382,7 @@ pub(crate) fn verify<K: Keeper>(
 fn commit<K: Keeper>(scene: Scene, keeper: &mut K, key: Key, size: u64) -> Result<Step, NoMemory>
     ensures does { IfOk result (λ step. ForSome (K.contents keeper.old) (λ c. (rows : Rows) (part : ℕ) → Tells (K.parts keeper.old) (λ p. size ≡ length (p key)) → Does scene rows c (K.contents keeper.new) part true (λ h. on_valid h key size) step)) }
     ensures after { IfOk result (λ step. (rows : Rows) → AreAfterStep step.kind rows rows) }
+    ensures fits { IfOk result (Fits scene.number) }
     ensures plain { IfOk result IsPlain }
     ensures parts { IfOk result (λ step. K.parts keeper.new ≡ parts_after_valid key step.kind (K.parts keeper.old)) }
     ensures err_contents { OnErr result (K.contents keeper.new ≡ K.contents keeper.old) }
@@ -395,6 +409,7 @@ fn commit<K: Keeper>(scene: Scene, keeper: &mut K, key: Key, size: u64) -> Resul
 fn discard<K: Keeper>(scene: Scene, keeper: &mut K, key: &Key) -> Step
     ensures does { ForSome (K.contents keeper.old) (λ c. (rows : Rows) (part size : ℕ) → Does scene rows c (K.contents keeper.new) part false (λ h. on_valid h key.now size) result) }
     ensures after { (rows : Rows) → AreAfterStep result.kind rows rows }
+    ensures fits { Fits scene.number result }
     ensures plain { IsPlain result }
     ensures parts { K.parts keeper.new ≡ parts_after_valid key.now result.kind (K.parts keeper.old) }
     ensures contents { K.contents keeper.new ≡ K.contents keeper.old }

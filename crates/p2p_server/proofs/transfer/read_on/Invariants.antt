@@ -1,4 +1,5 @@
-use Rattle.std.proofs.Common.{◌≡◌, ◌≤◌, ◌+◌, ◌-◌, ◌×◌, length, take}
+-- How far the part was read.
+use Rattle.std.proofs.Common.{◌≡◌, ◌≤◌, ◌+◌, ◌-◌, length, take}
 use Rattle.std.specs.Option.{ForSome}
 use Rattle.key_verify.specs.Sums.{HasTaken, bytes_taken}
 use Rattle.p2p_server.proofs.transfer.read_on.Given as goal

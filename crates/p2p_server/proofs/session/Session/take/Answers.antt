@@ -1,8 +1,9 @@
 use Rattle.std.proofs.Common.{Ok, Err, IfOk, OnErr, ◌∙◌}
-use Rattle.std.proofs.lemmas.Result.{IfOk-weaker}
+use Rattle.std.proofs.lemmas.Result.{IfOk-weaker, on_err_weaker}
 use Rattle.annex_base.proofs.Results.{IfOk-both}
 use Rattle.p2p_server.specs.declared.place.Scene.{Scene}
 use Rattle.p2p_server.specs.Talking.{session_of}
+use Rattle.p2p_server.proofs.Numbers.{guards_so, numbers_so}
 use Rattle.p2p_server.proofs.StateFacts.{next_is, stands, step_is}
 use Rattle.p2p_server.proofs.session.Session.take.Goals as goal
 
@@ -24,3 +25,12 @@ returns-clause-rows g c =
 pub returns-clause-next : goal.returns-clause-next
 returns-clause-next g c =
     IfOk-weaker c.hear.result _ _ (λ step is size sent f e so sees. is size sees ∙ next_is size step (session_of c.args.self.now) c.args.incoming.now sent f e so) c.hear.ensures.next
+
+pub returns-clause-reply : goal.returns-clause-reply
+returns-clause-reply g c = IfOk-weaker c.hear.result _ _ (λ step fits. fits.reply) c.hear.ensures.fits
+
+pub returns-clause-numbers : goal.returns-clause-numbers
+returns-clause-numbers g c = λ m more. numbers_so c.hear.result c.args.table.now c.hear.new.table c.args.number m c.requires.fresh c.hear.ensures.after c.hear.ensures.fits (on_err_weaker c.hear.result (λ same. same.1) c.hear.ensures.err) more
+
+pub returns-clause-guards : goal.returns-clause-guards
+returns-clause-guards g c = guards_so c.hear.new.self.doing
