@@ -55,6 +55,7 @@ began fill size filled filled' none on = record {
     or_is : (b c : Bool) → (b || c) ≡ (if b then true else c)
     or_is true c = refl
     or_is false c = refl
+
     free : (k : List ℕ) (b : Bool) → bytes_eq fill k ≡ b → ((b && true) && filled k) ≡ false
     free k true e = subst (λ (x : List ℕ). filled x ≡ false) (bytes_eq-true fill k e) none
     free k false e = refl
@@ -70,6 +71,7 @@ goes_on was now fill filled had has there = record {
     after : (k : List ℕ) (b : Bool) → bytes_eq fill k ≡ b → filled k ≡ (if b then true else (if b then false else filled k))
     after k true e = subst (λ (x : List ℕ). filled x ≡ true) (bytes_eq-true fill k e) there
     after k false e = refl
+
     none : (b c : Bool) → ((b && not b) && c) ≡ false
     none true c = refl
     none false c = refl

@@ -46,9 +46,10 @@ wire Invalid r = (tt, tt, tt)
 wire Success r = (tt, tt, tt)
 wire Failure r = (tt, tt, tt)
 wire (Error text) r = (
-    either text r (λ t. is_utf8 t ≡ true) (utf8_by (codes "unexpected") refl) (utf8_by (codes "busy") refl),
-    either text r (λ t. length t ≤ 8000) (omega arith) (omega arith),
-    either text r IsOneLine (one_line-by_test (codes "unexpected") refl) (one_line-by_test (codes "busy") refl))
+  either text r (λ t. is_utf8 t ≡ true) (utf8_by (codes "unexpected") refl) (utf8_by (codes "busy") refl),
+  either text r (λ t. length t ≤ 8000) (omega arith) (omega arith),
+  either text r IsOneLine (one_line-by_test (codes "unexpected") refl) (one_line-by_test (codes "busy") refl),
+)
 wire m r = absurd r
 
 number_short : (n : ℕ) → n < 2 ^ 63 → length (decimal n) ≤ 19

@@ -55,6 +55,6 @@ pub room_is : (bytes : List ℕ) (at : ℕ) (room room' : List ℕ) → room' �
     → room' ≡ take (length room') (drop at bytes)
 room_is bytes at room room' is whole =
     let e : room' ≡ take (length room) (drop at bytes) =
-        is ∙ (λ i. take (whole i) (drop at bytes) ++ drop (whole i) room) ∙ ap (λ (l : List ℕ). take (length room) (drop at bytes) ++ l) (drop_all (length room) room (omega arith)) ∙ append-nil (take (length room) (drop at bytes)) in
+    is ∙ (λ i. take (whole i) (drop at bytes) ++ drop (whole i) room) ∙ ap (λ (l : List ℕ). take (length room) (drop at bytes) ++ l) (drop_all (length room) room (omega arith)) ∙ append-nil (take (length room) (drop at bytes)) in
     let l : length room' ≡ length room = omega (arith, ap length e, length-take (length room) (drop at bytes), length-drop at bytes, whole) in
     e ∙ ap (λ (k : ℕ). take k (drop at bytes)) (sym l)

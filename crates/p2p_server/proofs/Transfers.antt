@@ -147,7 +147,7 @@ pub judged_so : (x : Scene) (rows : Rows) (c : Contents) (known : Option Content
 judged_so x rows c known part right b key fill n size step r k e d =
     subst (λ (a : Bool). Does x rows c known part a (λ h. on_valid h fill size) step) (sym r)
     (subst (λ (f : List ℕ). Does x rows c known part b (λ h. on_valid h f size) step) k
-      (subst (λ (m : ℕ). Does x rows c known part b (λ h. on_valid h key m) step) e d))
+    (subst (λ (m : ℕ). Does x rows c known part b (λ h. on_valid h key m) step) e d))
 
 pub wrong_size : (v : Verdict) (want got : ℕ) → v ≡ WrongSize want got → v ≡ Right → ⊥
 wrong_size v want got is e = cc

@@ -17,8 +17,7 @@ use p2p_wire::sent_messages_have_lines;
 pub fn others_leave_it()
     ensures fills { (s : Session) (was now : Rows) → ((key : List ℕ) → sessions.is_filling key (session_of s).doing ≡ true → is_filling was key ≡ true → is_filling now key ≡ true) → HasFillOf was s → HasFillOf now s }
     ensures fed { (s : Session) (was now : Parts) → ((key : List ℕ) → sessions.is_filling key (session_of s).doing ≡ true → now key ≡ was key) → IsFedOf was s → IsFedOf now s }
-{
-}
+{}
 
 /// What a session says is a line of the protocol, of at most 64 bytes (git-annex P2P protocol; the bound is the project's
 /// own).
