@@ -8,3 +8,4 @@ pub mod Holding
 pub mod ReplyLines
 pub mod Sending
 pub mod Calm
+pub mod Moves

@@ -17,7 +17,7 @@ ghost use Rattle.p2p_server.specs.Talking.{IsPlain};
 
 use crate::place::Scene;
 use crate::step::Step;
-use annex_base::{Call, Failed, Found, NoMemory};
+use annex_base::{Call, Failed, Found, NoMemory, RepoId};
 use annex_key::Key;
 use content_lock::{LockTable, Look, RemoveRefused, Removed, Share, ShareRefused};
 use object_store::Keeper;
@@ -49,6 +49,16 @@ pub(crate) fn failed(scene: Scene, call: Call) -> Step
         },
         Message::Failure,
     )
+}
+
+/// Says who the repository is.
+pub(crate) fn welcome(id: RepoId) -> Step
+    ensures says { result ≡ record { kind = EntryKind.Talk None; reply = Some (Message.AuthSuccess id); close = false } }
+    ensures fits { (number : ℕ) → Fits number result }
+{
+    // For the proof, which cites that it is an identifier.
+    id.print();
+    Step::says(EntryKind::Talk { job: None }, Message::AuthSuccess(id))
 }
 
 /// Whether the content is there and has no bar.

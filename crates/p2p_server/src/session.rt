@@ -734,10 +734,7 @@ impl Session {
         ensures cause { IfOk result (λ step. IfSome (failed_in step.kind) (λ call. Rose (K.faults keeper.old) (K.faults keeper.new))) }
     {
         match incoming {
-            Incoming::Opening => Ok(Step::says(
-                EntryKind::Talk { job: None },
-                Message::AuthSuccess(scene.place.id),
-            )),
+            Incoming::Opening => Ok(answers::welcome(scene.place.id)),
             Incoming::Closing => {
                 self.reset(table);
                 Ok(Step::silent(self.place.close_kind()))

@@ -1,0 +1,117 @@
+-- Phases in which bytes go or come: what one that gives, one that takes, and one that took all let follow.
+use Rattle.std.proofs.Common.{◌≡◌, ℕ, ◌≤◌, ◌<◌, ◌-◌, ◌++◌, Bool, true, false, List, ◌∷◌, [], map, Option, Some, None, refl, sym, ap, subst, ◌∙◌}
+use Rattle.std.specs.Prelude.{if◌then◌else◌, nat_lt, nat_le, ◌==◌}
+use Rattle.std.specs.Option.{option_map}
+use Rattle.std.proofs.lemmas.Bool.{le-leb, lt-ltb}
+use Rattle.std.proofs.lemmas.Option.{same_Some}
+use Rattle.annex_base.proofs.Conditions.{bytes_eq-refl}
+use Rattle.annex_base.specs.declared.kinds.Call.TheVariants as calls
+use Rattle.run_data.specs.declared.entry.By.{By}
+use Rattle.run_data.specs.declared.entry.EntryKind.{EntryKind}
+use Rattle.run_data.specs.declared.entry.EntryKind.TheVariants.{Fault, Talk}
+use Rattle.run_data.specs.declared.entry.FrameText.TheVariants.{Closing}
+use Rattle.run_data.specs.declared.row.Hold.{Hold}
+use Rattle.p2p_wire.specs.declared.message.Message.{Message}
+use Rattle.p2p_wire.specs.declared.message.Message.TheVariants as messages
+use Rattle.object_store.specs.Stores.{AreShort, AreSmallParts, Contents, Parts, with_at}
+use Rattle.node_model.specs.Rows.{keep_of}
+use Rattle.node_model.specs.Sessions as sessions
+use Rattle.node_model.specs.SessionStep.{Here, by_of, gives_next, on_bytes, silent}
+use Rattle.content_lock.specs.Tokens.{Owns, ShareView}
+use Rattle.p2p_server.specs.declared.doing.Doing.{Doing}
+use Rattle.p2p_server.specs.declared.doing.Doing.TheVariants as doings
+use Rattle.p2p_server.specs.declared.doing.Giving.{Giving}
+use Rattle.p2p_server.specs.declared.doing.Taking.{Taking}
+use Rattle.p2p_server.specs.declared.incoming.Incoming.TheVariants as incoming
+use Rattle.p2p_server.specs.declared.more.More.{More}
+use Rattle.p2p_server.specs.declared.more.More.TheVariants as more
+use Rattle.p2p_server.specs.Giving.{IsPieceOf, IsWithin}
+use Rattle.p2p_server.specs.Phases.{HasLeft, IsBare, IsLonger, IsTook, WithinOf}
+use Rattle.p2p_server.specs.Talking.{doing_of, parts_after, share_in}
+
+-- ---- giving
+
+-- a session that gives nothing sends nothing unasked
+pub none_next : (h : Here) (d : Doing) → ((g : Giving) → d ≡ doings.Gives g → ⊥) → gives_next h (doing_of d) ≡ None
+none_next h doings.Waits no = refl
+none_next h (doings.Guards s) no = refl
+none_next h (doings.Gives g) no = absurd (no g refl)
+none_next h doings.Gave no = refl
+none_next h (doings.Wants w) no = refl
+none_next h (doings.Takes t) no = refl
+none_next h (doings.Took t) no = refl
+
+pub none_piece : (c : Contents) (d : Doing) → IsPieceOf c (doing_of d) more.Nothing
+none_piece c doings.Waits = tt
+none_piece c (doings.Guards s) = tt
+none_piece c (doings.Gives g) = tt
+none_piece c doings.Gave = tt
+none_piece c (doings.Wants w) = tt
+none_piece c (doings.Takes t) = tt
+none_piece c (doings.Took t) = tt
+
+pub left_of : (m : More) (d : Doing) (n : ℕ) → ((left : ℕ) → IsWithin m left → n ≤ left) → WithinOf m d → HasLeft d n
+left_of m (doings.Gives g) n f w = f (g.end - g.at) w
+left_of m d n f w = absurd w
+
+pub bare_of : (m : More) (d : Doing) → WithinOf m d → IsBare d
+bare_of m (doings.Gives g) w = tt
+bare_of m d w = absurd w
+
+-- ---- taking
+
+-- a phase that takes bytes, or took them, guards nothing
+pub takes_none : (d : Doing) (key : List ℕ) (size left : ℕ) → doing_of d ≡ sessions.takes_more key size left → share_in d ≡ None
+takes_none (doings.Guards s) key size left is = absurd (other (left == 0) is)
+  where
+    other : (b : Bool) → sessions.Guards s.number s.key ≡ (if b then sessions.Took key size else sessions.Takes key size left) → ⊥
+    other true e = cc
+    other false e = cc
+takes_none doings.Waits key size left is = refl
+takes_none (doings.Gives g) key size left is = refl
+takes_none doings.Gave key size left is = refl
+takes_none (doings.Wants w) key size left is = refl
+takes_none (doings.Takes t) key size left is = refl
+takes_none (doings.Took t) key size left is = refl
+
+longer : (t : Taking) (p p' : Parts) (piece : List ℕ) → p' ≡ with_at p t.fill (p t.fill ++ piece) → AreShort p' → IsLonger (doings.Takes t) p p' piece
+longer t p p' piece is short = (ap (λ (q : Parts). q t.fill) is ∙ at_key, short t.fill)
+  where
+    at_key : with_at p t.fill (p t.fill ++ piece) t.fill ≡ p t.fill ++ piece
+    at_key = rw (bytes_eq-refl t.fill) refl
+
+-- the store's part has the piece more
+pub longer_so : (d : Doing) (t : Taking) (known known' : Option Parts) (piece : List ℕ) → d ≡ doings.Takes t
+    → known' ≡ option_map (λ (p : Parts). with_at p t.fill (p t.fill ++ piece)) known → AreSmallParts known'
+    → (p : Parts) → known ≡ Some p → (p' : Parts) → known' ≡ Some p' → IsLonger d p p' piece
+longer_so d t known known' piece has grown small p is p' is' =
+    let told : p' ≡ with_at p t.fill (p t.fill ++ piece) = same_Some _ _ (sym is' ∙ grown ∙ ap (option_map (λ (q : Parts). with_at q t.fill (q t.fill ++ piece))) is) in
+    subst (λ (x : Doing). IsLonger x p p' piece) (sym has) (longer t p p' piece told (small p' is'))
+
+pub piece_taken : (h : Here) (key : List ℕ) (size left n : ℕ) → h.fails ≡ None → 0 < n → n ≤ left → silent (Talk None) ≡ on_bytes h n (sessions.Takes key size left)
+piece_taken h key size left n f some fits =
+    let a : nat_lt 0 n ≡ true = lt-ltb 0 n some in
+    let b : nat_le n left ≡ true = le-leb n left fits in
+    rw (a, b, f) refl
+
+pub piece_lost : (h : Here) (key : List ℕ) (size left n : ℕ) → h.fails ≡ Some calls.Append → 0 < n → n ≤ left
+    → record { kind = Fault calls.Append (by_of h); says = Closing ∷ [] } ≡ on_bytes h n (sessions.Takes key size left)
+piece_lost h key size left n f some fits =
+    let a : nat_lt 0 n ≡ true = lt-ltb 0 n some in
+    let b : nat_le n left ≡ true = le-leb n left fits in
+    rw (a, b, f) refl
+
+-- ---- the verdict
+
+took_none : (d : Doing) → IsTook d → share_in d ≡ None
+took_none (doings.Took t) p = refl
+took_none d p = absurd p
+
+-- a session that took bytes guards nothing, so each hold of its owner is kept
+pub nothing_kept : (by : By) (d : Doing) (holds : List Hold) → IsTook d → Owns by (share_in d) holds → map (keep_of by) holds ≡ holds
+nothing_kept by d holds p own = (subst (λ (s : Option ShareView). Owns by s holds) (took_none d p) own).kept
+
+-- the parts stay at each message but VALID
+pub parts_stay : (d : Doing) (m : Message) (kind : EntryKind) (known : Option Parts) → (m ≡ messages.Valid → ⊥) → parts_after d (incoming.Message m) kind known ≡ known
+parts_stay (doings.Took t) messages.Valid kind known no = absurd (no refl)
+parts_stay d m kind known no = refl
