@@ -9,3 +9,4 @@ pub mod ReplyLines
 pub mod Sending
 pub mod Calm
 pub mod Moves
+pub mod Reading
