@@ -62,17 +62,17 @@ bare_of m d w = absurd w
 
 -- a phase that takes bytes, or took them, guards nothing
 pub takes_none : (d : Doing) (key : List ℕ) (size left : ℕ) → doing_of d ≡ sessions.takes_more key size left → share_in d ≡ None
-takes_none (doings.Guards s) key size left is = absurd (other (left == 0) is)
-  where
-    other : (b : Bool) → sessions.Guards s.number s.key ≡ (if b then sessions.Took key size else sessions.Takes key size left) → ⊥
-    other true e = cc
-    other false e = cc
 takes_none doings.Waits key size left is = refl
 takes_none (doings.Gives g) key size left is = refl
 takes_none doings.Gave key size left is = refl
 takes_none (doings.Wants w) key size left is = refl
 takes_none (doings.Takes t) key size left is = refl
 takes_none (doings.Took t) key size left is = refl
+takes_none (doings.Guards s) key size left is = absurd (other (left == 0) is)
+  where
+    other : (b : Bool) → sessions.Guards s.number s.key ≡ (if b then sessions.Took key size else sessions.Takes key size left) → ⊥
+    other true e = cc
+    other false e = cc
 
 longer : (t : Taking) (p p' : Parts) (piece : List ℕ) → p' ≡ with_at p t.fill (p t.fill ++ piece) → AreShort p' → IsLonger (doings.Takes t) p p' piece
 longer t p p' piece is short = (ap (λ (q : Parts). q t.fill) is ∙ at_key, short t.fill)
@@ -109,7 +109,7 @@ took_none d p = absurd p
 
 -- a session that took bytes guards nothing, so each hold of its owner is kept
 pub nothing_kept : (by : By) (d : Doing) (holds : List Hold) → IsTook d → Owns by (share_in d) holds → map (keep_of by) holds ≡ holds
-nothing_kept by d holds p own = (subst (λ (s : Option ShareView). Owns by s holds) (took_none d p) own).kept
+nothing_kept by d holds p own = let mine : Owns by None holds = subst (λ (s : Option ShareView). Owns by s holds) (took_none d p) own in mine.kept
 
 -- the parts stay at each message but VALID
 pub parts_stay : (d : Doing) (m : Message) (kind : EntryKind) (known : Option Parts) → (m ≡ messages.Valid → ⊥) → parts_after d (incoming.Message m) kind known ≡ known
