@@ -8,5 +8,7 @@ pub mod Numbers
 pub mod Options
 pub mod RepoLemmas
 pub mod Results
+pub mod Rows
 pub mod StampLemmas
 pub mod TextOrder
+pub mod Words

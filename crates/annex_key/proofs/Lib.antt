@@ -10,7 +10,6 @@ pub mod AnswerLemmas
 pub mod FileLemmas
 pub mod FileKeyLemmas
 pub mod ChunkLemmas
-pub mod TreeLemmas
 pub mod TreeLaws
 pub mod IndexLemmas
 pub mod IndexedLemmas

@@ -4,7 +4,7 @@ ghost use Rattle.std.specs.Prelude.{◌≡◌, ◌≢◌, ◌⊎◌, ◌↔◌, 
 ghost use Rattle.std.specs.Map.{keys_of};
 ghost use Rattle.annex_base.specs.Lists.{Member, Each};
 ghost use Rattle.union_merge.specs.LineSet.{IsLineSet, union, difference, set_of, text_of};
-ghost use Rattle.union_merge.specs.Branch.{Files, IsBranch, lines_at, file_at, merged_branch, merge_by_path, merged_branches, HasLinesOfBoth};
+ghost use Rattle.union_merge.specs.Branch.{Files, IsBranch, lines_at, file_at, with_file, merged_file, merged_branch, merge_by_path, merged_branches, HasLinesOfBoth};
 
 /// The union of two sets of lines has exactly the lines of both, whichever comes first, in whatever groups, and however
 /// often (git-annex internals: branch files).
@@ -35,6 +35,15 @@ pub fn merges_by_path_have_the_lines_of_both()
     ensures branch { (xs ys : Files) → IsBranch xs → IsBranch ys → IsBranch (merge_by_path xs ys) }
     ensures lines { (xs ys : Files) → IsBranch xs → IsBranch ys → HasLinesOfBoth xs ys (merge_by_path xs ys) }
     ensures whole { (xs ys : Files) → IsBranch xs → IsBranch ys → Each (λ f. f.1 ≢ []) ys → merge_by_path xs ys ≡ merged_branch xs ys }
+{}
+
+/// A file that is set has these lines, and one that is merged also those that it had; the other files keep theirs
+/// (git-annex internals: branch files).
+pub fn files_are_set_alone()
+    ensures set { (files : Files) (path : List ℕ) (lines : List (List ℕ)) → lines_at (with_file files path lines) path ≡ lines }
+    ensures set_others { (files : Files) (path other : List ℕ) (lines : List (List ℕ)) → other ≢ path → lines_at (with_file files path lines) other ≡ lines_at files other }
+    ensures merged { (files : Files) (path : List ℕ) (lines : List (List ℕ)) → lines_at (merged_file files path lines) path ≡ union (lines_at files path) lines }
+    ensures merged_others { (files : Files) (path other : List ℕ) (lines : List (List ℕ)) → other ≢ path → lines_at (merged_file files path lines) other ≡ lines_at files other }
 {}
 
 /// The merge of two branches has the files of both, each with exactly the lines of both, whichever branch comes first,

@@ -1,6 +1,6 @@
 use Rattle.std.specs.Prelude.{not}
 use Rattle.std.proofs.lemmas.List.Sums.{prefix_len-le-length}
-use Rattle.log_lines.specs.Reading.{is_space}
+use Rattle.annex_base.specs.Lines.{is_space}
 use Rattle.log_lines.proofs.texts.split_group.Goals as goal
 
 pub split_at-requires : goal.split_at-requires

@@ -1,0 +1,5 @@
+use Rattle.run_data.proofs.FileLemmas.{kind_there}
+use Rattle.run_data.proofs.laws.paths_tell_their_kind.Goals as goal
+
+pub returns : goal.returns
+returns c = kind_there
