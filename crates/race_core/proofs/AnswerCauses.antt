@@ -5,6 +5,7 @@ use Rattle.std.specs.List.{list_any}
 use Rattle.std.proofs.lemmas.Bool.{and_parts}
 use Rattle.annex_base.specs.declared.kinds.Found.TheVariants as found
 use Rattle.annex_base.specs.declared.kinds.Word.{Word}
+use Rattle.race_core.proofs.Below.{SentAreRead}
 use Rattle.run_data.specs.declared.entry.Entry.{Entry}
 use Rattle.run_data.specs.declared.entry.EntryKind.{EntryKind}
 use Rattle.run_data.specs.declared.entry.EntryKind.TheVariants.{Check, Fault, End as ends_job}
@@ -77,7 +78,7 @@ order_fails (Some n) key kind x = x
 pub own_of : (r j : ℕ) (e : Entry) → is_job r j e ≡ true → is_of r e ≡ true
 own_of r j e h = (and_parts (is_of r e) _ h).0
 
-module _ (s : SetUp) (past : List Entry) (words : ℕ → Option Word) (e : Entry) (h : OwnPast s past) (own : OwnPart s past words e) (j : ℕ) where
+module _ (reads_back : SentAreRead) (s : SetUp) (past : List Entry) (words : ℕ → Option Word) (e : Entry) (h : OwnPast s past) (own : OwnPart s past words e) (j : ℕ) where
   abbrev r : ℕ
   r = s.number
 
@@ -104,7 +105,7 @@ module _ (s : SetUp) (past : List Entry) (words : ℕ → Option Word) (e : Entr
           let z = ending_words s past words e own j (Refused (refusals.Denied answer)) is in
           subst (λ n. WasDenied past r n answer) (sym z.0.number_is) (elim (z.0.why) [
             | inl y ↦ absurd y
-            | inr y ↦ settled z.0 z.1 (drop_settled (turn_at s past e z.0.by) past (refusals.Denied answer) z.0.by.made.taken (stands s past h z.0.by.w z.0.runs) y)
+            | inr y ↦ settled z.0 z.1 (drop_settled (turn_at s past e z.0.by) past (refusals.Denied answer) z.0.by.made.taken (stands reads_back s past h z.0.by.w z.0.runs) y)
           ])
         where
           same_answer : (a b : Denial) → Refused (refusals.Denied a) ≡ Refused (refusals.Denied b) → a ≡ b
@@ -119,7 +120,7 @@ module _ (s : SetUp) (past : List Entry) (words : ℕ → Option Word) (e : Entr
               apart (Some m) c e = cc
           settled x spoke (inr (inl z)) =
               let w = x.by.w in
-              let d : DeniedBy s past (running w) = subst (DeniedAt s past (running w)) z.0 (denied_words s past h w x.runs) in
+              let d : DeniedBy s past (running w) = subst (DeniedAt s past (running w)) z.0 (denied_words reads_back s past h w x.runs) in
               let t = target_in r (running w) in
               let a = d.refused in
               let f = flew w.number t (Says Failure) a.hears in
@@ -142,7 +143,7 @@ module _ (s : SetUp) (past : List Entry) (words : ℕ → Option Word) (e : Entr
           let x = ending s past words e own j (TransferRefused failures.Rejected) is in
           subst (WasRejected past r) (sym x.number_is) (elim (x.why) [
             | inl y ↦ absurd y
-            | inr y ↦ elim (transfer_settled (turn_at s past e x.by) past failures.Rejected x.by.made.taken (stands s past h x.by.w x.runs) y) [ inl z ↦ now x z | inr z ↦ absurd (cc) ]
+            | inr y ↦ elim (transfer_settled (turn_at s past e x.by) past failures.Rejected x.by.made.taken (stands reads_back s past h x.by.w x.runs) y) [ inl z ↦ now x z | inr z ↦ absurd (cc) ]
           ])
         where
           now : (x : Ending s past e j (TransferRefused failures.Rejected)) → TransferStands r past (running x.by.w) failures.Rejected → WasRejected past r x.by.w.number
@@ -173,11 +174,11 @@ module _ (s : SetUp) (past : List Entry) (words : ℕ → Option Word) (e : Entr
         | inl y ↦ inl (record {
           d = job_of s past h w x.runs;
           kind_is = (of_kind s past h.run w x.runs).0 y.0;
-          first = no_step s past h.run w x.runs y.0 y.1;
+          first = no_step reads_back s past h.run w x.runs y.0 y.1;
           absent = y.2;
           filled = filled_by w.what.key y.3;
         })
-        | inr y ↦ elim (transfer_settled (turn_at s past e x.by) past failures.Busy x.by.made.taken (stands s past h w x.runs) y) [
+        | inr y ↦ elim (transfer_settled (turn_at s past e x.by) past failures.Busy x.by.made.taken (stands reads_back s past h w x.runs) y) [
           | inl z ↦ inr (record { d = job_of s past h w x.runs; peer = z.0; peer_is = z.1; file = []; busy = z.2 })
           | inr z ↦ absurd (cc)
         ]

@@ -4,6 +4,7 @@ use Rattle.std.specs.Prelude.{◌&&◌, length}
 use Rattle.std.proofs.lemmas.Bool.{and_from, or_left, or_right}
 use Rattle.annex_base.specs.Lists.{Member}
 use Rattle.annex_base.specs.Settings.{Settings}
+use Rattle.race_core.proofs.Below.{SentAreRead}
 use Rattle.drop_proof.specs.declared.rule.Need.{Need}
 use Rattle.drop_proof.specs.declared.rule.Side.TheVariants.{Remote}
 use Rattle.drop_proof.specs.Judging.{is_enough}
@@ -90,7 +91,7 @@ kept_at s past e w same x = (
       enough_same s (state_of s (e ∷ past)) (state_of s past) w w (ap (λ c. runs_on c) same) (stays_read past e s.number w.number read) refl refl ∙ x.2 part side apart at,
 )
 
-module _ (s : SetUp) where
+module _ (reads_back : SentAreRead) (s : SetUp) where
   step_began : (p : List Entry) (e : Entry) → OwnPast s (e ∷ p) → is_of s.number e ≡ true → (x : Work) (b : Steps s p e x) → Began s p b.by.w → x.part ≡ Drops → in_drop (e ∷ p) s.number x.number ≡ true
   step_began p e r is x b was part = go b.by.w.part refl
     where
@@ -99,7 +100,7 @@ module _ (s : SetUp) where
 
       new : b.by.w.part ≢ Drops → in_drop (e ∷ p) s.number x.number ≡ true
       new apart = or_right (in_drop p s.number x.number) (is_of s.number e && starts_drop p s.number x.number e e.kind)
-          (and_from (is_of s.number e) (starts_drop p s.number x.number e e.kind) is (moves_begun s p e r is x b apart part))
+          (and_from (is_of s.number e) (starts_drop p s.number x.number e e.kind) is (moves_begun reads_back s p e r is x b apart part))
 
       go : (q : Part) → b.by.w.part ≡ q → in_drop (e ∷ p) s.number x.number ≡ true
       go Drops at = or_left (in_drop p s.number x.number) (is_of s.number e && starts_drop p s.number x.number e e.kind) (subst (λ n. in_drop p s.number n ≡ true) (sym number) (was at))

@@ -7,6 +7,7 @@ use Rattle.annex_base.specs.declared.kinds.Call.{Call}
 use Rattle.annex_base.proofs.Conditions.{if_either}
 use Rattle.annex_base.specs.declared.kinds.Call.TheVariants as calls
 use Rattle.annex_base.specs.declared.kinds.Found.TheVariants as found
+use Rattle.race_core.proofs.Below.{SentAreRead}
 use Rattle.run_data.specs.declared.entry.EntryKind.{EntryKind}
 use Rattle.run_data.specs.declared.entry.EntryKind.TheVariants.{Check, Fault, Gone, Share, Talk}
 use Rattle.run_data.specs.declared.entry.FrameText.{FrameText}
@@ -64,7 +65,7 @@ Says at was z up down says = (says ≡ Closing ∷ []) ⊎ (Opens says × (is_gr
 
 -- ---- requests
 
-module _ (size : List ℕ → Option ℕ) (h : Here) (spot : Spot h) (z : Session) where
+module _ (reads_back : SentAreRead) (size : List ℕ → Option ℕ) (h : Here) (spot : Spot h) (z : Session) where
   abbrev pub Served : Stance → Message → Reply → Type 0
   Served at m x = Says at z (after_message size z m x.kind (told_first x.says)) [] [] x.says
 
@@ -186,7 +187,7 @@ module _ (size : List ℕ → Option ℕ) (h : Here) (spot : Spot h) (z : Sessio
       where
         go : (here filled : Bool) → Served Dialogue.AtPut (Put file key) (reply (Talk None) (put_answer h.part here filled))
         go true filled = answers Dialogue.AtPut (λ z up down x. x) (Put file key) (Talk None) AlreadyHave refl (idle (Put file key) (Talk None) AlreadyHave refl speaks) (λ g. refl)
-        go false true = answers Dialogue.AtPut (λ z up down x. x) (Put file key) (Talk None) (Error (codes "busy")) busy_read (idle (Put file key) (Talk None) (Error (codes "busy")) refl speaks, refl) (λ g. refl)
+        go false true = answers Dialogue.AtPut (λ z up down x. x) (Put file key) (Talk None) (Error (codes "busy")) (busy_read reads_back) (idle (Put file key) (Talk None) (Error (codes "busy")) refl speaks, refl) (λ g. refl)
         go false false = answers Dialogue.AtPut (λ z up down x. x) (Put file key) (Talk None) (PutFrom h.part) spot.part (speaks, key, h.part, refl) (λ g. refl)
 
     -- GET

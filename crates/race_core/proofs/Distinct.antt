@@ -9,6 +9,7 @@ use Rattle.std.proofs.lemmas.List.Kept.{AllPairs-cons}
 use Rattle.annex_base.specs.Lists.{Each, Member}
 use Rattle.annex_base.proofs.Lists.{Each-filter, Each-append, Each-left, Each-right, Each-weaker, Each-passes}
 use Rattle.annex_base.proofs.Conditions.{eqb_refl}
+use Rattle.annex_base.proofs.Numbers.{range_below}
 use Rattle.drop_proof.specs.declared.evidence.Evidence.{Evidence}
 use Rattle.drop_proof.specs.declared.rule.Need.{Need}
 use Rattle.drop_proof.specs.declared.rule.Side.{Side}
@@ -78,10 +79,6 @@ reached_apart waits (c ∷ cs) h = go (reached_apart waits cs h.1) (waits c)
     go ih false = (reached_each (λ y. y ≢ c) waits cs h.0, ih)
 
 -- the candidates are repositories of the run
-range_below : (a n m : ℕ) → a + n ≤ m → Each (λ y. y < m) (range_with_len a n)
-range_below a zero m l = tt
-range_below a (suc n) m l = (omega (arith, l), range_below (a + 1) n m (omega (arith, l)))
-
 pub candidates_below : (side : Side) (n a target : ℕ) → MatchSide side (Unit {0}) (a < n) → Each (λ c. c < n) (candidates side n a target)
 candidates_below Local n a target lt = Each-filter (λ c. c < n) (λ x. not (x == a)) (range_with_len 0 n) (range_below 0 n n (omega arith))
 candidates_below Remote n a target lt =

@@ -8,6 +8,7 @@ use Rattle.annex_base.specs.declared.kinds.Call.{Call}
 use Rattle.annex_base.specs.declared.kinds.Call.TheVariants.{Unhold, PutFile}
 use Rattle.annex_base.proofs.Lists.{Each-member, Each-push}
 use Rattle.annex_base.proofs.Conditions.{if_either}
+use Rattle.race_core.proofs.Below.{SentAreRead}
 use Rattle.drop_proof.specs.declared.evidence.Evidence.{Evidence}
 use Rattle.drop_proof.specs.declared.evidence.Kind.{Kind}
 use Rattle.drop_proof.specs.declared.evidence.Kind.TheVariants.{Locked, Trusted, Recent}
@@ -311,8 +312,8 @@ first_end_below s past w end h runs is =
     (λ x e. found_early 1000000000000 c w.heard early.heard x e)) (reached (is_to_ask s (state_of s past) w) (candidates_of s w)) [] tt)) is
 
 -- an order with a deadline is read as it was said
-pub deadline_read : (s : SetUp) (past : List Entry) (w : Work) (n end now : ℕ) → OwnPast s past → Member w (works past s.number) → n < 2 ^ 61 → least_end (known s (state_of s past) w) ≡ Some end
+pub deadline_read : SentAreRead → (s : SetUp) (past : List Entry) (w : Work) (n end now : ℕ) → OwnPast s past → Member w (works past s.number) → n < 2 ^ 61 → least_end (known s (state_of s past) w) ≡ Some end
     → message_of (text_of (RemoveBefore (n + (end - now) / 1000) w.what.key)) ≡ Some (RemoveBefore (n + (end - now) / 1000) w.what.key)
-deadline_read s past w n end now h runs small is =
+deadline_read reads_back s past w n end now h runs small is =
     let below : end ≤ 1100000600000 = first_end_below s past w end h runs is in
-    before_read s past h.run w runs (n + (end - now) / 1000) (omega (arith, below, small))
+    before_read reads_back s past h.run w runs (n + (end - now) / 1000) (omega (arith, below, small))

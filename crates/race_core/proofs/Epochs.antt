@@ -3,6 +3,7 @@ use Rattle.std.proofs.Common.{◌≡◌, ◌≢◌, ℕ, ◌<◌, ◌≤◌, Boo
 use Rattle.std.specs.Prelude.{◌==◌, slice_get, zero}
 use Rattle.std.proofs.lemmas.Bool.{eqb-true}
 use Rattle.annex_base.specs.Lists.{Each}
+use Rattle.race_core.proofs.Below.{SentAreRead}
 use Rattle.run_data.specs.declared.entry.Entry.{Entry}
 use Rattle.run_data.specs.declared.entry.FrameView.{FrameView}
 use Rattle.run_data.specs.declared.entry.FrameText.{FrameText}
@@ -39,7 +40,7 @@ not_both (Some n) a b p apart = go (n == b) refl
     go true e = absurd (apart (sym (eqb-true n a p) ∙ eqb-true n b e))
     go false e = refl
 
-module _ (run : Run) (repos : Each IsSetUp run.repos) where
+module _ (reads_back : SentAreRead) (run : Run) (repos : Each IsSetUp run.repos) where
   -- what was sent is of no later opening
   pub sent_epoch : (past : List Entry) → RunPast (set_up run) past → (r : ℕ) (a : EndName) (n k : ℕ) (it : Flying) → slice_get (sent past (way_out r a n)) k ≡ Some it → n ≤ (end_at past r a).epoch
   sent_epoch past h r a n k it e =
@@ -63,7 +64,7 @@ module _ (run : Run) (repos : Each IsSetUp run.repos) where
 
   pub none_yet : (past : List Entry) → RunPast (set_up run) past → (r : ℕ) (a : EndName) (n : ℕ) → (end_at past r a).epoch < n → Queue past (way_out r a n) []
   none_yet past h r a n later = empty_queue past (way_out r a n) (none_sent past h r a n later)
-      (Turns.taken_of is_request past (way_out r a n) (prefixes run.repos past (way_out r a n) (message_past run repos past h))).within
+      (Turns.taken_of is_request past (way_out r a n) (prefixes run.repos past (way_out r a n) (message_past reads_back run repos past h))).within
 
   -- an Opening that the server takes was sent by the client
   pub opening_sent : (past : List Entry) → RunPast (set_up run) past → (r p q n : ℕ) (f : FrameView) → MayTake past (way_in p (server_end r q) n) f → n ≤ (end_at past r (client_end p q)).epoch

@@ -5,6 +5,7 @@ use Rattle.std.proofs.lemmas.Option.{slice_get_within, same_Some}
 use Rattle.annex_base.specs.Lists.{Member}
 use Rattle.annex_base.proofs.Lists.{slice_get-left}
 use Rattle.annex_base.proofs.Conditions.{bytes_eq-refl}
+use Rattle.race_core.proofs.Below.{SentAreRead}
 use Rattle.run_data.specs.declared.entry.By.{By}
 use Rattle.run_data.specs.declared.entry.By.TheVariants.{Script, Job as by_job, Peer}
 use Rattle.run_data.specs.declared.entry.Entry.{Entry}
@@ -35,14 +36,14 @@ use Rattle.race_core.proofs.JobBegins.{order_alone, orderer}
 -- ---- who removes
 
 -- what takes a key away names its repository
-pub of_repository : (run : Run) (key : List ℕ) (place : ℕ) (e : Entry) (by : By) → IsRun run → slice_get run.entries place ≡ Some e → e.kind ≡ Gone by key → (r : ℕ) × (e.repo ≡ Some r)
-of_repository run key place e by h at kind = let t = (meets_at run place e h at).somebody by key kind in (t.0, repo_of e t.0 t.1)
+pub of_repository : SentAreRead → (run : Run) (key : List ℕ) (place : ℕ) (e : Entry) (by : By) → IsRun run → slice_get run.entries place ≡ Some e → e.kind ≡ Gone by key → (r : ℕ) × (e.repo ≡ Some r)
+of_repository reads_back run key place e by h at kind = let t = (meets_at reads_back run place e h at).somebody by key kind in (t.0, repo_of e t.0 t.1)
 
 -- and is a drop's
-pub by_drop : (run : Run) (key : List ℕ) (place : ℕ) (e : Entry) (by : By) → IsRun run → slice_get run.entries place ≡ Some e → e.kind ≡ Gone by key → ((j : ℕ) × (by ≡ by_job j)) ⊎ ((a slot : ℕ) × (by ≡ Peer a slot))
-by_drop run key place e (by_job j) h at kind = inl (j, refl)
-by_drop run key place e (Peer a slot) h at kind = inr (a, slot, refl)
-by_drop run key place e Script h at kind = let t = (meets_at run place e h at).somebody Script key kind in absurd (((meets_at run place e h at).own t.0 t.1).no_script key kind)
+pub by_drop : SentAreRead → (run : Run) (key : List ℕ) (place : ℕ) (e : Entry) (by : By) → IsRun run → slice_get run.entries place ≡ Some e → e.kind ≡ Gone by key → ((j : ℕ) × (by ≡ by_job j)) ⊎ ((a slot : ℕ) × (by ≡ Peer a slot))
+by_drop reads_back run key place e (by_job j) h at kind = inl (j, refl)
+by_drop reads_back run key place e (Peer a slot) h at kind = inr (a, slot, refl)
+by_drop reads_back run key place e Script h at kind = let t = (meets_at reads_back run place e h at).somebody Script key kind in absurd (((meets_at reads_back run place e h at).own t.0 t.1).no_script key kind)
 
 -- ---- no job removes twice
 
@@ -74,12 +75,12 @@ bar_off repos (e ∷ past) x p r j key d run (inr o) is kind was h = elim (bar_w
       let bad : Some d ≡ None = sym (decided_later repos past x p r j d run.1 o was) ∙ none in cc)
 ]
 
-gone_twice : (run : Run) (a b r j : ℕ) (key k : List ℕ) → IsRun run → IsAt run a r (Gone (by_job j) key) → IsAt run b r (Gone (by_job j) k) → a < b → ⊥
-gone_twice run a b r j key k h x y lt =
-    let early = messages_at run a h in
-    let late = messages_at run b h in
-    let first = barred run.repos (past_at run a) r j key early (((meets_at run a x.entry h x.entry_is).own r x.repo_is).removes j key x.kind_is).barred in
-    let stands : bar (past_at run b) r k ≡ Some j = (((meets_at run b y.entry h y.entry_is).own r y.repo_is).removes j k y.kind_is).barred in
+gone_twice : SentAreRead → (run : Run) (a b r j : ℕ) (key k : List ℕ) → IsRun run → IsAt run a r (Gone (by_job j) key) → IsAt run b r (Gone (by_job j) k) → a < b → ⊥
+gone_twice reads_back run a b r j key k h x y lt =
+    let early = messages_at reads_back run a h in
+    let late = messages_at reads_back run b h in
+    let first = barred run.repos (past_at run a) r j key early (((meets_at reads_back run a x.entry h x.entry_is).own r x.repo_is).removes j key x.kind_is).barred in
+    let stands : bar (past_at run b) r k ≡ Some j = (((meets_at reads_back run b y.entry h y.entry_is).own r y.repo_is).removes j k y.kind_is).barred in
     let second = barred run.repos (past_at run b) r j k late stands in
     let occurs = at_occurs run b a x.entry lt x.entry_is in
     let still = decided_later run.repos (past_at run b) x.entry (past_at run a) r j first.d late occurs first.decided_is in
@@ -88,8 +89,8 @@ gone_twice run a b r j key k h x y lt =
     bar_off run.repos (past_at run b) x.entry (past_at run a) r j key first.d late occurs x.repo_is x.kind_is first.decided_is (subst (λ z. bar (past_at run b) r z ≡ Some j) keys stands)
 
 -- **a job removes once**
-pub gone_once : (run : Run) (place other r j : ℕ) (key k : List ℕ) → IsRun run → IsAt run place r (Gone (by_job j) key) → IsAt run other r (Gone (by_job j) k) → other ≡ place
-gone_once run place other r j key k h x y = same_place other place (λ lt. gone_twice run other place r j k key h y x lt) (λ lt. gone_twice run place other r j key k h x y lt)
+pub gone_once : SentAreRead → (run : Run) (place other r j : ℕ) (key k : List ℕ) → IsRun run → IsAt run place r (Gone (by_job j) key) → IsAt run other r (Gone (by_job j) k) → other ≡ place
+gone_once reads_back run place other r j key k h x y = same_place other place (λ lt. gone_twice reads_back run other place r j k key h y x lt) (λ lt. gone_twice reads_back run place other r j key k h x y lt)
 
 -- ---- frames by their numbers
 
@@ -129,10 +130,10 @@ sends_apart run a b w n x y lt =
     omega (arith, x.reached, y.fewer, more)
 
 -- and one takes it
-takes_apart : (run : Run) (a b r : ℕ) (w : Way) (n : ℕ) → IsRun run → Takes run a r w n → Takes run b r w n → a < b → ⊥
-takes_apart run a b r w n h x y lt =
-    let m = (meets_at run a x.entry h x.entry_is).frames r x.f x.repo_is x.takes_it in
-    let k = (meets_at run b y.entry h y.entry_is).frames r y.f y.repo_is y.takes_it in
+takes_apart : SentAreRead → (run : Run) (a b r : ℕ) (w : Way) (n : ℕ) → IsRun run → Takes run a r w n → Takes run b r w n → a < b → ⊥
+takes_apart reads_back run a b r w n h x y lt =
+    let m = (meets_at reads_back run a x.entry h x.entry_is).frames r x.f x.repo_is x.takes_it in
+    let k = (meets_at reads_back run b y.entry h y.entry_is).frames r y.f y.repo_is y.takes_it in
     let first : n ≡ taken (past_at run a) w + 1 = sym x.seq_is ∙ m.seq_is ∙ ap (λ z. taken (past_at run a) z + 1) x.way_is in
     let second : n ≡ taken (past_at run b) w + 1 = sym y.seq_is ∙ k.seq_is ∙ ap (λ z. taken (past_at run b) z + 1) y.way_is in
     let after : taken (past_at run (a + 1)) w ≡ taken (past_at run a) w + 1 = ap (λ past. taken past w) (past_next run a x.entry x.entry_is) ∙ counts x in
@@ -181,13 +182,13 @@ sends_at run place r f t w =
     }
 
 -- **a removal by a peer obeys one order, of one job**
-pub order_obeyed : (run : Run) (place r a slot : ℕ) (key : List ℕ) → IsRun run → IsAt run place r (Gone (Peer a slot) key) → HasOrder run place r a key
-order_obeyed run place r a slot key h x =
+pub order_obeyed : SentAreRead → (run : Run) (place r a slot : ℕ) (key : List ℕ) → IsRun run → IsAt run place r (Gone (Peer a slot) key) → HasOrder run place r a key
+order_obeyed reads_back run place r a slot key h x =
     let past = past_at run place in
-    let m = meets_at run place x.entry h x.entry_is in
+    let m = meets_at reads_back run place x.entry h x.entry_is in
     let ob = (m.own r x.repo_is).obeys a slot key x.kind_is in
     let k : Obeying.Takes run.repos past x.entry r a key =
-    record { run = messages_at run place h; now' = m; is = x.repo_is; f = ob.f; takes_it = ob.takes_it; from_client = ob.from_client; peer_is = ob.peer_is; deadline = ob.deadline; asked_is = ob.asked_is; soon = ob.soon; same_clock = ob.same_clock } in
+    record { run = messages_at reads_back run place h; now' = m; is = x.repo_is; f = ob.f; takes_it = ob.takes_it; from_client = ob.from_client; peer_is = ob.peer_is; deadline = ob.deadline; asked_is = ob.asked_is; soon = ob.soon; same_clock = ob.same_clock } in
     let t = m.frames r ob.f x.repo_is ob.takes_it in
     let o = ordered_by run.repos past x.entry r a key k t in
     let w = occurs_at run place t.it.entry t.it.before o.occurs in
@@ -211,7 +212,7 @@ order_obeyed run place r a slot key h x =
       judge_is = order_judge past x.entry r a slot o.j r ob.deadline o.need key key (sent_of t.it) x.repo_is x.kind_is (sender_at past r x.entry.taken ob.f t.it ob.takes_it t.next) o.kind_is
           ∙ ap (λ before. let judge : Judge = record { repo = a; job = o.j; past = before } in Some judge) w.before_is;
       one_order = λ other y. same_place other w.at (λ lt. sends_apart run other w.at (way_of r ob.f) ob.f.seq y sends lt) (λ lt. sends_apart run w.at other (way_of r ob.f) ob.f.seq sends y lt);
-      once = λ other y. same_place other place (λ lt. takes_apart run other place r (way_of r ob.f) ob.f.seq h y takes_it lt) (λ lt. takes_apart run place other r (way_of r ob.f) ob.f.seq h takes_it y lt);
+      once = λ other y. same_place other place (λ lt. takes_apart reads_back run other place r (way_of r ob.f) ob.f.seq h y takes_it lt) (λ lt. takes_apart reads_back run place other r (way_of r ob.f) ob.f.seq h takes_it y lt);
     }
 
 -- ---- no order is obeyed twice
@@ -253,15 +254,15 @@ takes_same run place r q v w m n a b c t = record { entry = t.entry; entry_is = 
     ways = ap (λ x. way_of x t.f) (sym a) ∙ t.way_is ∙ b
 
 -- **an order is obeyed once**
-pub obeyed_once : (run : Run) (place other r q a b : ℕ) (key k : List ℕ) → IsRun run → (x : HasOrder run place r a key) → (y : HasOrder run other q b k) → x.at ≡ y.at → other ≡ place
-obeyed_once run place other r q a b key k h x y at =
+pub obeyed_once : SentAreRead → (run : Run) (place other r q a b : ℕ) (key k : List ℕ) → IsRun run → (x : HasOrder run place r a key) → (y : HasOrder run other q b k) → x.at ≡ y.at → other ≡ place
+obeyed_once reads_back run place other r q a b key k h x y at =
     let e = x.order.entry in
     let there : slice_get run.entries y.at ≡ Some e = subst (λ n. slice_get run.entries n ≡ Some e) at x.order.entry_is in
     let same : y.order.entry ≡ e = same_Some y.order.entry e (sym y.order.entry_is ∙ there) in
     let kinds : Order y.j q y.deadline y.need k ≡ Order x.j r x.deadline x.need key = sym y.order.kind_is ∙ ap (λ (z : Entry). z.kind) same ∙ x.order.kind_is in
     let target : q ≡ r = cc in
     let repo : b ≡ a = same_repo e b a (subst (λ (z : Entry). is_of b z ≡ true) same y.order.repo_is) x.order.repo_is in
-    let g = order_alone run x.at a x.j r x.deadline x.need key h x.order in
+    let g = order_alone reads_back run x.at a x.j r x.deadline x.need key h x.order in
     let first = sent_alone run x.at a x.w x.n e g.0 x.order.entry_is g.1 x.from_a x.sends in
     let second = sent_alone run y.at a y.w y.n e g.0 there g.1 (y.from_a ∙ repo) y.sends in
     let way : y.w ≡ x.w = sym second.0 ∙ first.0 in

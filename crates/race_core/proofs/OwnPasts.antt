@@ -212,7 +212,7 @@ own_in_drop r j past = own_by r (λ p. in_drop p r j)
     (λ e p is. or_nothing (in_drop p r j) (is_of r e && starts_drop p r j e e.kind) (rw is refl))
     (λ e p is ih. ap (λ b. b || (is_of r e && starts_drop p r j e e.kind)) ih ∙ ap (λ b. in_drop (mine r p) r j || (is_of r e && b)) (own_starts r j e e.kind p)) past
 
-first_none : {X : Type 0} (o : Option X) → first_of o None ≡ o
+pub first_none : {X : Type 0} (o : Option X) → first_of o None ≡ o
 first_none None = refl
 first_none (Some x) = refl
 

@@ -29,7 +29,7 @@ use Rattle.race_core.proofs.Heard.{Heard, heard, heard_answer, heard_cause, hear
 use Rattle.race_core.proofs.Own.{Awaits, HasDeadline, HeardOf, InTimeBy, InTurn, MayEnd, MayBar, MayObey, MayOrder, MayRelease, MayRemove, MaySend, OneClock, Own, SaidByClock, asks_copy, has_asked, is_share}
 use Rattle.race_core.proofs.Known.{gather_same, reached_same}
 use Rattle.race_core.proofs.Told.{taker_way}
-use Rattle.race_core.proofs.OwnPasts.{Bare, bare, client_of, mine, own_bar, own_before, own_begun, own_by, own_fold, own_count, own_decided, own_done, own_holds, own_in_drop, own_jobs, own_last, own_made, own_need, own_present, own_said, own_standing, own_taken, stated, when_down}
+use Rattle.race_core.proofs.OwnPasts.{Bare, bare, client_of, first_none, mine, own_bar, own_before, own_begun, own_by, own_fold, own_count, own_decided, own_done, own_holds, own_in_drop, own_jobs, own_last, own_made, own_need, own_present, own_said, own_standing, own_taken, stated, when_down}
 
 -- ---- what a job asks
 
@@ -118,10 +118,6 @@ other_cause r j c e past is = go (c == r)
         else (if is_job r j e then (if list_any (shuts c) e.sent then Some Closed else cause_taken past r c None e.taken) else None)) ≡ None
     go true = rw is refl
     go false = rw is refl
-
-first_none : (o : Option Cause) → first_of o None ≡ o
-first_none None = refl
-first_none (Some x) = refl
 
 other_closed : (r j c : ℕ) (e : Entry) (past : List Entry) (o : Option Cause) → is_of r e ≡ false → or_closed past e c r j o ≡ o
 other_closed r j c e past o is = ap (λ b. first_of o (if b then cause_closed (jobs past r) j c e.kind else None)) is ∙ first_none o

@@ -6,6 +6,7 @@ use Rattle.std.proofs.lemmas.Option.{same_Some}
 use Rattle.annex_base.specs.Lists.{Member}
 use Rattle.annex_base.specs.Settings.{Settings}
 use Rattle.annex_base.proofs.Conditions.{eqb_refl}
+use Rattle.race_core.proofs.Below.{SentAreRead}
 use Rattle.drop_proof.specs.declared.rule.Need.{Need}
 use Rattle.run_data.specs.declared.entry.Entry.{Entry}
 use Rattle.run_data.specs.declared.entry.EntryKind.{EntryKind}
@@ -109,16 +110,16 @@ own_decided : (past : List Entry) (e : Entry) (r j : ℕ) → is_of r e ≡ true
 own_decided past e r j is same = rw is (same (length past) (decided past r j))
 
 -- **a running job's decision states the need that it read**
-pub decided_read : (s : SetUp) (past : List Entry) → OwnPast s past → (w : Work) → Member w (works past s.number) → (d : Decision) → decided past s.number w.number ≡ Some d
+pub decided_read : SentAreRead → (s : SetUp) (past : List Entry) → OwnPast s past → (w : Work) → Member w (works past s.number) → (d : Decision) → decided past s.number w.number ≡ Some d
     → d.need ≡ need_of (state_of s past) w
-decided_read s past h w m d k = let x = all d k in x.1
+decided_read reads_back s past h w m d k = let x = all d k in x.1
   where
     -- a bar is put by the first step of the drop, and states what is read then
     bars : (p : List Entry) (e : Entry) → OwnPast s p → is_of s.number e ≡ true → (x : Work) (b : Steps s p e x) → (job : ℕ) (need : Need) (key : List ℕ) → e.kind ≡ Bar job need key → Decides s.number (e ∷ p) b.by.w.number
     bars p e h is x b job need key kind c k =
         let v = b.by.w in
         let f = subst (JobKind (turn_at s p e b.by) b.by.made) kind (step_kind s p e x b) in
-        let read = step_read p e s.number v.number is b.step ((at_targets s p h v (step_runs s p e x b)).0 f.part_is) in
+        let read = step_read p e s.number v.number is b.step ((at_targets reads_back s p h v (step_runs s p e x b)).0 f.part_is) in
         let made : Decision = record { place = length p; key = key; need = need } in
         let puts : decided (e ∷ p) s.number v.number ≡ Some made = rw is (ap (decided_after (length p) v.number (decided p s.number v.number)) kind
         ∙ subst (λ n. decided_after (length p) v.number (decided p s.number v.number) (Bar n need key) ≡ Some made) (sym f.number_is) (rw (eqb_refl v.number) refl)) in

@@ -5,6 +5,7 @@ use Rattle.std.proofs.lemmas.Option.{same_Some}
 use Rattle.annex_base.specs.declared.kinds.Level.TheVariants as levels
 use Rattle.annex_base.specs.Lists.{Each, Member}
 use Rattle.annex_base.proofs.Lists.{Each-member}
+use Rattle.race_core.proofs.Below.{SentAreRead}
 use Rattle.drop_proof.specs.declared.evidence.Evidence.{Evidence}
 use Rattle.drop_proof.specs.declared.evidence.Kind.{Kind}
 use Rattle.drop_proof.specs.declared.evidence.Kind.TheVariants.{Locked, Trusted, Recent}
@@ -32,10 +33,10 @@ use Rattle.race_core.proofs.ReadOnce.{need_is_read}
 use Rattle.race_core.proofs.Gather.{evidence_each}
 
 -- a local removal has the need that its drop read
-pub need_of_removal : (run : Run) (key : List ℕ) (place r j : ℕ) (x : Removal) → IsRun run → (w : IsLocalRemoval run key place r j) → removal_at run key place w.entry ≡ Some x → x.need ≡ need_read (past_at run place) r j
-need_of_removal run key place r j x h w is =
-    let past = messages_at run place h in
-    let m = ((meets_at run place w.entry h w.entry_is).own r w.repo_is).removes j key w.kind_is in
+pub need_of_removal : SentAreRead → (run : Run) (key : List ℕ) (place r j : ℕ) (x : Removal) → IsRun run → (w : IsLocalRemoval run key place r j) → removal_at run key place w.entry ≡ Some x → x.need ≡ need_read (past_at run place) r j
+need_of_removal reads_back run key place r j x h w is =
+    let past = messages_at reads_back run place h in
+    let m = ((meets_at reads_back run place w.entry h w.entry_is).own r w.repo_is).removes j key w.kind_is in
     let b = barred run.repos (past_at run place) r j key past m.barred in
     let there = removal_is run.repos w.entry (past_at run place) r j key b.d w.repo_is w.kind_is b.decided_is b.key_is in
     ap (λ (y : Removal). y.need) (same_Some _ _ (sym is ∙ there)) ∙ need_is_read run.repos (past_at run place) r j b.d past b.decided_is

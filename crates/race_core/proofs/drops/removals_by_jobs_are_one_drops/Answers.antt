@@ -6,4 +6,4 @@ pub returns-clause-job : goal.returns-clause-job
 returns-clause-job c = remover
 
 pub returns-clause-once : goal.returns-clause-once
-returns-clause-once c = gone_once
+returns-clause-once c = gone_once c.sent_messages_are_read.ensures.read

@@ -2,4 +2,4 @@ use Rattle.race_core.proofs.RunCauses.{refusals_caused}
 use Rattle.race_core.proofs.laws.refusals_have_causes.Goals as goal
 
 pub returns : goal.returns
-returns c = refusals_caused
+returns c = refusals_caused c.sent_messages_are_read.ensures.read

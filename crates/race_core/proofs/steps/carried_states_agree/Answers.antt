@@ -1,17 +1,28 @@
 use Rattle.std.specs.Prelude.{reverse}
 use Rattle.run_model.specs.Run.{set_up}
+use Rattle.race_core.proofs.Below.{LogLaws, SentAreRead}
 use Rattle.race_core.proofs.FromStep.{own_past}
 use Rattle.race_core.proofs.States.{states_agree, step_states}
 use Rattle.race_core.proofs.steps.carried_states_agree.Goals as goal
 
-pub returns-clause-states : goal.returns-clause-states
-returns-clause-states c = λ run r h. states_agree (set_up run r) (reverse run.entries) (own_past run h.repos r (reverse run.entries) h.steps)
-
-pub returns-clause-steps : goal.returns-clause-steps
-returns-clause-steps c = λ run r k h. step_states (set_up run r) (reverse run.entries) k (own_past run h.repos r (reverse run.entries) h.steps)
-
-pub returns-clause-own_states : goal.returns-clause-own_states
-returns-clause-own_states c = states_agree
-
-pub returns-clause-own_steps : goal.returns-clause-own_steps
-returns-clause-own_steps c = step_states
+pub returns : goal.returns
+returns c =
+    let laws : LogLaws = record {
+      by_set = c.readings_depend_on_the_set.ensures;
+      compaction = c.compaction_keeps_the_reading.ensures.alike;
+      joined = c.compaction_keeps_the_reading.ensures.merged;
+      of_both = c.unions_have_the_lines_of_both.ensures.either;
+      set = c.files_are_set_alone.ensures.set;
+      set_others = c.files_are_set_alone.ensures.set_others;
+      merged = c.files_are_set_alone.ensures.merged;
+      merged_others = c.files_are_set_alone.ensures.merged_others;
+      kinds = c.paths_tell_their_kind.ensures;
+      alike = c.equal_lines_read_alike.ensures.readings;
+    } in
+    let read : SentAreRead = c.sent_messages_are_read.ensures.read in
+    record {
+      states = λ run r h. states_agree laws read (set_up run r) (reverse run.entries) (own_past run h.repos r (reverse run.entries) h.steps);
+      steps = λ run r k h. step_states laws read (set_up run r) (reverse run.entries) k (own_past run h.repos r (reverse run.entries) h.steps);
+      own_states = states_agree laws read;
+      own_steps = step_states laws read;
+    }
