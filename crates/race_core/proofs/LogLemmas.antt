@@ -48,10 +48,10 @@ union_alike log_laws kind xs ys = log_laws.by_set kind (union xs ys) (ys ++ xs) 
 log_alike : LogLaws → (kind : LogKind) (path : List ℕ) (file : LogFile) (files : Files) (lines all : Lines) → ReadAlike kind (lines_at files path) all → ReadAlike kind (lines_at (merged_file files (file_path file) lines) path) (added_by path (Log file) lines ++ all)
 log_alike log_laws kind path file files lines all alike = elim (bytes_eq_tells (file_path file) path) [
   | inl same ↦ rw same.0
-      (ap (newest kind) (ap (λ p. lines_at (merged_file files p lines) path) same.1 ∙ log_laws.merged files path lines)
+      (ap (newest kind) (ap (λ p. lines_at (merged_file files p lines) path) same.1 ∙ log_laws.set files path (union (lines_at files path) lines))
       ∙ union_alike log_laws kind (lines_at files path) lines
       ∙ log_laws.joined kind lines lines (lines_at files path) all refl alike)
-  | inr other ↦ rw other.0 (ap (newest kind) (log_laws.merged_others files (file_path file) path lines (λ same. other.1 (sym same))) ∙ alike)
+  | inr other ↦ rw other.0 (ap (newest kind) (log_laws.set_others files (file_path file) path (union (lines_at files (file_path file)) lines) (λ same. other.1 (sym same))) ∙ alike)
 ]
 
 lines_alike : LogLaws → (kind : LogKind) (of : Option LogKind) (lines : Lines) → (of ≡ Some kind) ⊎ (of ≡ None) → ReadAlike kind (compact_lines of lines) lines

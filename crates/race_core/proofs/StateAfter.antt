@@ -5,6 +5,7 @@ use Rattle.annex_base.proofs.Conditions.{bytes_eq_tells}
 use Rattle.annex_base.proofs.Functions.{funext}
 use Rattle.race_core.proofs.Below.{LogLaws}
 use Rattle.log_lines.specs.declared.entry.LogKind.{LogKind}
+use Rattle.union_merge.specs.LineSet.{union}
 use Rattle.union_merge.specs.Branch.{Files, file_at, lines_at, or_none}
 use Rattle.trust_groups.specs.Settings.{settings}
 use Rattle.run_data.specs.declared.entry.Entry.{Entry}
@@ -46,8 +47,8 @@ compact_same log_laws path file files (Some lines) found =
 
 lines_same : LogLaws → (path : List ℕ) (files : Files) (kind : EntryKind) (lines : List (List ℕ)) → lines_at (branch_after files kind lines) path ≡ lines_after path (lines_at files path) kind lines
 lines_same log_laws path files (Log file) lines = elim (bytes_eq_tells (file_path file) path) [
-  | inl same ↦ rw same.0 (ap (λ p. lines_at (Rattle.union_merge.specs.Branch.merged_file files p lines) path) same.1 ∙ log_laws.merged files path lines)
-  | inr other ↦ rw other.0 (log_laws.merged_others files (file_path file) path lines (λ same. other.1 (sym same)))
+  | inl same ↦ rw same.0 (ap (λ p. lines_at (Rattle.union_merge.specs.Branch.merged_file files p lines) path) same.1 ∙ log_laws.set files path (union (lines_at files path) lines))
+  | inr other ↦ rw other.0 (log_laws.set_others files (file_path file) path (union (lines_at files (file_path file)) lines) (λ same. other.1 (sym same)))
 ]
 lines_same log_laws path files (Compact file) lines = compact_same log_laws path file files (file_at files (file_path file)) refl
 lines_same log_laws path files _ lines = refl

@@ -21,7 +21,7 @@ use log_lines::{compaction_keeps_the_reading, readings_depend_on_the_set};
 use p2p_wire::sent_messages_are_read;
 use run_data::paths_tell_their_kind;
 use trust_groups::equal_lines_read_alike;
-use union_merge::{files_are_set_alone, unions_have_the_lines_of_both};
+use union_merge::{files_are_changed_alone, unions_have_the_lines_of_both};
 
 /// Each run is lawful: every entry finds what it has to.
 pub fn runs_are_lawful()
@@ -91,7 +91,7 @@ pub fn kept_lines_read_as_all()
     readings_depend_on_the_set();
     compaction_keeps_the_reading();
     unions_have_the_lines_of_both();
-    files_are_set_alone();
+    files_are_changed_alone();
     paths_tell_their_kind();
     equal_lines_read_alike();
 }

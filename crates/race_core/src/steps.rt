@@ -17,7 +17,7 @@ use log_lines::{compaction_keeps_the_reading, readings_depend_on_the_set};
 use p2p_wire::sent_messages_are_read;
 use run_data::paths_tell_their_kind;
 use trust_groups::equal_lines_read_alike;
-use union_merge::{files_are_set_alone, unions_have_the_lines_of_both};
+use union_merge::{files_are_changed_alone, unions_have_the_lines_of_both};
 
 /// The state that a repository carries over its own entries, one after the other, agrees in all that a step reads with what
 /// the entries so far say of it, and so it makes the same step: in each run, and for each past whose own entries are a
@@ -38,7 +38,7 @@ pub fn carried_states_agree()
     readings_depend_on_the_set();
     compaction_keeps_the_reading();
     unions_have_the_lines_of_both();
-    files_are_set_alone();
+    files_are_changed_alone();
     paths_tell_their_kind();
     equal_lines_read_alike();
 }

@@ -1,10 +1,10 @@
 //! Laws of sets of lines, and of the merges of sets and of branches.
 
-ghost use Rattle.std.specs.Prelude.{◌≡◌, ◌≢◌, ◌⊎◌, ◌↔◌, List, ℕ, []};
+ghost use Rattle.std.specs.Prelude.{◌≡◌, ◌≢◌, ◌⊎◌, ◌↔◌, List, ℕ, [], Some};
 ghost use Rattle.std.specs.Map.{keys_of};
 ghost use Rattle.annex_base.specs.Lists.{Member, Each};
 ghost use Rattle.union_merge.specs.LineSet.{IsLineSet, union, difference, set_of, text_of};
-ghost use Rattle.union_merge.specs.Branch.{Files, IsBranch, lines_at, file_at, with_file, merged_file, merged_branch, merge_by_path, merged_branches, HasLinesOfBoth};
+ghost use Rattle.union_merge.specs.Branch.{Files, IsBranch, lines_at, file_at, with_file, merged_branch, merge_by_path, merged_branches, HasLinesOfBoth};
 
 /// The union of two sets of lines has exactly the lines of both, whichever comes first, in whatever groups, and however
 /// often (git-annex internals: branch files).
@@ -37,13 +37,10 @@ pub fn merges_by_path_have_the_lines_of_both()
     ensures whole { (xs ys : Files) → IsBranch xs → IsBranch ys → Each (λ f. f.1 ≢ []) ys → merge_by_path xs ys ≡ merged_branch xs ys }
 {}
 
-/// A file that is set has these lines, and one that is merged also those that it had; the other files keep theirs
-/// (git-annex internals: branch files).
-pub fn files_are_set_alone()
-    ensures set { (files : Files) (path : List ℕ) (lines : List (List ℕ)) → lines_at (with_file files path lines) path ≡ lines }
-    ensures set_others { (files : Files) (path other : List ℕ) (lines : List (List ℕ)) → other ≢ path → lines_at (with_file files path lines) other ≡ lines_at files other }
-    ensures merged { (files : Files) (path : List ℕ) (lines : List (List ℕ)) → lines_at (merged_file files path lines) path ≡ union (lines_at files path) lines }
-    ensures merged_others { (files : Files) (path other : List ℕ) (lines : List (List ℕ)) → other ≢ path → lines_at (merged_file files path lines) other ≡ lines_at files other }
+/// A file that is given lines has these, and the others have theirs (git-annex internals: branch files).
+pub fn files_are_changed_alone()
+    ensures there { (files : Files) (path : List ℕ) (lines : List (List ℕ)) → file_at (with_file files path lines) path ≡ Some lines }
+    ensures other { (files : Files) (path other : List ℕ) (lines : List (List ℕ)) → other ≢ path → lines_at (with_file files path lines) other ≡ lines_at files other }
 {}
 
 /// The merge of two branches has the files of both, each with exactly the lines of both, whichever branch comes first,

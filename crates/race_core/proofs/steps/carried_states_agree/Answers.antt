@@ -1,5 +1,7 @@
 use Rattle.std.specs.Prelude.{reverse}
 use Rattle.run_model.specs.Run.{set_up}
+use Rattle.std.proofs.Common.{ap}
+use Rattle.union_merge.specs.Branch.{or_none}
 use Rattle.race_core.proofs.Below.{LogLaws, SentAreRead}
 use Rattle.race_core.proofs.FromStep.{own_past}
 use Rattle.race_core.proofs.States.{states_agree, step_states}
@@ -12,10 +14,8 @@ returns c =
       compaction = c.compaction_keeps_the_reading.ensures.alike;
       joined = c.compaction_keeps_the_reading.ensures.merged;
       of_both = c.unions_have_the_lines_of_both.ensures.either;
-      set = c.files_are_set_alone.ensures.set;
-      set_others = c.files_are_set_alone.ensures.set_others;
-      merged = c.files_are_set_alone.ensures.merged;
-      merged_others = c.files_are_set_alone.ensures.merged_others;
+      set = λ files path lines. ap or_none (c.files_are_changed_alone.ensures.there files path lines);
+      set_others = c.files_are_changed_alone.ensures.other;
       kinds = c.paths_tell_their_kind.ensures;
       alike = c.equal_lines_read_alike.ensures.readings;
     } in

@@ -1,0 +1,10 @@
+use Rattle.std.proofs.Common.{Some, ap, ◌∙◌}
+use Rattle.union_merge.proofs.BranchLemmas.{file_at-there, lines_at-with_file_other, lines_at-with_file_same, with_file-new}
+use Rattle.union_merge.specs.Branch.{with_file}
+use Rattle.union_merge.proofs.laws.files_are_changed_alone.Goals as goal
+
+pub returns : goal.returns
+returns c = record {
+  there = λ files path lines. file_at-there (with_file files path lines) path (with_file-new path files lines) ∙ ap Some (lines_at-with_file_same files path lines);
+  other = λ files path other lines apart. lines_at-with_file_other files path other lines apart;
+}
