@@ -4,7 +4,7 @@ ghost use Rattle.std.specs.Prelude.{◌≡◌, ◌≢◌, ◌⊎◌, ◌↔◌, 
 ghost use Rattle.std.specs.Map.{keys_of};
 ghost use Rattle.annex_base.specs.Lists.{Member, Each};
 ghost use Rattle.union_merge.specs.LineSet.{IsLineSet, union, difference, set_of, text_of};
-ghost use Rattle.union_merge.specs.Branch.{Files, IsBranch, lines_at, file_at, with_file, merged_branch, merge_by_path, merged_branches, HasLinesOfBoth};
+ghost use Rattle.union_merge.specs.Branch.{Files, IsBranch, lines_at, file_at, with_back, with_file, merged_branch, merge_by_path, merged_branches, HasLinesOfBoth};
 
 /// The union of two sets of lines has exactly the lines of both, whichever comes first, in whatever groups, and however
 /// often (git-annex internals: branch files).
@@ -37,12 +37,6 @@ pub fn merges_by_path_have_the_lines_of_both()
     ensures whole { (xs ys : Files) → IsBranch xs → IsBranch ys → Each (λ f. f.1 ≢ []) ys → merge_by_path xs ys ≡ merged_branch xs ys }
 {}
 
-/// A file that is given lines has these, and the others have theirs (git-annex internals: branch files).
-pub fn files_are_changed_alone()
-    ensures there { (files : Files) (path : List ℕ) (lines : List (List ℕ)) → file_at (with_file files path lines) path ≡ Some lines }
-    ensures other { (files : Files) (path other : List ℕ) (lines : List (List ℕ)) → other ≢ path → lines_at (with_file files path lines) other ≡ lines_at files other }
-{}
-
 /// The merge of two branches has the files of both, each with exactly the lines of both, whichever branch comes first,
 /// in whatever groups, and however often (git-annex internals: branch files).
 pub fn merges_have_the_files_of_both()
@@ -63,4 +57,13 @@ pub fn any_order_of_merges_gives_one_branch()
 /// A branch is told by what a look-up at each path finds.
 pub fn branches_are_told_by_their_files()
     ensures { (xs ys : Files) → IsBranch xs → IsBranch ys → ((path : List ℕ) → file_at xs path ≡ file_at ys path) → xs ≡ ys }
+{}
+
+/// A file that is given lines has these, and the others have theirs. Given back what it had, the branch is as before
+/// (git-annex internals: branch files).
+pub fn files_are_changed_alone()
+    ensures set { (files : Files) (path : List ℕ) → IsBranch files → IsLineSet (lines_at files path) }
+    ensures there { (files : Files) (path : List ℕ) (lines : List (List ℕ)) → file_at (with_file files path lines) path ≡ Some lines }
+    ensures other { (files : Files) (path other : List ℕ) (lines : List (List ℕ)) → other ≢ path → lines_at (with_file files path lines) other ≡ lines_at files other }
+    ensures back { (files : Files) (path : List ℕ) (lines : List (List ℕ)) → IsBranch files → with_back (with_file files path lines) path (file_at files path) ≡ files }
 {}
