@@ -15,7 +15,7 @@ use Rattle.p2p_wire.specs.declared.message.Message.{Message}
 use Rattle.p2p_wire.specs.declared.message.Message.TheVariants.{Failure, Put, Remove, RemoveBefore, Valid}
 use Rattle.run_model.specs.Said.{Says, is_request, message_in}
 use Rattle.race_core.proofs.Ways.{is_answer, answers, way_from}
-use Rattle.run_model.specs.Frames.{Flying, MayTake, last_request, said_of, sender_of, sent, taken, taken_if, up_of, way_of}
+use Rattle.run_model.specs.Frames.{Flying, MayTake, last_request, said_of, sender_of, frames_sent, taken_count, taken_if, up_of, way_of}
 use Rattle.run_model.specs.Run.{RunPast, RunStep, set_up}
 use Rattle.race_core.proofs.SaidDown.{Alike}
 use Rattle.race_core.proofs.SessionAnswers.{AnswerFits, Answering}
@@ -50,7 +50,7 @@ module _ (reads_back : SentAreRead) (run : Run) (repos : Each IsSetUp run.repos)
       let before = t.it.before in
       let r = sender_of w in
       let all = message_past reads_back run repos past h in
-      let s = sending past w (taken past w) t.it t.next in
+      let s = sending past w (taken_count past w) t.it t.next in
       let at = step_at run past x before h s.occurs in
       let part = part_of (set_up run) before x r at.0 s.repo_is in
       let g_up : t.it.frame.up ≡ false = up_at w x t.it.frame false s.sends up in
@@ -91,7 +91,7 @@ fails_for asked kind x = tt
 module _ (reads_back : SentAreRead) (run : Run) (repos : Each IsSetUp run.repos) where
   -- what a FAILURE that a job takes answers
   pub failure_of : (past : List Entry) → RunPast (set_up run) past → (r : ℕ) (x : Entry) (before : List Entry) → Occurs past x before → is_of r x ≡ true → (f : FrameView) → x.taken ≡ Some f → f.up ≡ false → message_in f.body ≡ Says Failure
-      → (it : Flying) → slice_get (sent before (way_of r f)) (taken before (way_of r f)) ≡ Some it → AnswerOf before r f it Failure
+      → (it : Flying) → slice_get (frames_sent before (way_of r f)) (taken_count before (way_of r f)) ≡ Some it → AnswerOf before r f it Failure
   failure_of past h r x before o is f takes down says' it next =
       let at = step_at run past x before h o in
       let may = (part_of (set_up run) before x r at.0 is).frames.takes f takes in

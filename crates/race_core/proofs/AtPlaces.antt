@@ -18,7 +18,7 @@ use Rattle.annex_base.proofs.Lists.{list_all_member}
 use Rattle.annex_base.proofs.Conditions.{bytes_eq-refl}
 use Rattle.race_core.proofs.Below.{SentAreRead}
 use Rattle.run_model.specs.Past.{present}
-use Rattle.run_model.specs.Safety.{Removal, all_stand, backed, claim, is_gone, judged, least_need, owned, past_at, stands, within}
+use Rattle.run_model.specs.Safety.{Removal, all_stand, is_backed, claim, is_gone, has_enough, least_need, is_rightful, past_at, stands, within}
 use Rattle.run_model.specs.Run.{IsRun}
 use Rattle.race_core.specs.Places.{claim_at, count_at, removal_at, removals_at}
 use Rattle.race_core.proofs.Pasts.{past_more}
@@ -61,8 +61,8 @@ item_stands reads_back run key place e x item h at is m =
     subst (λ past. stands run.repos past key item ≡ true) (sym (past_next run place e at))
     (list_all_member (stands run.repos (e ∷ past_at run place) key) x.items item stand m)
   where
-    left : backed run.repos (e ∷ past_at run place) key ≡ true
-    left = subst (λ past. backed run.repos past key ≡ true) (past_next run place e at) ((runs_are_safe reads_back run h).kept key (place + 1))
+    left : is_backed run.repos (e ∷ past_at run place) key ≡ true
+    left = subst (λ past. is_backed run.repos past key ≡ true) (past_next run place e at) ((runs_are_safe reads_back run h).kept key (place + 1))
 
     stand : all_stand run.repos (e ∷ past_at run place) key (Some x) ≡ true
     stand = subst (λ o. all_stand run.repos (e ∷ past_at run place) key o ≡ true) is left
@@ -75,7 +75,7 @@ pub trusted_left : SentAreRead → (run : Run) (key : List ℕ) (place : ℕ) (e
     → Member item x.items → is_trusted item.kind ≡ true → claim_at run key (place + 1) item.repo ≡ true
 trusted_left reads_back run key place e x item h at is m l = stands_trusted run.repos (past_at run (place + 1)) key item l (item_stands reads_back run key place e x item h at is m)
 
-judged_some : (o : Option Removal) → judged o ≡ true → (x : Removal) × (o ≡ Some x) × (is_enough x.side x.need x.items ≡ true)
+judged_some : (o : Option Removal) → has_enough o ≡ true → (x : Removal) × (o ≡ Some x) × (is_enough x.side x.need x.items ≡ true)
 judged_some None h = cc
 judged_some (Some x) h = (x, refl, h)
 
@@ -83,14 +83,14 @@ pub one_drop : SentAreRead → (run : Run) (key : List ℕ) (place : ℕ) (e : E
     → (x : Removal) × (removal_at run key place e ≡ Some x) × (is_enough x.side x.need x.items ≡ true)
 one_drop reads_back run key place e by h at kind = judged_some (removal_at run key place e) own
   where
-    own : judged (removal_at run key place e) ≡ true
-    own = let k : owned run.repos (e ∷ past_at run place) key ≡ true
-        = subst (λ past. owned run.repos past key ≡ true) (past_next run place e at) ((runs_are_safe reads_back run h).drops key (place + 1)) in
+    own : has_enough (removal_at run key place e) ≡ true
+    own = let k : is_rightful run.repos (e ∷ past_at run place) key ≡ true
+        = subst (λ past. is_rightful run.repos past key ≡ true) (past_next run place e at) ((runs_are_safe reads_back run h).drops key (place + 1)) in
         go (is_gone key e.kind) gone k
       where
         gone : is_gone key e.kind ≡ true
         gone = rw kind (bytes_eq-refl key)
 
-        go : (b : Bool) → b ≡ true → (not b || judged (removal_at run key place e)) ≡ true → judged (removal_at run key place e) ≡ true
+        go : (b : Bool) → b ≡ true → (not b || has_enough (removal_at run key place e)) ≡ true → has_enough (removal_at run key place e) ≡ true
         go true e' k = k
         go false e' k = cc

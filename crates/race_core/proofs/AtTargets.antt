@@ -15,7 +15,7 @@ use Rattle.node_model.specs.Slots.{Running}
 use Rattle.run_model.specs.Past.{clock_set, is_of}
 use Rattle.node_model.specs.Clocks.{runs_on}
 use Rattle.run_model.specs.Logs.{before_step, in_drop, read_at, settings_of, starts_drop}
-use Rattle.node_model.specs.Evidence.{candidates, gather, reached, standing_by}
+use Rattle.node_model.specs.Evidence.{candidates, gather, reached_candidates, standing_by}
 use Rattle.node_model.specs.SetUp.{SetUp}
 use Rattle.node_model.specs.State.{State}
 use Rattle.run_model.specs.States.{state_of, rows_at, works}
@@ -43,7 +43,7 @@ enough_of s clock read what heard =
     let need : Need = record { n = read.numcopies; m = read.mincopies } in
     is_enough side need
     (gather side need (λ c. offer_by clock (standing_by read what.key (id_of s.repos c)) (told_of heard c))
-    (reached (λ c. is_unasked (standing_by read what.key (id_of s.repos c)) (told_of heard c)) (candidates side (length s.repos) s.number (Jobs.or_own s.number side what.peer))) [])
+    (reached_candidates (λ c. is_unasked (standing_by read what.key (id_of s.repos c)) (told_of heard c)) (candidates side (length s.repos) s.number (Jobs.or_own s.number side what.peer))) [])
 
 enough_is : (s : SetUp) (st : State) (w : Work) → knows_enough s st w ≡ enough_of s st.clock (st.read w.number) w.what w.heard
 unfolding standing_of

@@ -25,10 +25,10 @@ use Rattle.node_model.specs.SetUp.{SetUp}
 use Rattle.node_model.specs.Jobs
 use Rattle.node_model.specs.Jobs.{AsksTime, Denied, Drops, Ends, Fresh, Late, Next, Orders, Phase, Removed, Work, partner, running, side_of}
 use Rattle.run_model.specs.States.{works}
-use Rattle.node_model.specs.Knows.{obeyed, proof_by}
+use Rattle.node_model.specs.Knows.{obeyed_outcome, proof_by}
 use Rattle.node_model.specs.JobStep.{Turn}
 use Rattle.node_model.specs.DropStep
-use Rattle.node_model.specs.DropStep.{removed, target}
+use Rattle.node_model.specs.DropStep.{removal_outcome, target}
 use Rattle.node_model.specs.Found.{Settled}
 use Rattle.node_model.specs.TransferStep.{sources}
 use Rattle.node_model.specs.Turns.{outcome_of}
@@ -148,12 +148,12 @@ module _ (reads_back : SentAreRead) (s : SetUp) (past : List Entry) (words : ℕ
           kind : x.by.made.kind ≡ ends_job j (TransferRefused failures.Closed)
           kind = sym (ap (λ (q : Entry). q.kind) x.by.is) ∙ is
 
-          by_word : (word : Option Word) → TransferRefused failures.Closed ≡ obeyed word (proof_by t.read t.w) → ⊥
+          by_word : (word : Option Word) → TransferRefused failures.Closed ≡ obeyed_outcome word (proof_by t.read t.w) → ⊥
           by_word None e = absurd (cc)
           by_word (Some Word.Absent) e = absurd (cc)
           by_word (Some v) e = absurd (cc)
 
-          by_side : (side : Side) → TransferRefused failures.Closed ≡ removed side t → ⊥
+          by_side : (side : Side) → TransferRefused failures.Closed ≡ removal_outcome side t → ⊥
           by_side Local e = by_word None e
           by_side Remote e = by_word (t.look.words (target t)) e
 

@@ -13,7 +13,7 @@ use Rattle.run_data.specs.declared.entry.EntryKind.{EntryKind}
 use Rattle.run_data.specs.declared.entry.EntryKind.TheVariants.{Begin, Bar, Order}
 use Rattle.run_data.specs.declared.entry.FrameText.TheVariants.{Line}
 use Rattle.run_data.specs.declared.job.Job.{Job}
-use Rattle.run_model.specs.Past.{begun, begun_job, begun_job_after, decided, is_of}
+use Rattle.run_model.specs.Past.{begun, begun_job, begun_job_after, decision, is_of}
 use Rattle.p2p_wire.specs.Messages.{order_of, text_of}
 use Rattle.run_model.specs.Drops.{done, key_in}
 use Rattle.run_model.specs.Logs.{in_drop, is_step, need_read}
@@ -96,7 +96,7 @@ talk_of s past e x run kind is =
 
 -- what a bar stands on, beside its row
 pub record BarStands (s : SetUp) (past : List Entry) (j : ℕ) (need : Need) (key : List ℕ) : Type 0 where
-  pub first : decided past s.number j ≡ None
+  pub first : decision past s.number j ≡ None
   pub open' : done past s.number j ≡ false
   pub nothing_asked : has_asked past s.number j ≡ false
   pub dropping : in_drop past s.number j ≡ true

@@ -12,7 +12,7 @@ use Rattle.node_model.specs.Rows.{option_is}
 use Rattle.p2p_wire.specs.declared.message.Message.TheVariants.{Failure}
 use Rattle.p2p_wire.specs.Messages.{order_of}
 use Rattle.run_model.specs.Said.{Says}
-use Rattle.run_model.specs.Frames.{sent, taken, way_of}
+use Rattle.run_model.specs.Frames.{frames_sent, taken_count, way_of}
 use Rattle.run_model.specs.Causes.{Answers}
 use Rattle.node_model.specs.SetUp.{SetUp}
 use Rattle.run_model.specs.Words.{awaits_word, word_of, word_told}
@@ -36,7 +36,7 @@ use Rattle.race_core.proofs.PhaseFacts.{only_orders}
 pub record DeniedBy (s : SetUp) (past : List Entry) (j : Running) : Type 0 where
   pub deadline : Option ℕ
   pub refused : Answers past s.number j.number (target_in s.number j) (Says (order_of deadline j.what.key)) (Says Failure)
-  pub word : word_told past s.number j.number (target_in s.number j) ≡ word_of (slice_get (sent refused.hears.before (way_of s.number refused.hears.f)) (taken refused.hears.before (way_of s.number refused.hears.f)))
+  pub word : word_told past s.number j.number (target_in s.number j) ≡ word_of (slice_get (frames_sent refused.hears.before (way_of s.number refused.hears.f)) (taken_count refused.hears.before (way_of s.number refused.hears.f)))
 
 abbrev pub DeniedAt : SetUp → List Entry → Running → Phase → Type 0
 DeniedAt s past j Denied = DeniedBy s past j
@@ -92,7 +92,7 @@ module _ (reads_back : SentAreRead) (s : SetUp) (p : List Entry) (e : Entry) (h 
       record {
         deadline = a.0;
         refused = a.1.0;
-        word = told ∙ sym (λ i. word_of (slice_get (sent (a.1.1 i) (way_of s.number (a.1.2 i))) (taken (a.1.1 i) (way_of s.number (a.1.2 i)))));
+        word = told ∙ sym (λ i. word_of (slice_get (frames_sent (a.1.1 i) (way_of s.number (a.1.2 i))) (taken_count (a.1.1 i) (way_of s.number (a.1.2 i)))));
       }
   denied_by phase z = tt
 

@@ -11,7 +11,7 @@ use Rattle.p2p_wire.specs.Messages.{message_of}
 use Rattle.node_model.specs.SetUp.{SetUp, version_of}
 use Rattle.run_model.specs.States.{state_of, end_at, content, session}
 use Rattle.node_model.specs.Ends.{End, EndName, end_sends, end_takes, frames, sent_at}
-use Rattle.node_model.specs.Sessions.{Session, said, sends_close, sent_more, session_after, session_left, session_took, took_message}
+use Rattle.node_model.specs.Sessions.{Session, message_said, sends_close, sent_more, session_after, session_left, session_took, took_message}
 use Rattle.node_model.specs.SessionStep.{Reply, here, now_of, on_frame}
 use Rattle.node_model.specs.Look.{Look}
 use Rattle.run_model.specs.Run.{OwnPast}
@@ -29,7 +29,7 @@ pub bodies_frames : (a : EndName) (c : End) (says : List FrameText) → bodies (
 bodies_frames a c [] = refl
 bodies_frames a c (b ∷ bs) = ap (λ (xs : List FrameText). b ∷ xs) (bodies_frames a (end_sends c b) bs)
 
-said_frames : (a : EndName) (c : End) (says : List FrameText) → said (frames a c says) ≡ told_first says
+said_frames : (a : EndName) (c : End) (says : List FrameText) → message_said (frames a c says) ≡ told_first says
 said_frames a c [] = refl
 said_frames a c (b ∷ bs) = refl
 

@@ -13,7 +13,7 @@ use Rattle.p2p_wire.specs.declared.message.Message.TheVariants.{Version, CheckPr
 use Rattle.p2p_wire.specs.Messages.{message_of, text_of}
 use Rattle.node_model.specs.Ends.{is_opening}
 use Rattle.node_model.specs.Sessions.{Doing, Waits, Gave, Wants, Takes, Took, Session, line_in, takes_more, took_message}
-use Rattle.node_model.specs.SessionStep.{Here, Reply, by_of, on_frame, on_message, on_text, refuses, silent, valid_answer}
+use Rattle.node_model.specs.SessionStep.{Here, Reply, by_of, on_frame, on_message, on_text, refuses, silent_reply, valid_answer}
 use Rattle.node_model.specs.Look.{failing}
 use Rattle.node_model.specs.Calls.{to_commit}
 use Rattle.race_core.proofs.Cases.{unless_found}
@@ -51,7 +51,7 @@ module _ (reads_back : SentAreRead) (size : List ℕ → Option ℕ) (h : Here) 
   bytes_silent v key k left n next e = go (nat_lt 0 n && nat_le n left) refl e
     where
       quiet : Reply
-      quiet = silent (Talk None)
+      quiet = silent_reply (Talk None)
 
       Ends : Reply → Type 0
       Ends x = (x.says ≡ Closing ∷ []) ⊎ ((x.says ≡ []) × (made v (takes_more key (k + n) (left - n)) ≡ made v next))

@@ -16,7 +16,7 @@ use Rattle.run_data.specs.declared.entry.EntryKind.TheVariants.{Gone, Order}
 use Rattle.run_data.specs.declared.entry.FrameText.TheVariants.{Line}
 use Rattle.run_data.specs.declared.entry.FrameView.{FrameView}
 use Rattle.run_data.specs.declared.job.Cause.{Cause}
-use Rattle.run_model.specs.Past.{Decision, clock, decided}
+use Rattle.run_model.specs.Past.{Decision, clock, decision}
 use Rattle.p2p_wire.specs.declared.message.Message.TheVariants.{Timestamp}
 use Rattle.p2p_wire.specs.Messages.{order_of, text_of}
 use Rattle.run_model.specs.Frames.{Way, up_of, way_of}
@@ -146,7 +146,7 @@ removes_step reads_back s past words e h b is part j key kind =
     let w = x.w in
     let agrees = list_agrees reads_back s past h w x.runs in
     let target : target_of s.number w ≡ s.number = target_local s.number (side_of w) w.what.peer x.local in
-    let need : (d : Decision) → decided past s.number w.number ≡ Some d → need_of (state_of s past) w ≡ d.need = λ d k. sym (decided_read reads_back s past h w x.runs d k) in
+    let need : (d : Decision) → decision past s.number w.number ≡ Some d → need_of (state_of s past) w ≡ d.need = λ d k. sym (decided_read reads_back s past h w x.runs d k) in
     subst (λ n. MayRemove s.repos s.number past e n key) (sym x.number_is) (record {
       one_clock = one_clock s past h.run w x.runs;
       barred = subst (λ n. Rattle.run_model.specs.Past.bar past s.number key ≡ Some n) x.number_is (removal_barred s past words e h.run part j key kind);

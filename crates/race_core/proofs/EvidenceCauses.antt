@@ -23,8 +23,8 @@ use Rattle.run_model.specs.Past.{clock}
 use Rattle.run_model.specs.Logs.{need_read}
 use Rattle.run_data.specs.declared.job.Cause.{Cause}
 use Rattle.run_model.specs.Drops
-use Rattle.node_model.specs.Evidence.{Standing, gather, proof_of, Claimed, Ignored, Asked, Offer, Gives, Fails, candidates, failures, is_locked, pick, reached}
-use Rattle.run_model.specs.Drops.{asked, why, told_cause}
+use Rattle.node_model.specs.Evidence.{Standing, gather, proof_of, Claimed, Ignored, Asked, Offer, Gives, Fails, candidates, failures, is_locked, pick, reached_candidates}
+use Rattle.run_model.specs.Drops.{offer_from, why, told_cause}
 use Rattle.run_model.specs.Causes.{FoundExpired, FoundLacking, FoundOld, IsCauseOf, items}
 use Rattle.node_model.specs.SetUp.{SetUp}
 use Rattle.run_model.specs.States.{state_of, works}
@@ -157,7 +157,7 @@ module _ (reads_back : SentAreRead) (s : SetUp) (past : List Entry) (words : ℕ
 -- ---- Lacking
 
 -- none of them waits
-reached_all : (q : ℕ → Bool) (cs : List ℕ) → ((c : ℕ) → Member c cs → q c ≡ false) → reached q cs ≡ cs
+reached_all : (q : ℕ → Bool) (cs : List ℕ) → ((c : ℕ) → Member c cs → q c ≡ false) → reached_candidates q cs ≡ cs
 reached_all q [] none = refl
 reached_all q (c ∷ cs) none = rw (none c (inl refl)) (ap (λ zs. c ∷ zs) (reached_all q cs (λ d m. none d (inr m))))
 
@@ -221,17 +221,17 @@ module _ (reads_back : SentAreRead) (s : SetUp) (past : List Entry) (words : ℕ
       let cs = candidates_of s w in
       let a = list_agrees reads_back s past h w m in
       let none = none_found (is_to_ask s (state_of s past) w) cs last in
-      let waits : reached (still_waits s.repos past s.number w.number) cs ≡ cs = reached_all (still_waits s.repos past s.number w.number) cs (λ c n. off (still_waits s.repos past s.number w.number c) (λ yes'. sym (none c n) ∙ a.waits_too c yes')) in
-      let asks : reached (is_to_ask s (state_of s past) w) cs ≡ cs = reached_all (is_to_ask s (state_of s past) w) cs none in
+      let waits : reached_candidates (still_waits s.repos past s.number w.number) cs ≡ cs = reached_all (still_waits s.repos past s.number w.number) cs (λ c n. off (still_waits s.repos past s.number w.number c) (λ yes'. sym (none c n) ∙ a.waits_too c yes')) in
+      let asks : reached_candidates (is_to_ask s (state_of s past) w) cs ≡ cs = reached_all (is_to_ask s (state_of s past) w) cs none in
       items_as reads_back s past words e h own run j w m
       ∙ ap (λ zs. gather (side_of w) (need_of (state_of s past) w) (heards.knows s.repos past s.number w.number) zs []) (waits ∙ sym asks)
-      ∙ gather_same (side_of w) (need_of (state_of s past) w) (heards.knows s.repos past s.number w.number) (Knowing.knows s (state_of s past) w) (knows_same s past w a) (reached (is_to_ask s (state_of s past) w) cs) []
+      ∙ gather_same (side_of w) (need_of (state_of s past) w) (heards.knows s.repos past s.number w.number) (Knowing.knows s (state_of s past) w) (knows_same s past w a) (reached_candidates (is_to_ask s (state_of s past) w) cs) []
     where
       off : (b : Bool) → (b ≡ true → false ≡ true) → b ≡ false
       off false f = refl
       off true f = absurd (let both = f refl in cc)
 
-  asked_fails : (w : Work) → Member w (works past s.number) → (c : ℕ) → Knowing.knows s (state_of s past) w c ≡ Fails → asked s.repos past s.number w.number c ≡ Fails
+  asked_fails : (w : Work) → Member w (works past s.number) → (c : ℕ) → Knowing.knows s (state_of s past) w c ≡ Fails → offer_from s.repos past s.number w.number c ≡ Fails
   asked_fails w m c fails = asked_known s.repos past s.number w.number c run ∙ knows_same s past w (list_agrees reads_back s past h w m) c ∙ fails
 
   caused : (w : Work) (m : Member w (works past s.number)) → w.part ≡ Drops → next_of s (state_of s past) w ≡ None → (c : ℕ) → Member c (candidates_of s w) → Knowing.knows s (state_of s past) w c ≡ Fails
@@ -269,9 +269,9 @@ module _ (reads_back : SentAreRead) (s : SetUp) (past : List Entry) (words : ℕ
           let f = Knowing.knows s (state_of s past) w in
           let g : ℕ → Cause = λ c. cause_by (word_told past s.number w.number c) (standing_of s (state_of s past) w c) (heard_of w c) in
           let cands : cs ≡ candidates (side_in (running w)) (length s.repos) s.number (target_in s.number (running w)) = (λ i. candidates (sym (side_is w) i) (length s.repos) s.number (sym (target_is s.number w) i)) in
-          let knows_none : (c : ℕ) → asked s.repos past s.number w.number c ≡ Fails → Knowing.knows s (state_of s past) w c ≡ Fails = (λ c a. sym (knows_same s past w (list_agrees reads_back s past h w m) c) ∙ sym (asked_known s.repos past s.number w.number c run) ∙ a) in
+          let knows_none : (c : ℕ) → offer_from s.repos past s.number w.number c ≡ Fails → Knowing.knows s (state_of s past) w c ≡ Fails = (λ c a. sym (knows_same s past w (list_agrees reads_back s past h w m) c) ∙ sym (asked_known s.repos past s.number w.number c run) ∙ a) in
           let each = failures_each (IsCauseOf s.repos past s.number w.number cs) f g cs cs (λ c n. n) (λ c n fails. caused w m y.part_is y.last c n fails) in
-          let all = Each-from_members (λ c. asked s.repos past s.number w.number c ≡ Fails → Member (record { repo = c; cause = why s.repos past s.number w.number c }) reasons) cs
+          let all = Each-from_members (λ c. offer_from s.repos past s.number w.number c ≡ Fails → Member (record { repo = c; cause = why s.repos past s.number w.number c }) reasons) cs
           (λ c n a. subst (Member (record { repo = c; cause = why s.repos past s.number w.number c })) (sym reasons_are)
           (subst (λ q. Member (record { repo = c; cause = q }) (failures f g cs)) (sym (why_is w m y.part_is y.last c n (knows_none c a))) (failures_have f g cs c n (knows_none c a)))) in
           record {
@@ -279,7 +279,7 @@ module _ (reads_back : SentAreRead) (s : SetUp) (past : List Entry) (words : ℕ
             wants = (λ i. is_enough (side_is w i) (need_read past s.number w.number) (same i)) ∙ y.wants;
             proof_is = y.proof_is ∙ ap (proof_of (length s.repos) (need_read past s.number w.number)) (sym same);
             causes = subst (λ ds. Each (IsCauseOf s.repos past s.number w.number ds) reasons) cands (subst (Each (IsCauseOf s.repos past s.number w.number cs)) (sym reasons_are) each);
-            all = subst (Each (λ c. asked s.repos past s.number w.number c ≡ Fails → Member (record { repo = c; cause = why s.repos past s.number w.number c }) reasons)) cands all;
+            all = subst (Each (λ c. offer_from s.repos past s.number w.number c ≡ Fails → Member (record { repo = c; cause = why s.repos past s.number w.number c }) reasons)) cands all;
           }
 
       settled : (x : Ending s past e j (Refused (refusals.Lacking proof reasons))) → DropSettled (turn_at s past e x.by) past (refusals.Lacking proof reasons) → ⊥

@@ -12,7 +12,7 @@ use Rattle.run_data.specs.Repos.{IsSetUp}
 use Rattle.p2p_wire.specs.declared.message.Message.TheVariants.{Get, Invalid}
 use Rattle.run_model.specs.Past.{is_of}
 use Rattle.run_model.specs.Said.{Says, is_request, message_in}
-use Rattle.run_model.specs.Frames.{Flying, MayTake, Way, last_request, said_of, sender_of, sent, taken, taken_if, up_of, way_of}
+use Rattle.run_model.specs.Frames.{Flying, MayTake, Way, last_request, said_of, sender_of, frames_sent, taken_count, taken_if, up_of, way_of}
 use Rattle.run_model.specs.Causes.{TookGet}
 use Rattle.run_model.specs.Run.{RunPast, RunStep, set_up}
 use Rattle.run_model.specs.States.{content}
@@ -34,8 +34,8 @@ on_way-same : (before : List Entry) (g : FrameView) (v u : Way) → v ≡ u → 
 on_way-same before g v u same comes = (
   record {
     it = comes.it;
-    next = subst (λ w. slice_get (sent before w) (taken before w) ≡ Some comes.it) same comes.next;
-    seq_is = subst (λ w. g.seq ≡ taken before w + 1) same comes.seq_is;
+    next = subst (λ w. slice_get (frames_sent before w) (taken_count before w) ≡ Some comes.it) same comes.next;
+    seq_is = subst (λ w. g.seq ≡ taken_count before w + 1) same comes.seq_is;
     body_is = comes.body_is;
   },
   refl,
@@ -60,7 +60,7 @@ module _ (reads_back : SentAreRead) (run : Run) (repos : Each IsSetUp run.repos)
       let before = t.it.before in
       let r = sender_of w in
       let all = message_past reads_back run repos past h in
-      let s = sending past w (taken past w) t.it t.next in
+      let s = sending past w (taken_count past w) t.it t.next in
       let at = step_at run past x before h s.occurs in
       let part = part_of (set_up run) before x r at.0 s.repo_is in
       let g_up : t.it.frame.up ≡ false = up_at w x t.it.frame false s.sends up in

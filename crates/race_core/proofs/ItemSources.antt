@@ -25,7 +25,7 @@ use Rattle.run_model.specs.Said.{Said, Says, message_in}
 use Rattle.run_model.specs.Frames.{Sent, is_job, sender, sender_of, taker_of, way_of}
 use Rattle.node_model.specs.Slots.{job_of}
 use Rattle.node_model.specs.Evidence.{Gives, Standing}
-use Rattle.run_model.specs.Drops.{Lock, Look, Vouch, asked, reply, standing, tells, told_by, vouch}
+use Rattle.run_model.specs.Drops.{Lock, Look, Vouch, offer_from, reply, standing, tells, told_by, vouch}
 use Rattle.run_model.specs.Safety.{Removal, past_at}
 use Rattle.run_model.specs.Run.{IsRun}
 use Rattle.race_core.specs.Items.{AsksLock, IsFor, IsHeld, IsToldBy, SendsUp, WasSeen}
@@ -195,7 +195,7 @@ held_by run key place judge c end hold since owner messages one told end_is last
     record {
       asking = ask.asked_it.entry;
       before = ask.asked_it.before;
-      asked = ask.asked_it.occurs;
+      offer_from = ask.asked_it.occurs;
       asks = ask.asks;
       end_is = end_is ∙ ap (λ n. n + hold_time) (end_then run.repos judge.past judge.repo judge.job since one ask.asked_it);
       hold = t.hold;
@@ -212,11 +212,11 @@ held_by run key place judge c end hold since owner messages one told end_is last
 
 -- what the item's repository offered
 item_asked : SentAreRead → (run : Run) (key : List ℕ) (place : ℕ) (e : Entry) (x : Removal) (judge : Judge) (item : Evidence) → IsRun run → slice_get run.entries place ≡ Some e → removal_at run key place e ≡ Some x
-    → judge_at run place e ≡ Some judge → Member item x.items → asked run.repos judge.past judge.repo judge.job item.repo ≡ Gives item.kind
+    → judge_at run place e ≡ Some judge → Member item x.items → offer_from run.repos judge.past judge.repo judge.job item.repo ≡ Gives item.kind
 item_asked reads_back run key place e x judge item h at is judge_is m =
     let d = dropped reads_back run key place e x judge h at is judge_is in
-    Each-member (λ (i : Evidence). asked run.repos judge.past judge.repo judge.job i.repo ≡ Gives i.kind) x.items item
-    (subst (Each (λ (i : Evidence). asked run.repos judge.past judge.repo judge.job i.repo ≡ Gives i.kind)) (sym d.items_are) (evidence_asked x.side run.repos judge.past judge.repo judge.job d.r x.need)) m
+    Each-member (λ (i : Evidence). offer_from run.repos judge.past judge.repo judge.job i.repo ≡ Gives i.kind) x.items item
+    (subst (Each (λ (i : Evidence). offer_from run.repos judge.past judge.repo judge.job i.repo ≡ Gives i.kind)) (sym d.items_are) (evidence_asked x.side run.repos judge.past judge.repo judge.job d.r x.need)) m
 
 -- a locked item of a removal stands on a lock that was asked for, and on a hold that is there
 pub item_held : SentAreRead → (run : Run) (key : List ℕ) (place : ℕ) (e : Entry) (x : Removal) (judge : Judge) (item : Evidence) (end : ℕ) → IsRun run → slice_get run.entries place ≡ Some e → removal_at run key place e ≡ Some x
@@ -235,7 +235,7 @@ item_held reads_back run key place e x judge item end h at is judge_is m kind = 
     said : Option Vouch
     said = reply judge.past judge.repo judge.job item.repo
 
-    gives : asked run.repos judge.past judge.repo judge.job item.repo ≡ Gives (Locked end)
+    gives : offer_from run.repos judge.past judge.repo judge.job item.repo ≡ Gives (Locked end)
     gives = item_asked reads_back run key place e x judge item h at is judge_is m ∙ ap (λ k. Gives k) kind
 
     go : (hold since : ℕ) × ((owner : By) × ((k : List ℕ) × (said ≡ Some (Lock hold since owner k)))) → IsHeld run key place judge item.repo end
@@ -282,7 +282,7 @@ seen_by repos judge c key run h = by_vouch (vouches_by p x c judge.repo judge.jo
           free = found.0.free;
           asking = t.0.it.entry;
           before = t.0.it.before;
-          asked = t.0.sending.occurs;
+          offer_from = t.0.sending.occurs;
           job_is = t.0.is_asked;
           asks = sends_up p c judge.repo judge.job y.f (Says (CheckPresent key)) y.from_client y.asked_is t.0;
           told = elim given.told [ inl same ↦ absurd (own.taken_from y.f y.takes_it (asker_is p c judge.repo judge.job y.f t.0 ∙ sym same)) | inr k ↦ k ];

@@ -30,7 +30,7 @@ use Rattle.run_model.specs.States.{rows_at, works}
 use Rattle.node_model.specs.Sessions.{line_in}
 use Rattle.node_model.specs.Ends.{EndName, end_after}
 use Rattle.node_model.specs.Jobs
-use Rattle.node_model.specs.Jobs.{Drops, Ends, Fresh, Greets, Next, Opens, Part, Phase, Puts, PutsAnswer, PutsOffer, Work, closed_part, first_part, job_end, talks_on, transferred, work_kind}
+use Rattle.node_model.specs.Jobs.{Drops, Ends, Fresh, Greets, Next, Opens, Part, Phase, Puts, PutsAnswer, PutsOffer, Work, closed_part, first_part, job_end, talks_on, after_transfer, work_kind}
 use Rattle.node_model.specs.Look.{Made}
 use Rattle.node_model.specs.JobStep.{Turn, end_with, me, wrong}
 use Rattle.node_model.specs.JobStep
@@ -78,7 +78,7 @@ wrong_dead t f peer x part is =
     shut : (end_after (job_end y peer) (t.ends (job_end y peer)) e).opened ≡ false
     shut = subst (λ (a : EndName). (end_after a (t.ends a) e).opened ≡ false) (sym same) (rw ((answers_here t.w peer f (end_with t peer) Closing x.of_end).sends_here) refl)
 
-transferred_dead : (w : Work) (o : Outcome) → (transferred w o).part ≡ Puts → is_live (transferred w o).phase ≡ false
+transferred_dead : (w : Work) (o : Outcome) → (after_transfer w o).part ≡ Puts → is_live (after_transfer w o).phase ≡ false
 transferred_dead w o = if_either (λ (x : Work). x.part ≡ Puts → is_live x.phase ≡ false) (Jobs.is_move w.what.kind) (record w { part = Drops; phase = Fresh; fills = false }) (record w { phase = Ends o; fills = false })
     (λ h part. absurd (let both : Drops ≡ Puts = part in cc)) (λ h part. refl)
 

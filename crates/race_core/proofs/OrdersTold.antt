@@ -33,7 +33,7 @@ use Rattle.run_model.specs.States.{rows_at, works}
 use Rattle.node_model.specs.Ends.{end_after}
 use Rattle.node_model.specs.Sessions.{line_in}
 use Rattle.node_model.specs.Jobs
-use Rattle.node_model.specs.Jobs.{AsksTime, Drops, Ends, Fresh, Gets, GetsBytes, GetsWord, Greets, Orders, Part, Phase, Puts, Rows, Work, claims, closed_part, fault_of, fault_phase, first_look, gets_bytes, hears_frame, job_end, learns, listens, partner, put_from, puts_answer, puts_bytes, quiet, says, says_some, sends, side_of, taken_message, talks, talks_on, target_of, took, took_line, transferred, unreleased, word_taken, work_kind}
+use Rattle.node_model.specs.Jobs.{AsksTime, Drops, Ends, Fresh, Gets, GetsBytes, GetsWord, Greets, Orders, Part, Phase, Puts, Rows, Work, claims, closed_part, fault_of, fault_phase, first_look, gets_bytes, hears_frame, job_end, learns, listens, partner, put_from, puts_answer, puts_bytes, quiet, says, says_some, sends, side_of, taken_message, talks, talks_on, target_of, took, took_line, after_transfer, after_failed_release, word_taken, work_kind}
 use Rattle.node_model.specs.JobStep.{Turn, wrong}
 use Rattle.node_model.specs.DropStep.{first_end, takes_time, times}
 use Rattle.node_model.specs.Turns.{takes_answer}
@@ -136,7 +136,7 @@ sends_order w time taken f fs = go f.body refl
 
 -- ---- what is heard
 
-transferred_off : (w : Work) (o : Outcome) → ordered_end o ≡ false → has_order (transferred w o).phase ≡ false
+transferred_off : (w : Work) (o : Outcome) → ordered_end o ≡ false → has_order (after_transfer w o).phase ≡ false
 transferred_off w o n = if_either (λ (x : Work). has_order x.phase ≡ false) (Jobs.is_move w.what.kind) (record w { part = Drops; phase = Fresh; fills = false }) (record w { phase = Ends o; fills = false }) (λ e. refl) (λ e. n)
 
 look_off : (r : ℕ) (w : Work) (part : Part) (here : Bool) (bar : Option ℕ) → has_order (first_look r w part here bar).phase ≡ false
@@ -218,7 +218,7 @@ fault_kept r w part side phase = ended w.part
     ended Gets = refl
     ended Puts = refl
 
-unheld_kept : (w : Work) (time : ℕ) (phase : Phase) → has_order (unreleased w time phase).phase ≡ true → has_order w.phase ≡ true
+unheld_kept : (w : Work) (time : ℕ) (phase : Phase) → has_order (after_failed_release w time phase).phase ≡ true → has_order w.phase ≡ true
 unheld_kept w time AsksTime e = absurd (true≢false (sym e))
 unheld_kept w time phase e = e
 

@@ -37,7 +37,7 @@ use Rattle.node_model.specs.State.{State}
 use Rattle.run_model.specs.States.{state_of, rows_at, works}
 use Rattle.node_model.specs.AnyTime.{IsPeer}
 use Rattle.node_model.specs.Jobs
-use Rattle.node_model.specs.Jobs.{Drops, Fresh, Gets, Heard, Part, Phase, Puts, Rows, Work, claims, fault_of, first_look, first_part, learns, partner, side_of, talks, target_of, unreleased, work_kind}
+use Rattle.node_model.specs.Jobs.{Drops, Fresh, Gets, Heard, Part, Phase, Puts, Rows, Work, claims, fault_of, first_look, first_part, learns, partner, side_of, talks, target_of, after_failed_release, work_kind}
 use Rattle.node_model.specs.Calls.{to_hold, to_release}
 use Rattle.node_model.specs.Look.{Made, failing}
 use Rattle.race_core.proofs.Knowing.{is_to_ask}
@@ -230,7 +230,7 @@ talk_tells t y e part phase what heard sent taken rows there bar told =
 
 fault_tells : (r : ℕ) (w : Work) (time : ℕ) (call : Call) → w.part ≡ Drops → w.phase ≡ Fresh → side_of w ≡ Remote → is_fresh (fault_of r w time call).phase ≡ false → (h : Heard) × ((fault_of r w time call).heard ≡ (r, h) ∷ w.heard)
 fault_tells r w time PutFile part phase side later = absurd (fresh_off w.phase phase later)
-fault_tells r w time Unhold part phase side later = absurd (fresh_off w.phase phase (subst (λ (x : Work). is_fresh x.phase ≡ false) (ap (unreleased w time) phase) later))
+fault_tells r w time Unhold part phase side later = absurd (fresh_off w.phase phase (subst (λ (x : Work). is_fresh x.phase ≡ false) (ap (after_failed_release w time) phase) later))
 fault_tells r w time call part phase side later = (Jobs.Lacks causes.Fault, λ i. (Jobs.fault_phase r w (part i) (side i) (phase i)).heard)
 
 module _ (t : Turn) (m : Made) (rows : Rows) (e : Entry) (part : t.w.part ≡ Drops) (phase : t.w.phase ≡ Fresh) (side : side_of t.w ≡ Remote) (sent : e.sent ≡ m.sent) (taken : e.taken ≡ m.taken) (there : rows.present ≡ t.present) (bar : rows.bar ≡ t.bar) where

@@ -32,10 +32,10 @@ use Rattle.run_model.specs.States.{state_of, works}
 use Rattle.node_model.specs.AnyTime.{IsPeer}
 use Rattle.node_model.specs.Jobs.{Denied, Drops, Ends, Fresh, Late, Phase, Removed, Work, running, side_of}
 use Rattle.node_model.specs.Look.{Look}
-use Rattle.node_model.specs.Knows.{obeyed, proof_by}
+use Rattle.node_model.specs.Knows.{obeyed_outcome, proof_by}
 use Rattle.node_model.specs.JobStep.{Turn}
 use Rattle.node_model.specs.DropStep
-use Rattle.node_model.specs.DropStep.{removed, target, until}
+use Rattle.node_model.specs.DropStep.{removal_outcome, target, until}
 use Rattle.node_model.specs.Found.{Judged, Settled}
 use Rattle.node_model.specs.Turns.{job_step, outcome_of, slot_step}
 use Rattle.node_model.specs.OwedStep.{owed_step}
@@ -119,16 +119,16 @@ DropSettled t past refusal =
     ((t.w.phase ≡ Ends (Refused refusal)) × DropStands t.read.repo past (running t.w) refusal)
     ⊎ (((t.w.phase ≡ Denied) × (Refused refusal ≡ DropStep.denied t)) ⊎ ((time : ℕ) × (t.w.phase ≡ Late time) × (Refused refusal ≡ DropStep.expired (t.clock time) (DropStep.first_end t))))
 
-obeyed_apart : (word : Option Word) (t : Turn) (refusal : DropRefusal) → Refused refusal ≡ obeyed word (proof_by t.read t.w) → ⊥
+obeyed_apart : (word : Option Word) (t : Turn) (refusal : DropRefusal) → Refused refusal ≡ obeyed_outcome word (proof_by t.read t.w) → ⊥
 obeyed_apart (Some Word.Absent) t refusal e = absurd (cc)
 obeyed_apart None t refusal e = absurd (cc)
 obeyed_apart (Some word) t refusal e = other word e
   where
-    other : (word : Word) → Refused refusal ≡ obeyed (Some word) (proof_by t.read t.w) → ⊥
+    other : (word : Word) → Refused refusal ≡ obeyed_outcome (Some word) (proof_by t.read t.w) → ⊥
     other Word.Absent e = absurd (cc)
     other w e = absurd (cc)
 
-removed_apart : (side : Side) (t : Turn) (refusal : DropRefusal) → Refused refusal ≡ removed side t → ⊥
+removed_apart : (side : Side) (t : Turn) (refusal : DropRefusal) → Refused refusal ≡ removal_outcome side t → ⊥
 removed_apart Local t refusal e = obeyed_apart None t refusal e
 removed_apart Remote t refusal e = obeyed_apart (t.look.words (target t)) t refusal e
 
@@ -147,16 +147,16 @@ pub transfer_settled : (t : Turn) (past : List Entry) (refusal : TransferRefusal
     → TransferStands t.read.repo past (running t.w) refusal ⊎ (refusal ≡ failures.Closed)
 transfer_settled t past refusal taken standing z = go t.w.phase standing z.outcome_is
   where
-    by_side : (side : Side) → TransferRefused refusal ≡ removed side t → ⊥
+    by_side : (side : Side) → TransferRefused refusal ≡ removal_outcome side t → ⊥
     by_side Local e = by_word None e
       where
-        by_word : (word : Option Word) → TransferRefused refusal ≡ obeyed word (proof_by t.read t.w) → ⊥
+        by_word : (word : Option Word) → TransferRefused refusal ≡ obeyed_outcome word (proof_by t.read t.w) → ⊥
         by_word None e = absurd (cc)
         by_word (Some Word.Absent) e = absurd (cc)
         by_word (Some w) e = absurd (cc)
     by_side Remote e = by_word (t.look.words (target t)) e
       where
-        by_word : (word : Option Word) → TransferRefused refusal ≡ obeyed word (proof_by t.read t.w) → ⊥
+        by_word : (word : Option Word) → TransferRefused refusal ≡ obeyed_outcome word (proof_by t.read t.w) → ⊥
         by_word None e = absurd (cc)
         by_word (Some Word.Absent) e = absurd (cc)
         by_word (Some w) e = absurd (cc)

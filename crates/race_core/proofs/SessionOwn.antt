@@ -22,7 +22,7 @@ use Rattle.p2p_wire.specs.Messages.{order_of, message_of, text_of}
 use Rattle.run_model.specs.Said.{Said, Says, is_request, message_in}
 use Rattle.race_core.proofs.Ways.{is_answer, answers, down_of, way_from}
 use Rattle.run_model.specs.Frames.{Way, is_on, on_way, says, taken_if, taker_of, up_of, way_of}
-use Rattle.node_model.specs.SetUp.{SetUp, others, served, slots}
+use Rattle.node_model.specs.SetUp.{SetUp, others, served_connections, slots}
 use Rattle.node_model.specs.Ends.{End, EndName, end_sends, end_takes, frames, is_opening, sends_at, sent_at, server_end, takes_at}
 use Rattle.run_model.specs.States.{end_at, session, state_of}
 use Rattle.node_model.specs.Sessions.{Session, line_in}
@@ -277,7 +277,7 @@ of_slots peer (x ∷ xs) p q (inl i) = ap (λ (c : ℕ × ℕ). c.0) i
 of_slots peer (x ∷ xs) p q (inr i) = of_slots peer xs p q i
 
 -- who is served is another repository
-pub served_other : (s : SetUp) (p q : ℕ) → Member (p, q) (served s) → p ≢ s.number
+pub served_other : (s : SetUp) (p q : ℕ) → Member (p, q) (served_connections s) → p ≢ s.number
 served_other s p q m same =
     let w = of_flat (λ peer. map (λ slot. (peer, slot)) slots) (others s) (p, q) m in
     let peer : p ≡ w.0 = of_slots w.0 slots p q w.2 in
@@ -296,7 +296,7 @@ frame_of a c body = record { peer = a.peer; slot = a.slot; up = a.client; epoch 
 pub record SessionSpeaks (s : SetUp) (e : Entry) : Type 0 where
   pub p : ℕ
   pub q : ℕ
-  pub serves : Member (p, q) (served s)
+  pub serves : Member (p, q) (served_connections s)
   pub takes : (f : FrameView) → e.taken ≡ Some f → takes_at (server_end p q) f ≡ true
   pub c : End
   pub says : List FrameText

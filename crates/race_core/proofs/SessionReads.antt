@@ -24,7 +24,7 @@ use Rattle.node_model.specs.Sessions.{Doing, Waits, Guards, Gives, Gave, Wants, 
 use Rattle.run_model.specs.States.{state_of}
 use Rattle.node_model.specs.Look.{Look, failing}
 use Rattle.node_model.specs.Calls.{to_commit, to_lock, to_offer, to_remove}
-use Rattle.node_model.specs.SessionStep.{Here, Reply, bar_on, by_of, bytes_left, check_answer, close_kind, content_of, gives_next, here, is_filled, is_held, is_here, lock_answer, now_of, on_bytes, on_frame, on_lock, on_message, on_piece, on_put, on_remove, on_remove_before, on_request, on_text, on_unlock, on_valid, put_answer, refuses, remove_answer, reply, shuts, silent, tries, unexpected, valid_answer}
+use Rattle.node_model.specs.SessionStep.{Here, Reply, bar_on, by_of, bytes_left, check_answer, close_kind, content_of, gives_next, here, is_filled, is_held, is_here, lock_answer, now_of, on_bytes, on_frame, on_lock, on_message, on_piece, on_put, on_remove, on_remove_before, on_request, on_text, on_unlock, on_valid, put_answer, refuses, remove_answer, reply, shuts, silent_reply, tries, unexpected_reply, valid_answer}
 use Rattle.run_model.specs.Run.{OwnPast}
 use Rattle.race_core.proofs.Cases.{unless_found}
 use Rattle.race_core.proofs.Spoken.{auth_read, data_read, part_read, time_read, version_read}
@@ -48,7 +48,7 @@ bytes_read : (n : ℕ) → SaysRead (Bytes n ∷ [])
 bytes_read n text (inl same) = absurd (cc)
 bytes_read n text (inr none) = absurd none
 
-plain : is_utf8 (codes "unexpected") ≡ true
+plain : is_utf8 (codes "unexpected_reply") ≡ true
 unfolding is_utf8 utf8_valid_len chars lib.Utf8.encode
 plain = refl
 
@@ -56,14 +56,14 @@ busy : is_utf8 (codes "busy") ≡ true
 unfolding is_utf8 utf8_valid_len chars lib.Utf8.encode
 busy = refl
 
-pub unexpected_read : SentAreRead → message_of (text_of (Error (codes "unexpected"))) ≡ Some (Error (codes "unexpected"))
-unexpected_read reads_back = reads_back (Error (codes "unexpected")) plain (omega arith)
+pub unexpected_read : SentAreRead → message_of (text_of (Error (codes "unexpected_reply"))) ≡ Some (Error (codes "unexpected_reply"))
+unexpected_read reads_back = reads_back (Error (codes "unexpected_reply")) plain (omega arith)
 
 pub busy_read : SentAreRead → message_of (text_of (Error (codes "busy"))) ≡ Some (Error (codes "busy"))
 busy_read reads_back = reads_back (Error (codes "busy")) busy (omega arith)
 
-odd_read : SentAreRead → SaysRead (Line (text_of (Error (codes "unexpected"))) ∷ Closing ∷ [])
-odd_read reads_back text (inl same) = let is : text ≡ text_of (Error (codes "unexpected")) = cc in (Error (codes "unexpected"), ap message_of is ∙ unexpected_read reads_back)
+odd_read : SentAreRead → SaysRead (Line (text_of (Error (codes "unexpected_reply"))) ∷ Closing ∷ [])
+odd_read reads_back text (inl same) = let is : text ≡ text_of (Error (codes "unexpected_reply")) = cc in (Error (codes "unexpected_reply"), ap message_of is ∙ unexpected_read reads_back)
 odd_read reads_back text (inr more) = close_read text more
 
 abbrev Read : Reply → Type 0
@@ -136,16 +136,16 @@ module _ (reads_back : SentAreRead) (s : SetUp) (past : List Entry) (h : OwnPast
   request_ok v (CheckPresent key) = tries_read (calls.Has ∷ []) refuses (check_answer key (is_here spot key) (bar_on spot key)) refuses_read (check_read key (is_here spot key) (bar_on spot key))
   request_ok v (LockContent key) = lock_ok key
   request_ok v (Remove key) = remove_ok key
-  request_ok v (RemoveBefore n key) = if_either Read (nat_le 3 v) (on_remove_before spot n key) (unexpected spot) (λ e. before_ok n key) (λ e. odd_read reads_back)
-  request_ok v GetTimestamp = if_either Read (nat_le 3 v) (reply (Talk None) (Timestamp (now_of spot / 1000))) (unexpected spot)
+  request_ok v (RemoveBefore n key) = if_either Read (nat_le 3 v) (on_remove_before spot n key) (unexpected_reply spot) (λ e. before_ok n key) (λ e. odd_read reads_back)
+  request_ok v GetTimestamp = if_either Read (nat_le 3 v) (reply (Talk None) (Timestamp (now_of spot / 1000))) (unexpected_reply spot)
       (λ e. one_read (Timestamp (now_of spot / 1000)) (time_read reads_back s past k.time h early)) (λ e. odd_read reads_back)
-  request_ok v (Get n file key) = if_either Read (nat_le 1 v) _ (unexpected spot) (λ e. get_ok n key) (λ e. odd_read reads_back)
-  request_ok v (Put file key) = if_either Read (nat_le 1 v) (on_put spot key) (unexpected spot) (λ e. put_ok key) (λ e. odd_read reads_back)
+  request_ok v (Get n file key) = if_either Read (nat_le 1 v) _ (unexpected_reply spot) (λ e. get_ok n key) (λ e. odd_read reads_back)
+  request_ok v (Put file key) = if_either Read (nat_le 1 v) (on_put spot key) (unexpected_reply spot) (λ e. put_ok key) (λ e. odd_read reads_back)
   request_ok v m = odd_read reads_back
 
   unlock_ok : (hold : ℕ) (key q : List ℕ) → Read (on_unlock spot hold key q)
-  unlock_ok hold key q = if_either Read (bytes_eq q key) (tries spot (calls.Unhold ∷ []) [] (silent (Release hold key))) (unexpected spot)
-      (λ e. tries_read (calls.Unhold ∷ []) [] (silent (Release hold key)) no_read no_read) (λ e. odd_read reads_back)
+  unlock_ok hold key q = if_either Read (bytes_eq q key) (tries spot (calls.Unhold ∷ []) [] (silent_reply (Release hold key))) (unexpected_reply spot)
+      (λ e. tries_read (calls.Unhold ∷ []) [] (silent_reply (Release hold key)) no_read no_read) (λ e. odd_read reads_back)
 
   valid_ok : (key : List ℕ) (size : ℕ) → Read (on_valid spot key size)
   valid_ok key size = tries_read (to_commit k.right) refuses (valid_answer (by_of spot) size key k.right) refuses_read (valid_read (by_of spot) size key k.right)
@@ -162,8 +162,8 @@ module _ (reads_back : SentAreRead) (s : SetUp) (past : List Entry) (h : OwnPast
   message_ok v doing m = odd_read reads_back
 
   bytes_ok : (n : ℕ) (doing : Doing) → Read (on_bytes spot n doing)
-  bytes_ok n (Takes key size left) = if_either Read (nat_lt 0 n && nat_le n left) (tries spot (calls.Append ∷ []) (Closing ∷ []) (silent (Talk None))) (unexpected spot)
-      (λ e. tries_read (calls.Append ∷ []) (Closing ∷ []) (silent (Talk None)) close_read no_read) (λ e. odd_read reads_back)
+  bytes_ok n (Takes key size left) = if_either Read (nat_lt 0 n && nat_le n left) (tries spot (calls.Append ∷ []) (Closing ∷ []) (silent_reply (Talk None))) (unexpected_reply spot)
+      (λ e. tries_read (calls.Append ∷ []) (Closing ∷ []) (silent_reply (Talk None)) close_read no_read) (λ e. odd_read reads_back)
   bytes_ok n doing = odd_read reads_back
 
   text_ok : (was : Session) (m : Option Message) → Read (on_text spot was m)

@@ -13,9 +13,9 @@ use Rattle.run_data.specs.declared.entry.EntryKind.{EntryKind}
 use Rattle.run_data.specs.declared.entry.EntryKind.TheVariants.{Crash, Log, Compact}
 use Rattle.run_data.specs.declared.entry.LogFile.{LogFile}
 use Rattle.node_model.specs.Clocks.{ClockSet, runs_on}
-use Rattle.run_model.specs.Past.{bar, begun, clock_set, holds, is_of, made, present, set_after}
+use Rattle.run_model.specs.Past.{bar, begun, clock_set, holds, is_of, entry_count, present, set_after}
 use Rattle.node_model.specs.Slots.{is_begin}
-use Rattle.run_model.specs.Logs.{branch, branch_after, compact_file, kept}
+use Rattle.run_model.specs.Logs.{branch, branch_after, compact_file, lines_of_file}
 use Rattle.node_model.specs.Files.{compact_lines, lines_after}
 use Rattle.run_data.specs.Files.{file_path, kind_of}
 use Rattle.race_core.proofs.LogLemmas.{kept_reads_as_ever}
@@ -61,8 +61,8 @@ if_own b x y is = rw is refl
 if_other : {X : Type 0} (b : Bool) (x y : X) → b ≡ false → (if b then x else y) ≡ y
 if_other b x y is = rw is refl
 
-pub kept_after : LogLaws → (past : List Entry) (r : ℕ) (e : Entry) → is_of r e ≡ true → kept (e ∷ past) r ≡ (λ path. lines_after path (kept past r path) e.kind e.lines)
-kept_after log_laws past r e is = funext (kept (e ∷ past) r) (λ path. lines_after path (kept past r path) e.kind e.lines)
+pub kept_after : LogLaws → (past : List Entry) (r : ℕ) (e : Entry) → is_of r e ≡ true → lines_of_file (e ∷ past) r ≡ (λ path. lines_after path (lines_of_file past r path) e.kind e.lines)
+kept_after log_laws past r e is = funext (lines_of_file (e ∷ past) r) (λ path. lines_after path (lines_of_file past r path) e.kind e.lines)
     (λ path. ap (λ (files : Files). lines_at files path) (if_own (is_of r e) (branch_after (branch past r) e.kind e.lines) (branch past r) is) ∙ lines_same log_laws path (branch past r) e.kind e.lines)
 
 -- the state before the first entry
@@ -79,7 +79,7 @@ after_is log_laws s past e is i =
     record {
       clock = (ap runs_on (if_own (is_of r e) (set_after e.time (clock_set s.repos past r) e.kind) (clock_set s.repos past r) is) ∙ clocks e.kind e.time (clock_set s.repos past r)) i;
       wall = now.wall;
-      made = if_own (is_of r e) st.made (made past r) is i;
+      entry_count = if_own (is_of r e) st.made (entry_count past r) is i;
       begun = begins (is_of r e) (is_begin e.kind) is i;
       present = funext now.present st.present (λ key. if_own (is_of r e) (st.present key) (present past r key) is) i;
       bar = funext now.bar st.bar (λ key. if_own (is_of r e) (st.bar key) (bar past r key) is) i;

@@ -14,7 +14,7 @@ use Rattle.run_data.specs.declared.entry.Entry.{Entry}
 use Rattle.run_data.specs.declared.entry.EntryKind.{EntryKind}
 use Rattle.run_data.specs.declared.entry.EntryKind.TheVariants.{Log, Compact}
 use Rattle.run_model.specs.Past.{begun, is_of}
-use Rattle.run_model.specs.Logs.{before_step, is_step, kept, read_at, settings_of}
+use Rattle.run_model.specs.Logs.{before_step, is_step, lines_of_file, read_at, settings_of}
 use Rattle.race_core.proofs.LogLemmas.{kept_reads_as_ever}
 use Rattle.node_model.specs.SetUp.{SetUp}
 use Rattle.node_model.specs.State.{State}
@@ -139,7 +139,7 @@ module _ (log_laws : LogLaws) (reads_back : SentAreRead) (s : SetUp) (past : Lis
   reads_first w m part fresh step =
       ap (λ p. settings_of p r) (step_read past e r w.number is step ((at_targets reads_back s past before w m).0 part)).1
       ∙ unread_is past r w.number (fresh_unread s past before.run w m part fresh) ∙ sym (kept_reads_as_ever log_laws past r)
-      ∙ ap settings (sym (funext (λ path. lines_after path (kept past r path) e.kind e.lines) (kept past r) (λ path. step_lines w.number e.kind path (kept past r path) e.lines step)))
+      ∙ ap settings (sym (funext (λ path. lines_after path (lines_of_file past r path) e.kind e.lines) (lines_of_file past r) (λ path. step_lines w.number e.kind path (lines_of_file past r path) e.lines step)))
       ∙ sym (by_work w.number (Some w) (found_is s past before w m w.number refl) ∙ rw (fresh_reads w.part w.phase (inr fresh)) refl)
 
   by_origin : (w : Work) → Origin s past e w → w.part ≡ Drops → settings_of (read_at (e ∷ past) r w.number) r ≡ (state_after s st e).read w.number

@@ -22,7 +22,7 @@ use Rattle.run_model.specs.Past.{Occurs, clock, clock_set, is_of}
 use Rattle.node_model.specs.Slots.{Running}
 use Rattle.run_data.specs.Repos.{id_of}
 use Rattle.run_model.specs.Logs.{read_at, settings_of}
-use Rattle.node_model.specs.Evidence.{candidates, gather, reached, standing_by}
+use Rattle.node_model.specs.Evidence.{candidates, gather, reached_candidates, standing_by}
 use Rattle.node_model.specs.SetUp.{SetUp}
 use Rattle.node_model.specs.State.{State}
 use Rattle.run_model.specs.States.{state_of, rows_at, works}
@@ -59,7 +59,7 @@ known_of s clock read what heard =
     let side = Jobs.drop_side what.kind what.peer in
     let need : Need = record { n = read.numcopies; m = read.mincopies } in
     gather side need (λ c. offer_by clock (standing_by read what.key (id_of s.repos c)) (told_of heard c))
-    (reached (λ c. is_unasked (standing_by read what.key (id_of s.repos c)) (told_of heard c)) (candidates side (length s.repos) s.number (Jobs.or_own s.number side what.peer))) []
+    (reached_candidates (λ c. is_unasked (standing_by read what.key (id_of s.repos c)) (told_of heard c)) (candidates side (length s.repos) s.number (Jobs.or_own s.number side what.peer))) []
 
 known_is : (s : SetUp) (st : State) (w : Work) → known s st w ≡ known_of s st.clock (st.read w.number) w.what w.heard
 unfolding standing_of

@@ -26,7 +26,7 @@ use Rattle.run_model.specs.Said.{Said, CloseIt, Says, is_close, message_in}
 use Rattle.run_model.specs.Past.{Always, begun, begun_job, is_of, jobs, present}
 use Rattle.node_model.specs.Slots.{Running, job_of}
 use Rattle.node_model.specs.Rows.{option_is}
-use Rattle.run_model.specs.Frames.{Flying, Sent, is_job, last_request, said_of, sender, sent, sent_of, taken, up_of, way_of}
+use Rattle.run_model.specs.Frames.{Flying, Sent, is_job, last_request, said_of, sender, frames_sent, sent_of, taken_count, up_of, way_of}
 use Rattle.run_model.specs.Logs.{before_step, in_drop, is_step}
 use Rattle.node_model.specs.Look.{first_of}
 use Rattle.run_model.specs.Drops.{cause_by_sender, cause_closed, cause_of_kind, cause_own, cause_said, cause_taken, cause_with, is_first_step, key_in, newer_cause, option_is_none, or_closed, or_fault, shuts, tells_cause, told_cause}
@@ -392,7 +392,7 @@ told_first q o list = rw (eqb_refl q) refl
 -- the refused look's sender found no content to see
 abbrev pub LookFit : SetUp → List Entry → Entry → Type 0
 LookFit s past e = (f : FrameView) → e.taken ≡ Some f → f.up ≡ false → message_in f.body ≡ Says Failure → (key : List ℕ) → option_map said_of (last_request past (up_of (way_of s.number f))) ≡ Some (Says (CheckPresent key))
-    → (it : Flying) × (slice_get (sent past (way_of s.number f)) (taken past (way_of s.number f)) ≡ Some it) × (table.refuses_look it.entry.kind ≡ true)
+    → (it : Flying) × (slice_get (frames_sent past (way_of s.number f)) (taken_count past (way_of s.number f)) ≡ Some it) × (table.refuses_look it.entry.kind ≡ true)
 
 look_said : (o : Option Flying) (time : ℕ) (key : List ℕ) → option_map asked_by o ≡ Some (request time (Some (CheckPresent key))) → option_map said_of o ≡ Some (Says (CheckPresent key))
 look_said None time key e = absurd (cc)
@@ -505,7 +505,7 @@ module _ (reads_back : SentAreRead) (s : SetUp) (past : List Entry) (words : ℕ
           looked : (time : ℕ) × (option_map asked_by (last_request past (up_of (way_of rr z.f))) ≡ Some (request time (Some (CheckPresent z.by.w.what.key))))
           looked = subst (λ (q : Phase). LastIs z.by.w.what.key z.by.w.what.peer q k.peer (option_map asked_by (last_request past (up_of (way_of rr z.f))))) z.phase last (sym peer_is ∙ taken_peer s past e z.f k)
 
-          it : (it : Flying) × (slice_get (sent past (way_of rr z.f)) (taken past (way_of rr z.f)) ≡ Some it) × (table.refuses_look it.entry.kind ≡ true)
+          it : (it : Flying) × (slice_get (frames_sent past (way_of rr z.f)) (taken_count past (way_of rr z.f)) ≡ Some it) × (table.refuses_look it.entry.kind ≡ true)
           it = fits z.f z.took down (said_is z.f.body Failure z.told) z.by.w.what.key (look_said (last_request past (up_of (way_of rr z.f))) looked.0 z.by.w.what.key looked.1)
 
           from : sender past rr e.taken ≡ Some (sent_of it.0)

@@ -6,7 +6,7 @@ ghost use Rattle.drop_proof.specs.declared.evidence.Evidence.{Evidence};
 ghost use Rattle.run_data.specs.declared.entry.Entry.{Entry};
 ghost use Rattle.run_data.specs.declared.run.Run.{Run};
 ghost use Rattle.run_model.specs.Causes.{HasCauses};
-ghost use Rattle.run_model.specs.Logs.{ever, kept, need_read, read_at, settings_of};
+ghost use Rattle.run_model.specs.Logs.{ever, lines_of_file, need_read, read_at, settings_of};
 ghost use Rattle.node_model.specs.Evidence.{is_locked, is_trusted};
 ghost use Rattle.annex_base.specs.Lists.{Member};
 ghost use Rattle.run_model.specs.Past.{present};
@@ -85,7 +85,7 @@ pub fn drops_leave_their_evidence()
 /// What the lines that a repository keeps say is what all lines say that were ever added to its logs, whatever the entries
 /// are: a compaction, whenever it comes, changes nothing that a drop reads (git-annex internals: branch files).
 pub fn kept_lines_read_as_all()
-    ensures { (past : List Entry) (r : ℕ) → settings (kept past r) ≡ settings_of past r }
+    ensures { (past : List Entry) (r : ℕ) → settings (lines_of_file past r) ≡ settings_of past r }
 {
     // laws, for the proof
     readings_depend_on_the_set();

@@ -15,7 +15,7 @@ mod words;
 
 pub use content::Content;
 pub use fields::{
-    is_group, is_name, is_nolock, is_path, is_word, read_call, read_clock, read_id, read_level,
+    call_text, is_group, is_name, is_nolock, is_path, is_word, read_call, read_clock, read_id, read_level,
     read_offset, read_version,
 };
 pub use key_word::{KeyWord, read_key_word};
