@@ -12,10 +12,6 @@ import time
 
 TOP = pathlib.Path(__file__).resolve().parent.parent
 PROGRAM = TOP / "crates" / "annex" / "out" / "annex"
-LOGS = TOP / "crates" / "log_bench" / "out" / "log_bench"
-STORE = TOP / "crates" / "store_bench" / "out" / "store_bench"
-WIRE = TOP / "crates" / "wire_bench" / "out" / "wire_bench"
-EXPRESSIONS = TOP / "crates" / "expr_bench" / "out" / "expr_bench"
 RUNS = 5
 
 
@@ -94,20 +90,12 @@ def run_time(lines):
     return median_time([str(PROGRAM), "run"], script)
 
 
-def log_time(work, number):
-    return median_time([str(LOGS), work, str(number)])
-
-
-def store_time(work, number):
-    return median_time([str(STORE), work, str(number)])
-
-
-def wire_time(work, piece, kib):
-    return median_time([str(WIRE), work, str(piece), str(kib)])
-
-
-def expression_time(work, size):
-    return median_time([str(EXPRESSIONS), work, str(size)])
+def bench(name, *words, text=b""):
+    """The median time of the small program of this name, which is built where it is missing."""
+    program = TOP / "crates" / name / "out" / name
+    if not program.exists():
+        subprocess.run(["rt", "run"], cwd=program.parent.parent, stdout=subprocess.DEVNULL, check=True)
+    return median_time([str(program), *map(str, words)], text)
 
 
 def table(title, rows, timed=run_time):
@@ -142,45 +130,37 @@ def main():
                 "lines, added one by one to %s%s" % (title, drops_title),
                 [(n, n, reads(lines_of(n), count)) for n in (10, 100, 1000, 10000)],
             )
-    if not LOGS.exists():
-        subprocess.run(["rt", "run"], cwd=LOGS.parent.parent, stdout=subprocess.DEVNULL, check=True)
     for work, title in (
         ("sets", "lines, made into a set; half of the number"),
         ("merge", "lines, two sets of half the number merged"),
         ("lines", "lines, added one by one to one file of a branch"),
         ("newest", "lines, merged and their newest entries read"),
     ):
-        table(title, [(n, n, n) for n in (1000, 10000, 100000)], lambda n: log_time(work, n))
+        table(title, [(n, n, n) for n in (1000, 10000, 100000)], lambda n: bench("log_bench", work, n))
     for work, title in (
         ("branch", "location logs, put into a branch"),
         ("settings", "location logs, and the settings of their branch read"),
         ("claims", "location logs, and the claims of one key read"),
     ):
-        table(title, [(n, n, n) for n in (100, 1000, 10000, 30000)], lambda n: log_time(work, n))
-    if not STORE.exists():
-        subprocess.run(["rt", "run"], cwd=STORE.parent.parent, stdout=subprocess.DEVNULL, check=True)
+        table(title, [(n, n, n) for n in (100, 1000, 10000, 30000)], lambda n: bench("log_bench", work, n))
     for work, title in (
         ("copy", "MiB, put into a plain vector in pieces"),
         ("append", "MiB, appended to a part in pieces and committed"),
         ("read", "MiB, appended in pieces, committed and read back in pieces"),
     ):
-        table(title, [(n, n, n) for n in (1, 4, 16, 64)], lambda n: store_time(work, n))
-    if not WIRE.exists():
-        subprocess.run(["rt", "run"], cwd=WIRE.parent.parent, stdout=subprocess.DEVNULL, check=True)
+        table(title, [(n, n, n) for n in (1, 4, 16, 64)], lambda n: bench("store_bench", work, n))
     for work in ("messages", "data"):
         for piece in (1, 100, 32768):
             table(
                 "kibibytes of %s, decoded in pieces of %d bytes" % (work, piece),
                 [(n, n, n) for n in (256, 1024, 4096, 16384)],
-                lambda n: wire_time(work, piece, n),
+                lambda n: bench("wire_bench", work, piece, n),
             )
-    if not EXPRESSIONS.exists():
-        subprocess.run(["rt", "run"], cwd=EXPRESSIONS.parent.parent, stdout=subprocess.DEVNULL, check=True)
     for work, title in (
         ("parse", "bytes of an expression, read 1,000 times"),
         ("eval", "bytes of an expression, read once and judged 1,000 times"),
     ):
-        table(title, [(n, n, n) for n in (10, 100, 1000, 4000)], lambda n: expression_time(work, n))
+        table(title, [(n, n, n) for n in (10, 100, 1000, 4000)], lambda n: bench("expr_bench", work, n))
 
 
 if __name__ == "__main__":
