@@ -5,6 +5,7 @@ Each line gives a size, the median time of the program on a script of that size,
 how much more work the script has, and how much longer it took. Nothing here is a limit, and no figure is a promise.
 """
 
+import itertools
 import pathlib
 import statistics
 import subprocess
@@ -98,6 +99,51 @@ def bench(name, *words, text=b""):
     return median_time([str(program), *map(str, words)], text)
 
 
+# A line of each kind: '#' stands for its number, and '%' for that number's rest by 4,095, since the tree has at most 4,096 paths.
+LINES = (
+    ("a comment", "# comment #"),
+    ("a number", "numcopies a 2"),
+    ("a glob", "numcopiesfor a 2 doc/#/*.jpg"),
+    ("a level", "trust a b untrusted"),
+    ("a text", "describe a b the disk of #"),
+    ("an expression", "wanted a b include=*.mp3 and not copies=#"),
+    ("groups", "group a b client archive g#"),
+    ("a group's expression", "groupwanted a client include=#"),
+    ("a line of a log", "log a location WORM--k# 1600000000s 1 10000000-0000-4000-8000-000000000000"),
+    ("a content of a new key", "have a WORM-s3--k# text:abc"),
+    ("a content with its sum", "have a SHA256-s3--ba7816bf8f01cfea414140de5dae2223b00361a396177a9cb410ff61f20015ad text:abc"),
+    ("a part", "part a WORM-s3--k# hex:616263"),
+    ("a content of one byte, repeated", "part a WORM--k# fill:16:7"),
+    ("damage of a content that stands", "damage a WORM-s3--k text:abd"),
+    ("a path and its key", "file doc/% WORM--k#"),
+    ("a content of a path", "add a doc/% text:#"),
+    ("a job of a key", "drop a WORM--k# from b"),
+    ("a job of a path", "get a @x from b"),
+    ("a job that is begun", "begin move a WORM--k# to b"),
+    ("turns", "turn a 3"),
+    ("a merge", "merge a b"),
+    ("a crash", "crash a clock=#"),
+    ("a wait", "wait 1"),
+    ("a fault", "fail a putfile"),
+    ("a block of three lines", "par\ndrop a WORM--k#\nclose a b\nend"),
+    ("a show of a key", "show location a WORM--k#"),
+    ("a show of a path", "show numbers a doc/#"),
+)
+
+
+def script_of(line, size):
+    """A script of at most so many bytes: two repositories, a content and a path, and then lines of this kind."""
+    lines = ["repo %s 00000000-0000-4000-8000-00000000000%s" % (repo, repo) for repo in "ab"]
+    text = "\n".join(lines + ["have a WORM-s3--k text:abc", "file x WORM-s3--k", ""])
+    pieces, length = [text], len(text)
+    for number in itertools.count():
+        piece = line.replace("#", str(number)).replace("%", str(number % 4095)) + "\n"
+        length += len(piece)
+        if length > size:
+            return "".join(pieces).encode()
+        pieces.append(piece)
+
+
 def table(title, rows, timed=run_time):
     print(title)
     print("  %12s %12s %12s %12s" % ("size", "ms", "work", "time"))
@@ -161,6 +207,12 @@ def main():
         ("eval", "bytes of an expression, read once and judged 1,000 times"),
     ):
         table(title, [(n, n, n) for n in (10, 100, 1000, 4000)], lambda n: bench("expr_bench", work, n))
+    for kind, line in LINES:
+        table(
+            "bytes of a script, read: %s" % kind,
+            [(n, n, script_of(line, n)) for n in (65_536, 131_072, 262_144, 524_288, 1_048_576)],
+            lambda text: bench("script_bench", text=text),
+        )
 
 
 if __name__ == "__main__":
