@@ -213,6 +213,12 @@ def main():
             [(n, n, script_of(line, n)) for n in (65_536, 131_072, 262_144, 524_288, 1_048_576)],
             lambda text: bench("script_bench", text=text),
         )
+    for work, title in (
+        ("rows", "rows of a lock table, each with a hold"),
+        ("check", "rows, and 100,000 looks at another"),
+        ("bar", "rows, and 100,000 bars that are put on another and taken off"),
+    ):
+        table(title, [(n, n, n) for n in (1, 10, 100, 1000, 10000, 100000)], lambda n: bench("lock_bench", work, n))
 
 
 if __name__ == "__main__":
