@@ -21,7 +21,8 @@ pub use fields::{
 pub use key_word::{KeyWord, read_key_word};
 pub use laws::{
     contents_are_as_described, levels_and_calls_have_one_word, numbers_are_decimal,
-    options_are_as_written, printed_words_say_the_same, words_are_ahead, words_are_as_written,
+    options_are_as_written, printed_words_are_read_back, printed_words_say_the_same, words_are_ahead,
+    words_are_as_written,
 };
 pub use numbers::read_number;
 pub use printing::put_word;
