@@ -1,3 +1,4 @@
+-- The lemmas of this crate.
 pub mod Conditions
 pub mod DecimalLemmas
 pub mod Functions

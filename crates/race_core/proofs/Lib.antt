@@ -1,3 +1,4 @@
+-- The lemmas of this crate.
 pub mod Below
 pub mod Heard
 pub mod Knowing

@@ -35,8 +35,8 @@ without_file-in_order path (f ∷ files) sorted = go (is_eq (text_cmp path f.0))
     go : (b : Bool) → IsInOrder (Paths (without_file files path)) → IsInOrder (Paths (cond b files (f ∷ without_file files path)))
     go true rest = order_tail f.0 (Paths files) sorted
     go false rest = order_cons f.0 (Paths (without_file files path))
-      (BeforeAll-from_members f.0 (Paths (without_file files path)) (λ p among. BeforeAll-member f.0 p (Paths files) (order_head f.0 (Paths files) sorted) (Paths-without_file p path files among)))
-      rest
+        (BeforeAll-from_members f.0 (Paths (without_file files path)) (λ p among. BeforeAll-member f.0 p (Paths files) (order_head f.0 (Paths files) sorted) (Paths-without_file p path files among)))
+        rest
 
 without_file-each : (path : List ℕ) (files : Files) → Each IsFile files → Each IsFile (without_file files path)
 without_file-each path [] all = all

@@ -1,3 +1,4 @@
+-- What the proof of `tree::replace` needs beside the tactics.
 use Rattle.std.proofs.Common.{ap, sym, ◌∙◌}
 use Rattle.annex_base.proofs.Results.{OnErr-always}
 use Rattle.annex_key.specs.TreeView.{seen}

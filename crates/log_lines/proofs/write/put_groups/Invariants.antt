@@ -1,3 +1,4 @@
+-- What holds at each turn of the loops of `write::put_groups`.
 use Rattle.std.proofs.Common.{◌≡◌, ◌∷◌, ◌++◌, flat_map, take}
 use Rattle.annex_base.specs.Lines.{space}
 use Rattle.log_lines.proofs.write.put_groups.Given as goal

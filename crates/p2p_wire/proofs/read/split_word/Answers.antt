@@ -1,3 +1,4 @@
+-- What the proof of `read::split_word` needs beside the tactics.
 use Rattle.std.specs.Prelude.{not}
 use Rattle.std.proofs.lemmas.List.Sums.{prefix_len-le-length}
 use Rattle.annex_base.specs.Lines.{is_space}

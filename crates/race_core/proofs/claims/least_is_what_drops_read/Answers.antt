@@ -1,3 +1,4 @@
+-- What the proof of `claims::least_is_what_drops_read` needs beside the tactics.
 use Rattle.race_core.proofs.NeedsRead.{least_below, least_read, read_counts}
 use Rattle.race_core.proofs.claims.least_is_what_drops_read.Goals as goal
 

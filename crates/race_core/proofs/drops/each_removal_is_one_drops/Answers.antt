@@ -1,3 +1,4 @@
+-- What the proof of `drops::each_removal_is_one_drops` needs beside the tactics.
 use Rattle.race_core.proofs.AtPlaces.{one_drop}
 use Rattle.race_core.proofs.OneDrop.{by_drop, of_repository}
 use Rattle.race_core.proofs.drops.each_removal_is_one_drops.Goals as goal

@@ -1,3 +1,4 @@
+-- What the proof of `drops::removals_by_orders_are_one_drops` needs beside the tactics.
 use Rattle.race_core.proofs.OneDrop.{obeyed_once, order_obeyed}
 use Rattle.race_core.proofs.drops.removals_by_orders_are_one_drops.Goals as goal
 

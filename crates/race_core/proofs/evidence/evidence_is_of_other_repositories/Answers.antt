@@ -1,3 +1,4 @@
+-- What the proof of `evidence::evidence_is_of_other_repositories` needs beside the tactics.
 use Rattle.race_core.proofs.Numbers.{items_distinct, never_the_target, of_the_run}
 use Rattle.race_core.proofs.evidence.evidence_is_of_other_repositories.Goals as goal
 

@@ -1,3 +1,4 @@
+-- What the proof of `evidence::recent_items_were_seen` needs beside the tactics.
 use Rattle.race_core.proofs.ItemSources.{item_seen}
 use Rattle.race_core.proofs.evidence.recent_items_were_seen.Goals as goal
 

@@ -1,3 +1,4 @@
+-- What the proof of `evidence::removals_leave_as_many` needs beside the tactics.
 use Rattle.race_core.proofs.Numbers.{evidence_left, need_left}
 use Rattle.race_core.proofs.evidence.removals_leave_as_many.Goals as goal
 

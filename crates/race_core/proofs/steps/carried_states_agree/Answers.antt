@@ -1,3 +1,4 @@
+-- What the proof of `steps::carried_states_agree` needs beside the tactics.
 use Rattle.std.specs.Prelude.{reverse}
 use Rattle.run_model.specs.Run.{set_up}
 use Rattle.std.proofs.Common.{ap}

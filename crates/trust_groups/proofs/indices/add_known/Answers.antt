@@ -1,3 +1,4 @@
+-- What the proof of `indices::add_known` needs beside the tactics.
 use Rattle.std.proofs.Common.{sym, ap, ◌∙◌}
 use Rattle.annex_base.proofs.Rows.{lookup-shown, shown-set_value}
 use Rattle.trust_groups.specs.Adding.{indices_with}

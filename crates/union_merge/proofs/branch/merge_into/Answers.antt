@@ -1,3 +1,4 @@
+-- What the proof of `branch::merge_into` needs beside the tactics.
 use Rattle.std.proofs.Common.{◌≡◌, ◌∙◌, Some, Result, Ok, Err, OnErr, sym, ap}
 use Rattle.annex_base.proofs.Rows.{lookup-shown}
 use Rattle.union_merge.specs.LineSet.{union}

@@ -1,3 +1,4 @@
+-- What the proof of `branch::set_lines` needs beside the tactics.
 use Rattle.std.proofs.Common.{◌≡◌, Option, Some, None, IsSome, ap, sym, ◌∙◌, rules}
 use Rattle.union_merge.specs.Branch.{file_at}
 use Rattle.union_merge.specs.FileView.{files_of}

@@ -1,3 +1,4 @@
+-- What the proof of `tree::Tree::key` needs beside the tactics.
 use Rattle.std.proofs.Common.{◌∙◌, ap}
 use Rattle.annex_key.specs.Tree.{key_of}
 use Rattle.annex_base.proofs.Rows.{lookup-shown}

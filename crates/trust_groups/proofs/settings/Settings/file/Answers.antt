@@ -1,3 +1,4 @@
+-- What the proof of `settings::Settings::file` needs beside the tactics.
 use Rattle.std.proofs.Common.{ap, ◌∙◌}
 use Rattle.trust_groups.specs.Reads.{Indices, index_at}
 use Rattle.annex_base.proofs.Rows.{lookup-shown}

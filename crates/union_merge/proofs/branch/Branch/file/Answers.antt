@@ -1,3 +1,4 @@
+-- What the proof of `branch::Branch::file` needs beside the tactics.
 use Rattle.std.proofs.Common.{◌∙◌, ap}
 use Rattle.union_merge.specs.Branch.{file_at}
 use Rattle.annex_base.proofs.Rows.{lookup-shown}
