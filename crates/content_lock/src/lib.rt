@@ -1,6 +1,7 @@
 //! The rows of a repository beside its store: holds, bars, and what is being filled, by tokens that must be spent.
 #![tactic(auto)]
 
+mod crossing;
 mod hold;
 mod holds;
 mod refusals;
