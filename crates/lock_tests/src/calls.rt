@@ -42,7 +42,12 @@ pub fn keep<K: Keeper>(
 }
 
 // Puts a bar, and takes it off again.
-pub fn bar<K: Keeper>(table: &mut LockTable, keeper: &mut K, key: &Key, now: u64) -> Option<BarRefused>
+pub fn bar<K: Keeper>(
+    table: &mut LockTable,
+    keeper: &mut K,
+    key: &Key,
+    now: u64,
+) -> Option<BarRefused>
     ensures holds { table.new.holds ≡ table.old.holds }
     ensures records { K.records keeper.new ≡ K.records keeper.old }
 {
