@@ -132,6 +132,13 @@ impl LockTable {
         }
     }
 
+    /// Whether the key is being filled.
+    pub fn is_filling(&self, key: &Key) -> bool
+        ensures { result ≡ is_filling self.now key.now }
+    {
+        self.fills.contains(key)
+    }
+
     /// Gives the fill back.
     pub fn unfill(&mut self, fill: Fill)
         requires given { is_filling self.old fill ≡ true }
