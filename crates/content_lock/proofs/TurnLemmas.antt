@@ -1,7 +1,6 @@
 -- Calls of a store in turn.
 use Rattle.std.proofs.Common.{◌≡◌, ℕ, ◌-◌, Bool, true, false, List, [], ◌∷◌, Option, Some, None, refl, sym, ap, ◌∙◌, subst, arith}
 use Rattle.std.specs.Prelude.{nat_lt, Result, Ok, Err, IfErr}
-use Rattle.std.proofs.lemmas.Result.{IfErr-at_err}
 use Rattle.annex_base.specs.declared.kinds.Call.{Call}
 use Rattle.annex_base.specs.declared.kinds.Call.TheVariants as calls
 use Rattle.object_store.specs.Calls.{FailsAsTold, has_failed, one_fewer}
@@ -45,7 +44,7 @@ unfailed None after only = only.count
 unfailed (Some failing) after only = only.count ∙ (λ i. Some (λ call. stays failing (only.told failing refl) call i))
 
 -- what a fault refuses
-pub hold_refused : {T U : Type 0} (fault : KeeperFault) (was after : Option (Call → ℕ)) → FailsAsTold calls.Hold was after (has_failed {U} (Err fault)) → FailInTurn (hold_turns {T} (Err (hold_fault fault))) was after
+pub hold_refused : (fault : KeeperFault) (was after : Option (Call → ℕ)) → FailsAsTold calls.Hold was after (has_failed {T = Unit {0}} (Err fault)) → FailInTurn (hold_turns {T = Unit {0}} (Err (hold_fault fault))) was after
 hold_refused faults.Failed was after only = turn_alone calls.Hold true was after only
 hold_refused faults.NoMemory was after only = unfailed was after only
 
@@ -58,7 +57,7 @@ look_first answer was then after why first rest =
     share_turns_are (Ok x) why = refl
     share_turns_are (Err shares.Absent) why = refl
     share_turns_are (Err (shares.Barred job)) why = refl
-    share_turns_are (Err (shares.StoreFault calls.Has)) why = absurd (IfErr-at_err IsOfHold refl why)
+    share_turns_are (Err (shares.StoreFault calls.Has)) why = absurd why
     share_turns_are (Err (shares.StoreFault calls.Size)) why = refl
     share_turns_are (Err (shares.StoreFault calls.Read)) why = refl
     share_turns_are (Err (shares.StoreFault calls.PartSize)) why = refl

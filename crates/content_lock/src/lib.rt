@@ -4,10 +4,12 @@
 mod crossing;
 mod hold;
 mod holds;
+mod laws;
 mod refusals;
 mod table;
 mod tokens;
 
+pub use laws::{records_tell_numbers, removals_leave_other_contents};
 pub use refusals::{
     BarRefused, FillRefused, Look, RecoverRefused, RemoveRefused, Removed, ShareRefused,
 };

@@ -23,4 +23,4 @@ returns-in-Err-clause-err g c =
 
 pub returns-in-Err-clause-failing : goal.returns-in-Err-clause-failing
 returns-in-Err-clause-failing g c =
-    rw c.from.ensures (hold_refused c.in-Err.field-0 (g.K.Keeper.failing c.args.keeper.now) (g.K.Keeper.failing c.put_hold.new.self) c.in-Err.ensures.failing)
+    rw c.from.ensures (hold_refused c.in-Err.fault (g.K.Keeper.failing c.args.keeper.now) (g.K.Keeper.failing c.put_hold.new.self) c.in-Err.ensures.failing)
