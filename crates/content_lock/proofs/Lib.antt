@@ -4,3 +4,4 @@ mod NumberedLemmas
 mod RecoveredLemmas
 mod StoredLemmas
 mod TokenLemmas
+mod TurnLemmas

@@ -4,3 +4,4 @@ pub mod Looks
 pub mod Rows
 pub mod Stored
 pub mod Tokens
+pub mod Turns
