@@ -1,0 +1,32 @@
+//! The laws of driven runs. Each is the contract of a function that does nothing.
+
+ghost use Rattle.std.specs.Prelude.{ℕ, ◌≤◌, List, length, take};
+ghost use Rattle.annex_base.specs.Lists.{Each};
+ghost use Rattle.run_data.specs.Repos.{IsSetUp};
+ghost use Rattle.run_model.specs.Run.{IsRun};
+ghost use Rattle.driver_model.specs.Driver.{Given};
+ghost use Rattle.driver_model.specs.Driving.{driven, run_of};
+ghost use Rattle.driver_model.specs.Lines.{Line};
+ghost use Rattle.driver_model.specs.Scripts.{Fits, IsOne};
+
+use annex_key::key_texts_have_no_fault;
+use race_core::{runs_grow, steps_find_their_cause};
+use run_data::files_have_their_paths;
+use union_merge::{differences_make_the_union, unions_have_the_lines_of_both};
+
+/// What the driver makes of a script is a run, where the script's lines are right and the run stays within its bounds; and so
+/// is each start of it, by which a driver ends that meets a full history (own).
+pub fn driven_runs_are_runs()
+    ensures run { (g : Given) (lines : List Line) → Each IsSetUp g.repos → Each (IsOne g) lines → Fits (driven g lines)
+        → IsRun (run_of g lines) }
+    ensures start { (g : Given) (lines : List Line) (place : ℕ) → Each IsSetUp g.repos → Each (IsOne g) lines → Fits (driven g lines)
+        → place ≤ length (run_of g lines).entries → IsRun (record (run_of g lines) { entries = take place (run_of g lines).entries }) }
+{
+    // For the proof, which cites them.
+    steps_find_their_cause();
+    runs_grow();
+    files_have_their_paths();
+    unions_have_the_lines_of_both();
+    differences_make_the_union();
+    key_texts_have_no_fault();
+}
