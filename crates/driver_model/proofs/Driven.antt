@@ -25,7 +25,7 @@ use Rattle.driver_model.specs.Driving.{does, driven, drives, marked, run_of, run
 use Rattle.driver_model.specs.Scripts.{Fits, IsAgendum, IsBlockLine, IsOne}
 use Rattle.driver_model.proofs.EndsAlike.{ends_alike}
 use Rattle.driver_model.proofs.Holding.{Holds, Keeps}
-use Rattle.driver_model.proofs.Laws.{Laws}
+use Rattle.driver_model.proofs.Premises.{Laws}
 use Rattle.driver_model.proofs.Logged.{OwedKeys, keeps_compacts, keeps_merges, keeps_status, keeps_writes}
 use Rattle.driver_model.proofs.Scripted.{keeps_begins, keeps_calling, keeps_closes, keeps_crashes, keeps_enters, keeps_faults, keeps_notes, keeps_waits, keeps_will_fail}
 use Rattle.driver_model.proofs.Turned.{keeps_commits, keeps_drops, keeps_puts, keeps_turn}

@@ -1,6 +1,6 @@
 -- The ends of connections: their names, the frames that are taken and sent at them, and what an own entry does there.
 use Rattle.std.proofs.Common.{◌≡◌, ℕ, Bool, true, false, List, [], ◌∷◌, Option, Some, None, ◌⊎◌, inl, inr, refl, sym, ap, ◌∙◌, subst, arith, true≢false}
-use Rattle.std.specs.Prelude.{◌&&◌, ◌==◌, filter, flat_map, fold, if◌then◌else◌, nat_lt, not}
+use Rattle.std.specs.Prelude.{◌&&◌, ◌==◌, filter, fold, if◌then◌else◌, nat_lt, not}
 use Rattle.std.proofs.lemmas.Bool.{and_parts, eqb-true}
 use Rattle.std.proofs.lemmas.Bool.Decides.{nat_tests}
 use Rattle.annex_base.specs.Lists.{Each}
@@ -34,7 +34,7 @@ use Rattle.run_model.specs.Past.{is_of}
 use Rattle.run_model.specs.Run.{ComesAnyTime, IsStep, OwnPart}
 use Rattle.run_model.specs.States.{end_at, state_of}
 use Rattle.driver_model.specs.Driver.{end_to}
-use Rattle.driver_model.proofs.Laws.{StepsFind}
+use Rattle.driver_model.proofs.Premises.{StepsFind}
 
 -- ---- names of ends
 
@@ -139,7 +139,7 @@ at_end : (ends : EndName → End) (a : EndName) (f g : FrameView) → g ≡ f �
 at_end ends a f g same on may = subst (λ (h : FrameView). may_take (ends (end_to h)) h ≡ true) same (ap (λ (b : EndName). may_take (ends b) g) (takes_end a g on) ∙ may)
 
 -- an entry that takes none
-none_taken : {A : Type 0} (o : Option FrameView) (f : FrameView) → o ≡ None → o ≡ Some f → A
+pub none_taken : {A : Type 0} (o : Option FrameView) (f : FrameView) → o ≡ None → o ≡ Some f → A
 none_taken o f n i = absurd (let no' : None ≡ Some f = sym n ∙ i in cc)
 
 pub own_takes : StepsFind → (s : SetUp) (past : List Entry) (words : ℕ → Option Word) (e : Entry) (f : FrameView) → OwnPart s past words e → e.taken ≡ Some f → may_take (end_at past s.number (end_to f)) f ≡ true

@@ -28,7 +28,7 @@ use Rattle.node_model.specs.Found.{AsksOne, ByJob, GivesAt, JobKind, JobTakes, S
 use Rattle.node_model.specs.AnyTime.{MayCome, all_ends, close_at, closes_all}
 use Rattle.run_model.specs.Run.{ComesAnyTime, IsStep, OwnPart}
 use Rattle.driver_model.proofs.EndLemmas.{none_taken, same_end, same_end-is, sent_other, sent_same, takes_end}
-use Rattle.driver_model.proofs.Laws.{StepsFind}
+use Rattle.driver_model.proofs.Premises.{StepsFind}
 
 -- these frames are sent one after the other by an end that stands so
 abbrev pub Numbered : End → List FrameView → Type 0

@@ -1,6 +1,6 @@
 -- What holds of the driver as it goes on: its entries are a run, and the frames on their way are those that were sent and not taken.
 use Rattle.std.proofs.Common.{◌≡◌, ℕ, ◌+◌, ◌≤◌, Bool, true, false, List, [], ◌∷◌, ◌++◌, Option, Some, None, inl, inr, refl, sym, ap, ◌∙◌, subst, arith}
-use Rattle.std.specs.Prelude.{cond, if◌then◌else◌, ◌==◌, length, map, reverse}
+use Rattle.std.specs.Prelude.{cond, ◌==◌, length, map, reverse}
 use Rattle.std.proofs.lemmas.Bool.Decides.{nat_tests}
 use Rattle.std.proofs.lemmas.List.{length-reverse, reverse-append, reverse-reverse}
 use Rattle.annex_base.specs.Lists.{Each}
@@ -27,7 +27,7 @@ use Rattle.driver_model.specs.Scripts.{Fit, Fits}
 use Rattle.driver_model.proofs.EndLemmas.{own_down}
 use Rattle.driver_model.proofs.FrameNumbers.{TakesWell}
 use Rattle.driver_model.proofs.InFlight.{Flies, IsFirst, flies_adds, may_be_taken}
-use Rattle.driver_model.proofs.Laws.{Laws}
+use Rattle.driver_model.proofs.Premises.{Laws}
 use Rattle.driver_model.proofs.WayNumbers.{InOrder, order_other, order_own}
 
 -- ---- the run so far
@@ -118,11 +118,15 @@ module _ (laws : Laws) (g : Given) (d : Driver) (h : Holds g d) (r : ℕ) (e : E
       counted = fit.counted;
       small = fit.small;
     };
-    may = subst (MayBe (set_up_on g d.tree d.past) d.past e) (sym x.repo_is) (x.words, x.own, record {
-      takes = λ f i. may_be_taken laws.finds (set_up_of g d r) d.past x.words e x.own x.repo_is d.flights x.first f i
-          (h.flies f.peer (record { peer = r; slot = f.slot; client = f.up }) f.epoch) (h.order f.peer (record { peer = r; slot = f.slot; client = f.up }) f.epoch);
-      tells = x.tells;
-    });
+    may = subst (MayBe (set_up_on g d.tree d.past) d.past e) (sym x.repo_is) (
+      x.words,
+      x.own,
+      record {
+        takes = λ f i. may_be_taken laws.finds (set_up_of g d r) d.past x.words e x.own x.repo_is d.flights x.first f i
+            (h.flies f.peer (record { peer = r; slot = f.slot; client = f.up }) f.epoch) (h.order f.peer (record { peer = r; slot = f.slot; client = f.up }) f.epoch);
+        tells = x.tells;
+      },
+    );
   }
 
   order_adds : (q : ℕ) (a : EndName) (n : ℕ) → InOrder (e ∷ d.past) q a n

@@ -21,7 +21,7 @@ use Rattle.run_model.specs.States.{end_at}
 use Rattle.node_model.specs.State.{State}
 use Rattle.run_model.specs.Run.{OwnPart}
 use Rattle.driver_model.proofs.EndLemmas.{end_own, may_epoch, out_sender-is, out_taker-is, own_takes, sends_all, takes_end, way_out}
-use Rattle.driver_model.proofs.Laws.{StepsFind}
+use Rattle.driver_model.proofs.Premises.{StepsFind}
 use Rattle.driver_model.specs.Driver.{Driver, Flight, but_first, but_taken, end_to, flight, frames_to, is_at, is_old, old_at}
 use Rattle.driver_model.proofs.WayNumbers.{InOrder, follow_at, frames_sent, sent_more, sent_same_as}
 
@@ -193,10 +193,11 @@ on_parts r a n x e =
     let one = and_parts (x.to == a.peer) (is_on (way_out r a n) r x.frame) e in
     let two = and_parts (x.frame.peer == r) ((x.frame.slot == a.slot) && (same_bool x.frame.up a.client && (x.frame.epoch == n))) one.1 in
     let three = and_parts (x.frame.slot == a.slot) (same_bool x.frame.up a.client && (x.frame.epoch == n)) two.1 in
-    let four = and_parts (same_bool x.frame.up a.client) (x.frame.epoch == n) three.1 in
-    (same_number x.to a.peer one.0,
-     end_path (same_number x.frame.peer r two.0) (same_number x.frame.slot a.slot three.0) (ap (λ b. if b then false else true) (both x.frame.up a.client four.0)),
-     same_number x.frame.epoch n four.1)
+    let four = and_parts (same_bool x.frame.up a.client) (x.frame.epoch == n) three.1 in (
+      same_number x.to a.peer one.0,
+      end_path (same_number x.frame.peer r two.0) (same_number x.frame.slot a.slot three.0) (ap (λ b. if b then false else true) (both x.frame.up a.client four.0)),
+      same_number x.frame.epoch n four.1,
+    )
   where
     both : (b c : Bool) → same_bool b c ≡ true → b ≡ c
     both true true e = refl

@@ -1,4 +1,4 @@
-pub mod Laws
+pub mod Premises
 pub mod EndLemmas
 pub mod AtHand
 pub mod FrameNumbers

@@ -54,7 +54,7 @@ use Rattle.driver_model.specs.Driver.{Driver, Given, fails_at, notes}
 use Rattle.driver_model.specs.ScriptSteps.{compacts, compacts_files, faults, is_nil, lines_of, logs, logs_some, logs_status, merges, merges_files, news, shrinks, unknown, wall_of, writes}
 use Rattle.driver_model.specs.Scripts.{Fits}
 use Rattle.driver_model.proofs.Holding.{Keeps, steps_on}
-use Rattle.driver_model.proofs.Laws.{Laws}
+use Rattle.driver_model.proofs.Premises.{Laws}
 use Rattle.driver_model.proofs.Scripted.{keeps_calling, keeps_faults, keeps_notes}
 use Rattle.driver_model.proofs.WrittenLines.{written_line}
 
@@ -163,11 +163,11 @@ lines_set path (f ∷ files) all = go (is_at (text_cmp path) f.0) (lines_set pat
 -- a file that is there has the path of a log
 path_there : (path : List ℕ) (lines : List (List ℕ)) (files : Files) → Each FileWell files → file_at files path ≡ Some lines → PathWell path
 path_there path lines [] all e = absurd (cc)
-path_there path lines (f ∷ files) all e = go (is_at (text_cmp path) f.0) refl e
+path_there path lines (f ∷ files) all e = go (path_there path lines files all.1) (is_at (text_cmp path) f.0) refl e
   where
-    go : (b : Bool) → is_at (text_cmp path) f.0 ≡ b → cond b (Some f.1) (file_at files path) ≡ Some lines → PathWell path
-    go true i e = subst PathWell (sym (same_text path f.0 ((Equal-is (text_cmp path f.0)).0 i))) all.0.0
-    go false i e = path_there path lines files all.1 e
+    go : (file_at files path ≡ Some lines → PathWell path) → (b : Bool) → is_at (text_cmp path) f.0 ≡ b → cond b (Some f.1) (file_at files path) ≡ Some lines → PathWell path
+    go more true i e = subst PathWell (sym (same_text path f.0 ((Equal-is (text_cmp path f.0)).0 i))) all.0.0
+    go more false i e = more e
 
 -- what an entry logs is well
 abbrev pub LogsWell : EntryKind → List (List ℕ) → Type 0

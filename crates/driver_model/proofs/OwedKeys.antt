@@ -1,6 +1,6 @@
 -- The keys of the lines that are owed are keys: those of begun jobs, and of requests that were read.
 use Rattle.std.proofs.Common.{◌≡◌, ℕ, ◌+◌, ◌-◌, Bool, true, false, List, [], ◌∷◌, Option, Some, None, ◌⊎◌, inl, inr, refl, sym, ap, ◌∙◌, subst}
-use Rattle.std.specs.Prelude.{if◌then◌else◌, ◌==◌, ◌&&◌, bytes_eq, codes, drop, filter, find, is_none, length, map, nat_le, not, option_and_then, option_map}
+use Rattle.std.specs.Prelude.{if◌then◌else◌, ◌==◌, ◌&&◌, bytes_eq, codes, find, is_none, length, map, nat_le, not, option_and_then, option_map}
 use Rattle.std.specs.Option.{option_to_list}
 use Rattle.std.proofs.lemmas.Bool.{eqb-true}
 use Rattle.annex_base.specs.Lists.{Each}
@@ -45,7 +45,7 @@ use Rattle.run_model.specs.Past.{is_of}
 use Rattle.run_model.specs.Run.{ComesAnyTime, IsStep, MayBe, OwnPart, RunPast}
 use Rattle.run_model.specs.States.{content, owes, rows_at, session, state_of, works}
 use Rattle.driver_model.proofs.JobKept.{after_kept}
-use Rattle.driver_model.proofs.Laws.{Laws}
+use Rattle.driver_model.proofs.Premises.{Laws}
 use Rattle.driver_model.proofs.Logged.{OwedKeys, set_ups}
 
 -- ---- messages that are read

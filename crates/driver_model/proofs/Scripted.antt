@@ -1,6 +1,6 @@
 -- The steps of a script that aren't turns keep what holds: each of their entries may come at any time.
 use Rattle.std.proofs.Common.{◌≡◌, ℕ, zero, suc, ◌+◌, ◌<◌, ◌≤◌, Bool, true, false, List, [], ◌∷◌, ◌++◌, Option, Some, None, inl, inr, refl, sym, ap, ◌∙◌, subst, arith, ◌≢◌}
-use Rattle.std.specs.Prelude.{if◌then◌else◌, ◌==◌, not, drop, flat_map, length, map, nat_lt}
+use Rattle.std.specs.Prelude.{if◌then◌else◌, ◌==◌, not, drop, length, map, nat_lt}
 use Rattle.std.specs.List.{range_with_len}
 use Rattle.std.proofs.lemmas.Bool.Decides.{nat_tests}
 use Rattle.std.proofs.lemmas.List.{append-nil}
@@ -17,6 +17,7 @@ use Rattle.run_data.specs.declared.job.Outcome.{Outcome}
 use Rattle.run_model.specs.Frames.{sender_of, sent, taken, taker_of}
 use Rattle.run_model.specs.Past.{begun, is_of, now}
 use Rattle.node_model.specs.SetUp.{SetUp, others}
+use Rattle.node_model.specs.State.{State}
 use Rattle.node_model.specs.Ends.{End, EndName}
 use Rattle.run_model.specs.States.{end_at, works}
 use Rattle.node_model.specs.AnyTime.{IsPeer, MayCome, all_ends, close_at, closes_all, ends_with, is_scripts}
@@ -25,7 +26,7 @@ use Rattle.driver_model.specs.Driver.{Driver, Flight, Given, answers, entry, fai
 use Rattle.driver_model.specs.ScriptSteps.{begins, calling, closes, closes_each, closes_end, crashes, enters, faults, sends, waits, will_fail}
 use Rattle.driver_model.specs.Scripts.{IsJob}
 use Rattle.driver_model.proofs.EndLemmas.{way_out}
-use Rattle.driver_model.proofs.Laws.{Laws}
+use Rattle.driver_model.proofs.Premises.{Laws}
 use Rattle.driver_model.proofs.WayNumbers.{order_other, sent_same_as}
 use Rattle.driver_model.proofs.InFlight.{Flies, Over, other_end, told, told_sent}
 use Rattle.driver_model.proofs.Holding.{ComesDown, Holds, Keeps, NewEntry, entry_on, keeps_adds, tree_on}

@@ -17,9 +17,9 @@ use Rattle.node_model.specs.Step.{step}
 use Rattle.annex_base.proofs.Lists.{find_member}
 use Rattle.driver_model.specs.Driver.{Driver, Given, cleared, drops_part, fails_at, set_up_of, state_at}
 use Rattle.driver_model.specs.Turning.{all_calls, asked_key, bytes_taken, calm_look, fails_in, is_failure, is_valid, look_for, looks, makes, makes_fault, meets, plain_look, store_after, takes_frame, takes_into, turn}
-use Rattle.driver_model.specs.Rounds.{Going, came_to, goes_round, idle_after, is_idle, is_settled, numbers, round, rounds, settles, turns_of}
+use Rattle.driver_model.specs.Rounds.{Going, came_to, goes_round, idle_after, is_idle, is_settled, most_rounds, numbers, round, rounds, turns_of}
 use Rattle.driver_model.proofs.EndsAlike.{still_steps}
-use Rattle.driver_model.proofs.Settling.{goes, going, rounds_are, settled_stays}
+use Rattle.driver_model.proofs.Settling.{goes, rounds_are, settled_stays}
 
 -- ---- a turn adds at most an entry
 
@@ -156,20 +156,23 @@ unsettled g (suc k) x i = go (unsettled g k) (is_settled x) refl
             let next : idle_after x.driver (round g x.driver) x.idle ≡ 0 = rw h refl in
             omega (arith, up, few, other, y, next)
 
-too_many : (m n i : ℕ) → n < 2000000 → i ≤ 1 → 4194304 + 0 + 2 * m ≤ 2 * n + i → ⊥
-too_many m n i few l k = omega (arith, few, l, k)
+too_many : (p m n k i : ℕ) → 4194304 ≤ p → n < 2000000 → i ≤ 1 → p + k + 2 * m ≤ 2 * n + i → ⊥
+too_many p m n k i big few l h = omega (arith, big, few, l, h)
 
--- while there are fewer than two million entries the bound isn't met: the rounds end with two idle ones
-pub bound_not_met : (g : Given) (d : Driver) → length (settles g d).past < 2000000 → is_settled (rounds g 22 (going d 0)) ≡ true
-bound_not_met g d few = go (is_settled (rounds g 22 (going d 0))) refl
+bounded : (g : Given) (n : ℕ) (x : Going) → 4194304 ≤ 2 ^ n → length (rounds g n x).driver.past < 2000000 → is_settled (rounds g n x) ≡ true
+bounded g n x big few = go (is_settled (rounds g n x)) refl
   where
-    all : rounds g 22 (going d 0) ≡ goes g (2 ^ 22) (going d 0)
-    all = rounds_are g 22 (going d 0)
+    all : rounds g n x ≡ goes g (2 ^ n) x
+    all = rounds_are g n x
 
-    go : (b : Bool) → is_settled (rounds g 22 (going d 0)) ≡ b → b ≡ true
+    go : (b : Bool) → is_settled (rounds g n x) ≡ b → b ≡ true
     go true i = refl
     go false i =
-        let j = unsettled g (2 ^ 22) (going d 0) (ap is_settled (sym all) ∙ i) in
-        let l = low (rounds g 22 (going d 0)) i in
-        let k : 2 ^ 22 + 0 + 2 * many d ≤ 2 * many (rounds g 22 (going d 0)).driver + (rounds g 22 (going d 0)).idle = subst (λ (y : Going). 2 ^ 22 + 0 + 2 * many d ≤ 2 * many y.driver + y.idle) (sym all) j in
-        absurd (too_many (many d) (many (rounds g 22 (going d 0)).driver) (rounds g 22 (going d 0)).idle few l k)
+        let j = unsettled g (2 ^ n) x (ap is_settled (sym all) ∙ i) in
+        let l = low (rounds g n x) i in
+        let k : 2 ^ n + x.idle + 2 * many x.driver ≤ 2 * many (rounds g n x).driver + (rounds g n x).idle = subst (λ (y : Going). 2 ^ n + x.idle + 2 * many x.driver ≤ 2 * many y.driver + y.idle) (sym all) j in
+        absurd (too_many (2 ^ n) (many x.driver) (many (rounds g n x).driver) x.idle (rounds g n x).idle big few l k)
+
+-- while there are fewer than two million entries the bound isn't met: the rounds end with two idle ones
+pub bound_not_met : (g : Given) (x : Going) (bound : ℕ) → bound ≡ most_rounds → length (rounds g bound x).driver.past < 2000000 → is_settled (rounds g bound x) ≡ true
+bound_not_met g x bound e few = bounded g bound x (subst (λ n. 4194304 ≤ 2 ^ n) (sym e) (omega arith)) few

@@ -21,7 +21,7 @@ use Rattle.node_model.specs.Step.{step}
 use Rattle.node_model.specs.AnyTime.{all_ends}
 use Rattle.run_model.specs.Words.{word_told}
 use Rattle.driver_model.proofs.EndLemmas.{takes_end}
-use Rattle.driver_model.proofs.Laws.{Laws}
+use Rattle.driver_model.proofs.Premises.{Laws}
 use Rattle.driver_model.specs.Scripts.{Fits}
 use Rattle.driver_model.specs.Stores.{Stored, bytes_in, is_stored, stored}
 use Rattle.driver_model.specs.Driver.{Driver, Given, adds, answers, cleared, commits, drops_part, end_to, fails_at, frames_to, old_at, part_at, puts_part, removes_content, set_up_of, state_at}
@@ -63,8 +63,13 @@ module _ (g : Given) (d : Driver) where
       let more = max_first d.largest (length bytes) in
       let small = fits.1 in
       let h = k (fits.0, omega (arith, more, small)) in
-      record { run = h.run; flies = h.flies; order = h.order; down = h.down;
-        parts = (max_second d.largest (length bytes), each_larger d.largest (max d.largest (length bytes)) (filter (λ x. not (is_stored r key x)) d.parts) more (Each-filter (Small d.largest) (λ x. not (is_stored r key x)) d.parts h.parts)) }
+      record {
+        run = h.run;
+        flies = h.flies;
+        order = h.order;
+        down = h.down;
+        parts = (max_second d.largest (length bytes), each_larger d.largest (max d.largest (length bytes)) (filter (λ x. not (is_stored r key x)) d.parts) more (Each-filter (Small d.largest) (λ x. not (is_stored r key x)) d.parts h.parts));
+      }
 
   pub keeps_cleared : (r : ℕ) → Keeps g d → Keeps g (cleared (state_at g d r) r d)
   keeps_cleared r k fits =

@@ -15,7 +15,7 @@ use Rattle.node_model.specs.Ends.{End, EndName, end_sends, end_takes, end_took, 
 use Rattle.run_model.specs.States.{end_at}
 use Rattle.run_model.specs.Run.{OwnPart}
 use Rattle.driver_model.proofs.EndLemmas.{end_own, on_out, out_sender-is, own_takes, sends_all, takes_end, way_out}
-use Rattle.driver_model.proofs.Laws.{StepsFind}
+use Rattle.driver_model.proofs.Premises.{StepsFind}
 use Rattle.driver_model.proofs.FrameNumbers.{Numbered, TakesWell, numbered, took_like}
 
 -- an end that stands so has sent so many frames of an epoch, where it isn't past that

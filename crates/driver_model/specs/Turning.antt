@@ -34,15 +34,15 @@ at_hand s fs = flat_map (λ a. option_to_list (find (takes_at a) fs)) (all_ends 
 -- a look at which no call fails, no part is there, and no words were heard
 abbrev pub plain_look : SetUp → Driver → Look
 plain_look s d = record {
-    time = now d.past;
-    count = newest_count d.past + 1;
-    at_hand = at_hand s (frames_to s.number d.flights);
-    room = has_room s.number d.flights;
-    fails = None;
-    part = 0;
-    right = false;
-    words = λ c. None;
-  }
+  time = now d.past;
+  count = newest_count d.past + 1;
+  at_hand = at_hand s (frames_to s.number d.flights);
+  room = has_room s.number d.flights;
+  fails = None;
+  part = 0;
+  right = false;
+  words = λ c. None;
+}
 
 -- ---- the part that a step asks for
 
@@ -114,10 +114,10 @@ fails_in d r s st k call = if fails_at d r call then meets s st k call else fals
 -- where this would be made with a plain look: the look without a failing call, and with it
 abbrev pub calm_look : Given → Driver → ℕ → SetUp → State → Made → Look
 calm_look g d r s st m = record (plain_look s d) {
-    part = part_size d r (asked_key st m);
-    right = part_right g d r (asked_key st m);
-    words = told_words d.past r m.kind;
-  }
+  part = part_size d r (asked_key st m);
+  right = part_right g d r (asked_key st m);
+  words = told_words d.past r m.kind;
+}
 
 abbrev pub look_for : Given → Driver → ℕ → SetUp → State → Made → Look
 look_for g d r s st m = record (calm_look g d r s st m) { fails = find (fails_in d r s st (calm_look g d r s st m)) all_calls }

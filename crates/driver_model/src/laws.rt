@@ -1,13 +1,16 @@
 //! The laws of driven runs. Each is the contract of a function that does nothing.
 
-ghost use Rattle.std.specs.Prelude.{ℕ, ◌≤◌, List, length, take};
+ghost use Rattle.std.specs.Prelude.{◌≡◌, ℕ, ◌<◌, ◌≤◌, true, List, None, length, take};
 ghost use Rattle.annex_base.specs.Lists.{Each};
 ghost use Rattle.run_data.specs.Repos.{IsSetUp};
+ghost use Rattle.node_model.specs.Step.{step};
 ghost use Rattle.run_model.specs.Run.{IsRun};
-ghost use Rattle.driver_model.specs.Driver.{Given};
+ghost use Rattle.driver_model.specs.Driver.{Driver, Given, cleared, set_up_of, state_at};
 ghost use Rattle.driver_model.specs.Driving.{driven, run_of};
 ghost use Rattle.driver_model.specs.Lines.{Line};
+ghost use Rattle.driver_model.specs.Rounds.{Going, is_settled, most_rounds, rounds};
 ghost use Rattle.driver_model.specs.Scripts.{Fits, IsOne};
+ghost use Rattle.driver_model.specs.Turning.{plain_look, turn};
 
 use annex_key::key_texts_have_no_fault;
 use race_core::{runs_grow, steps_find_their_cause};
@@ -30,3 +33,12 @@ pub fn driven_runs_are_runs()
     differences_make_the_union();
     key_texts_have_no_fault();
 }
+
+/// A settling of fewer than 2,000,000 entries ends with two rounds that add none, so the bound on its rounds isn't met; and a turn
+/// that adds none found no step ready, with the first frame at each end at hand (own).
+pub fn settlings_come_to_rest()
+    ensures settled { (g : Given) (x : Going) (bound : ℕ) → bound ≡ most_rounds
+        → length (rounds g bound x).driver.past < 2000000 → is_settled (rounds g bound x) ≡ true }
+    ensures idle { (g : Given) (r : ℕ) (d : Driver) → length (turn g r d).past ≡ length d.past
+        → step (set_up_of g d r) (state_at g d r) (plain_look (set_up_of g d r) (cleared (state_at g d r) r d)) ≡ None }
+{}

@@ -3,5 +3,5 @@
 
 mod laws;
 
-pub use laws::driven_runs_are_runs;
+pub use laws::{driven_runs_are_runs, settlings_come_to_rest};
 pub use run_data;

@@ -1,7 +1,7 @@
 -- The driven run is a run by the laws below, and so is each start of it.
 use Rattle.driver_model.specs.Driving.{run_of}
 use Rattle.driver_model.proofs.Driven.{driver_is_run}
-use Rattle.driver_model.proofs.Laws.{Laws}
+use Rattle.driver_model.proofs.Premises.{Laws}
 use Rattle.driver_model.proofs.OwedKeys.{owed_keys}
 use Rattle.driver_model.proofs.laws.driven_runs_are_runs.Goals as goal
 
