@@ -1,0 +1,8 @@
+pub mod Settling
+pub mod LateOrder
+pub mod CrashAfterOrder
+pub mod RaceOfTwoDrops
+pub mod ThreeRepositories
+pub mod LostReply
+pub mod CopyAndMove
+pub mod BlockOfTwo
