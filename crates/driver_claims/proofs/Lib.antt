@@ -6,3 +6,7 @@ pub mod ThreeRepositories
 pub mod LostReply
 pub mod CopyAndMove
 pub mod BlockOfTwo
+pub mod FaultsOfTheScript
+pub mod FullRing
+pub mod BlockOfDrops
+pub mod RestartedClockAhead
