@@ -1,0 +1,8 @@
+pub mod Lines
+pub mod Stores
+pub mod Driver
+pub mod ScriptSteps
+pub mod Turning
+pub mod Rounds
+pub mod Driving
+pub mod Scripts
