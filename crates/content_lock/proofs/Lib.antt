@@ -1,3 +1,4 @@
+-- The lemmas of this crate.
 mod BlockerLemmas
 mod IndexedLemmas
 mod NumberedLemmas

@@ -1,3 +1,4 @@
+-- The definitions of this crate.
 pub mod Blocking
 pub mod Indexed
 pub mod Looks

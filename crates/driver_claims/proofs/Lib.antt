@@ -1,3 +1,4 @@
+-- The lemmas of this crate.
 pub mod Settling
 pub mod LateOrder
 pub mod CrashAfterOrder

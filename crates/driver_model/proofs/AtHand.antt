@@ -22,7 +22,7 @@ use Rattle.run_data.specs.declared.job.TransferRefusal.TheVariants as failures
 use Rattle.p2p_wire.specs.declared.message.Message.{Message}
 use Rattle.p2p_wire.specs.declared.message.Message.TheVariants.{AlreadyHave, AuthSuccess, Data, Error, Failure, Invalid, PutFrom, Success, Timestamp, Valid, Version}
 use Rattle.p2p_wire.specs.Messages.{message_of}
-use Rattle.node_model.specs.DropStep.{asks_copy, asks_target, bars, first_drop, expired, first_end, first_remote, in_time, lacking, required_there, takes_drop, takes_time, target, times, tries_own}
+use Rattle.node_model.specs.DropStep.{asks_copy, asks_target, bars, first_drop, expiry, first_end, first_remote, in_time, lacking, required_there, takes_drop, takes_time, target, times, tries_own}
 use Rattle.node_model.specs.Ends.{End, EndName, end_takes, may_take, server_end, takes_at}
 use Rattle.node_model.specs.Evidence.{Standing, Asked, Claimed, Ignored}
 use Rattle.node_model.specs.JobStep.{Turn, attempts, by_me, clock_of, end_with, ends, is_there, key_of, me, quietly, talk, turn_of}
@@ -35,7 +35,7 @@ use Rattle.node_model.specs.OwedStep.{owed_step, pays_first}
 use Rattle.node_model.specs.Requests.{asks, goes_to}
 use Rattle.node_model.specs.SessionStep.{Reply, gives_made, gives_next, here, on_frame, reply_made, session_at, session_makes, session_step}
 use Rattle.node_model.specs.Sessions.{reaches}
-use Rattle.node_model.specs.SetUp.{SetUp, served, slots}
+use Rattle.node_model.specs.SetUp.{SetUp, served_connections, slots}
 use Rattle.node_model.specs.State.{State}
 use Rattle.node_model.specs.Step.{step}
 use Rattle.node_model.specs.TransferStep.{content_of, first_get, first_put, gains, next_get, next_source, takes_bytes, takes_get, takes_put}
@@ -147,7 +147,7 @@ module _ (t : Turn) where
   judges_none : (enough : Bool) (next : Option ℕ) (side : Side) → N (judges t enough next side)
   judges_none false (Some peer) side = goes_to-none peer
   judges_none false None side = ends_takes t None (lacking t)
-  judges_none true next Local = if_either N (in_time (clock_of t) (first_end t)) _ _ (λ b. tries_takes t None _ _ refl) (λ b. ends_takes t None (expired (clock_of t) (first_end t)))
+  judges_none true next Local = if_either N (in_time (clock_of t) (first_end t)) _ _ (λ b. tries_takes t None _ _ refl) (λ b. ends_takes t None (expiry (clock_of t) (first_end t)))
   judges_none true next Remote = goes_to-none (target t)
 
   source_none : (o : Option ℕ) → N (next_get t o)
@@ -303,7 +303,7 @@ module _ (s : SetUp) (st : State) (k : Look) (m : Made) (f : FrameView) (is : m.
 
   rest_at_hand : (session_step s st k ≡ Some m) ⊎ (job_step s st k ≡ Some m) → Member f k.at_hand
   rest_at_hand (inl e) =
-      let x = some_was (λ (c : ℕ × ℕ). session_at s st k (server_end c.0 c.1)) (served s) m e in
+      let x = some_was (λ (c : ℕ × ℕ). session_at s st k (server_end c.0 c.1)) (served_connections s) m e in
       session_at_hand (server_end x.0.0 x.0.1) x.2
   rest_at_hand (inr e) =
       let x = some_was (λ slot. slot_step s st k (find (λ w. w.slot == slot) st.works)) slots m e in

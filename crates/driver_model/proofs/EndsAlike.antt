@@ -23,7 +23,7 @@ use Rattle.p2p_wire.specs.declared.message.Message.{Message}
 use Rattle.p2p_wire.specs.declared.message.Message.TheVariants.{AlreadyHave, AuthSuccess, CheckPresent, Data, Error, Failure, Get, GetTimestamp, Invalid, LockContent, Put, PutFrom, Remove, RemoveBefore, Success, Timestamp, UnlockContent, Valid, Version}
 use Rattle.p2p_wire.specs.Messages.{message_of}
 use Rattle.node_model.specs.Rows.{is_lost_ordered}
-use Rattle.node_model.specs.SetUp.{SetUp, served, slots}
+use Rattle.node_model.specs.SetUp.{SetUp, served_connections, slots}
 use Rattle.node_model.specs.Ends.{EndName, server_end}
 use Rattle.node_model.specs.Sessions
 use Rattle.node_model.specs.Sessions.{Doing, Session, reaches}
@@ -35,9 +35,9 @@ use Rattle.node_model.specs.OwedStep.{owed_step, pays_first}
 use Rattle.node_model.specs.Clocks.{hold_time}
 use Rattle.node_model.specs.SessionStep
 use Rattle.node_model.specs.SessionStep.{Here, Reply, bar_on, by_of, check_answer, gives_made, gives_next, here, is_held, is_here, lock_answer, now_of, on_bytes, on_frame, on_message, on_piece, on_remove, on_remove_before, on_request, on_text, refuses, remove_answer, reply, session_at, session_makes, session_step, tries, valid_answer}
-use Rattle.node_model.specs.Knows.{enough_by, next_by, obeyed}
+use Rattle.node_model.specs.Knows.{enough_by, next_by, obeyed_outcome}
 use Rattle.node_model.specs.JobStep.{Turn, bar_there, clock_of, end_needs, end_with, is_there, key_of, locked_peers, me, turn_of}
-use Rattle.node_model.specs.DropStep.{asks_copy, asks_target, bars, expired, first_drop, first_end, first_remote, held_until, in_time, removed, required_there, row_refusal, takes_drop, takes_time, target, times, tries_own}
+use Rattle.node_model.specs.DropStep.{asks_copy, asks_target, bars, expiry, first_drop, first_end, first_remote, held_until, in_time, removal_outcome, required_there, row_refusal, takes_drop, takes_time, target, times, tries_own}
 use Rattle.node_model.specs.Requests.{asks, goes_to}
 use Rattle.node_model.specs.TransferStep.{content_of, first_get, first_put, gains, next_get, next_source, takes_bytes, takes_get, takes_put}
 use Rattle.node_model.specs.Turns.{awaits, by_partner, first_step, goes, goes_on, has_room, is_awaiting, job_step, judge_needs, judges, needs, next_needs, next_step, outcome_of, peer_needs, slot_step, takes, takes_answer, takes_frame, takes_text, target_needs, with_partner}
@@ -282,15 +282,15 @@ module _ (s : SetUp) (st : State) (time count : ℕ) (hand : List FrameView) (ro
 
     -- ---- what it needs
 
-    obeyed_found : (o : Option Word) (proof : Proof) → is_lost_ordered (obeyed o proof) ≡ false
+    obeyed_found : (o : Option Word) (proof : Proof) → is_lost_ordered (obeyed_outcome o proof) ≡ false
     obeyed_found (Some words.Absent) proof = refl
     obeyed_found o proof = refl
 
-    lost_removed : (t : Turn) (side : Side) → is_lost_ordered (removed side t) ≡ false
+    lost_removed : (t : Turn) (side : Side) → is_lost_ordered (removal_outcome side t) ≡ false
     lost_removed t Local = refl
     lost_removed t Remote = obeyed_found (t.look.words (target t)) _
 
-    lost_late : (clock : ℕ) (end : Option ℕ) → is_lost_ordered (expired clock end) ≡ false
+    lost_late : (clock : ℕ) (end : Option ℕ) → is_lost_ordered (expiry clock end) ≡ false
     lost_late clock None = refl
     lost_late clock (Some end) = refl
 
@@ -417,7 +417,7 @@ module _ (s : SetUp) (st : State) (time count : ℕ) (hand : List FrameView) (ro
   step_alike : Alike (step s st k0) (step s st k1)
   step_alike = first_alike (owed_step s st k0) (owed_step s st k1) (first_of (session_step s st k0) (job_step s st k0)) (first_of (session_step s st k1) (job_step s st k1)) (owed_alike st.owed)
       (first_alike (session_step s st k0) (session_step s st k1) (job_step s st k0) (job_step s st k1)
-      (list_alike (λ (c : ℕ × ℕ). session_at s st k0 (server_end c.0 c.1)) (λ (c : ℕ × ℕ). session_at s st k1 (server_end c.0 c.1)) (λ c. session_alike (server_end c.0 c.1)) (served s))
+      (list_alike (λ (c : ℕ × ℕ). session_at s st k0 (server_end c.0 c.1)) (λ (c : ℕ × ℕ). session_at s st k1 (server_end c.0 c.1)) (λ c. session_alike (server_end c.0 c.1)) (served_connections s))
       (list_alike (λ slot. slot_step s st k0 (find (λ w. w.slot == slot) st.works)) (λ slot. slot_step s st k1 (find (λ w. w.slot == slot) st.works)) (λ slot. slot_alike (find (λ w. w.slot == slot) st.works)) slots))
 
 ended_is : (kind : EntryKind) (j : ℕ) → ended kind ≡ Some j → (o : Outcome) × (kind ≡ ends_job j o)

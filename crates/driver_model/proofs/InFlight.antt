@@ -12,7 +12,7 @@ use Rattle.run_data.specs.declared.entry.Entry.{Entry}
 use Rattle.run_data.specs.declared.entry.FrameView.{FrameView}
 use Rattle.run_data.specs.declared.entry.FrameText.{FrameText}
 use Rattle.run_data.specs.declared.entry.FrameText.TheVariants.{Opening, Closing, Bytes, Line}
-use Rattle.run_model.specs.Frames.{Flying, MayTake, Way, is_on, on_way, sender_of, sent, taken, taker_of, takes, way_of}
+use Rattle.run_model.specs.Frames.{Flying, MayTake, Way, is_on, on_way, sender_of, frames_sent, taken_count, taker_of, takes, way_of}
 use Rattle.node_model.specs.Ends.{End, EndName, end_sends, end_takes, end_took, is_opening, may_take, same_bool, sent_at, taken_at, takes_at}
 use Rattle.run_model.specs.Past.{is_of}
 use Rattle.node_model.specs.Rows.{option_is}
@@ -135,8 +135,8 @@ abbrev pub told_sent : List Entry → Way → List Told
 told_sent past w = map told (frames_sent past w)
 
 pub record Live (past : List Entry) (xs : List Flight) (r : ℕ) (a : EndName) (n : ℕ) : Type 0 where
-  pub inside : taken past (way_out r a n) ≤ length (told_sent past (way_out r a n))
-  pub same : flying_on r a n xs ≡ drop (taken past (way_out r a n)) (told_sent past (way_out r a n))
+  pub inside : taken_count past (way_out r a n) ≤ length (told_sent past (way_out r a n))
+  pub same : flying_on r a n xs ≡ drop (taken_count past (way_out r a n)) (told_sent past (way_out r a n))
 
 -- they are those that were sent and not yet taken, unless the end that they go to is past their epoch
 abbrev pub Flies : List Entry → List Flight → ℕ → EndName → ℕ → Type 0
@@ -333,20 +333,20 @@ module _ (finds : StepsFind) (s : SetUp) (past : List Entry) (words : ℕ → Op
     of_sender = ap (λ k. is_of k e) (out_sender-is r a n) ∙ ap (λ o. option_is o r) mine
 
     -- what is left of the way, once the frame is taken
-    left : Live past xs r a n → (taken (e ∷ past) w ≤ length (told_sent past w)) × (flying_on r a n after_take ≡ drop (taken (e ∷ past) w) (told_sent past w))
+    left : Live past xs r a n → (taken_count (e ∷ past) w ≤ length (told_sent past w)) × (flying_on r a n after_take ≡ drop (taken_count (e ∷ past) w) (told_sent past w))
     left l = go e.taken refl
       where
-        count : (hit : Bool) → (is_of (taker_of w) e && takes w e.taken) ≡ hit → taken (e ∷ past) w ≡ (if hit then taken past w + 1 else taken past w)
+        count : (hit : Bool) → (is_of (taker_of w) e && takes w e.taken) ≡ hit → taken_count (e ∷ past) w ≡ (if hit then taken_count past w + 1 else taken_count past w)
         count hit i = rw i refl
 
-        stays : (is_of (taker_of w) e && takes w e.taken) ≡ false → flying_on r a n after_take ≡ flying_on r a n xs → (taken (e ∷ past) w ≤ length (told_sent past w)) × (flying_on r a n after_take ≡ drop (taken (e ∷ past) w) (told_sent past w))
+        stays : (is_of (taker_of w) e && takes w e.taken) ≡ false → flying_on r a n after_take ≡ flying_on r a n xs → (taken_count (e ∷ past) w ≤ length (told_sent past w)) × (flying_on r a n after_take ≡ drop (taken_count (e ∷ past) w) (told_sent past w))
         stays i j = let c = count false i in (subst (λ k. k ≤ length (told_sent past w)) (sym c) l.inside, j ∙ l.same ∙ ap (λ k. drop k (told_sent past w)) (sym c))
 
         never : (b : Bool) → (b && false) ≡ false
         never true = refl
         never false = refl
 
-        some : (f : FrameView) (i : e.taken ≡ Some f) (y : IsFirst p f xs) (hit : Bool) → is_flight r a n y.x ≡ hit → (taken (e ∷ past) w ≤ length (told_sent past w)) × (flying_on r a n after_take ≡ drop (taken (e ∷ past) w) (told_sent past w))
+        some : (f : FrameView) (i : e.taken ≡ Some f) (y : IsFirst p f xs) (hit : Bool) → is_flight r a n y.x ≡ hit → (taken_count (e ∷ past) w ≤ length (told_sent past w)) × (flying_on r a n after_take ≡ drop (taken_count (e ∷ past) w) (told_sent past w))
         some f i y hit h = at hit h
           where
             same : (is_of (taker_of w) e && takes w e.taken) ≡ is_flight r a n y.x
@@ -356,15 +356,15 @@ module _ (finds : StepsFind) (s : SetUp) (past : List Entry) (words : ℕ → Op
             flew : flying_on r a n after_take ≡ flying_on r a n (but_taken p (Some f) xs)
             flew = ap (λ o. flying_on r a n (but_taken p o xs)) i
 
-            at : (hit : Bool) → is_flight r a n y.x ≡ hit → (taken (e ∷ past) w ≤ length (told_sent past w)) × (flying_on r a n after_take ≡ drop (taken (e ∷ past) w) (told_sent past w))
+            at : (hit : Bool) → is_flight r a n y.x ≡ hit → (taken_count (e ∷ past) w ≤ length (told_sent past w)) × (flying_on r a n after_take ≡ drop (taken_count (e ∷ past) w) (told_sent past w))
             at false h = stays (same ∙ h) (flew ∙ taken_else p f xs y r a n h)
             at true h =
                 let c = count true (same ∙ h) in
                 let two = taken_first p f xs y r a n h in
-                let z = drop_first (taken past w) (told_sent past w) (told f) (flying_on r a n y.back) (sym two.0 ∙ l.same) in
+                let z = drop_first (taken_count past w) (told_sent past w) (told f) (flying_on r a n y.back) (sym two.0 ∙ l.same) in
                 (subst (λ k. k ≤ length (told_sent past w)) (sym c) z.0, flew ∙ two.1 ∙ z.1 ∙ ap (λ k. drop k (told_sent past w)) (sym c))
 
-        go : (o : Option FrameView) → e.taken ≡ o → (taken (e ∷ past) w ≤ length (told_sent past w)) × (flying_on r a n after_take ≡ drop (taken (e ∷ past) w) (told_sent past w))
+        go : (o : Option FrameView) → e.taken ≡ o → (taken_count (e ∷ past) w ≤ length (told_sent past w)) × (flying_on r a n after_take ≡ drop (taken_count (e ∷ past) w) (told_sent past w))
         go None i = stays (ap (λ o. is_of (taker_of w) e && takes w o) i ∙ never (is_of (taker_of w) e)) (ap (λ o. flying_on r a n (but_taken p o xs)) i)
         go (Some f) i = some f i (first f i) (is_flight r a n (first f i).x) refl
 
@@ -408,9 +408,9 @@ module _ (finds : StepsFind) (s : SetUp) (past : List Entry) (words : ℕ → Op
       live_adds l =
           let x = left l in
           record {
-            inside = subst (λ zs. taken (e ∷ past) w ≤ length zs) (sym sent_new) (longer (taken (e ∷ past) w) (length (told_sent past w)) (length (told_sent past w ++ flying_on r a n new)) x.0 (length_more (told_sent past w) (flying_on r a n new)));
+            inside = subst (λ zs. taken_count (e ∷ past) w ≤ length zs) (sym sent_new) (longer (taken_count (e ∷ past) w) (length (told_sent past w)) (length (told_sent past w ++ flying_on r a n new)) x.0 (length_more (told_sent past w) (flying_on r a n new)));
             same = ap (map (λ x. told x.frame)) (filter-append (is_flight r a n) after_take new) ∙ map_append (λ x. told x.frame) (filter (is_flight r a n) after_take) (filter (is_flight r a n) new)
-                ∙ ap (λ zs. zs ++ flying_on r a n new) x.1 ∙ sym (drop_append (taken (e ∷ past) w) (told_sent past w) (flying_on r a n new) x.0) ∙ ap (drop (taken (e ∷ past) w)) (sym sent_new);
+                ∙ ap (λ zs. zs ++ flying_on r a n new) x.1 ∙ sym (drop_append (taken_count (e ∷ past) w) (told_sent past w) (flying_on r a n new) x.0) ∙ ap (drop (taken_count (e ∷ past) w)) (sym sent_new);
           }
         where
           longer : (i j k : ℕ) → i ≤ j → j ≤ k → i ≤ k
@@ -451,11 +451,11 @@ module _ (finds : StepsFind) (s : SetUp) (past : List Entry) (words : ℕ → Op
       it' l =
           let two = taken_first s.number f xs (first f i) f.peer (record { peer = s.number; slot = f.slot; client = f.up }) f.epoch hit in
           let w = way_of s.number f in
-          let z = drop_first (taken past w) (told_sent past w) (told f) (flying_on f.peer (record { peer = s.number; slot = f.slot; client = f.up }) f.epoch (first f i).back) (sym two.0 ∙ l.same) in
-          let g = mapped_at told (frames_sent past w) (taken past w) (told f) z.2 in
-          let x = mapped_at (λ (x : Flying). x.frame) (sent past w) (taken past w) g.0 g.1 in
-          let seq : g.0.seq ≡ 0 + taken past w + 1 = follow_at 0 (taken past w) (frames_sent past w) g.0 order.follow g.1 in
-          record { it = x.0; next = x.1; seq_is = sym (ap (λ (t : Told). t.seq) g.2) ∙ seq ∙ ap (λ k. k + 1) (none_more (taken past w)); body_is = ap (λ (h : FrameView). h.body) x.2 ∙ ap (λ (t : Told). t.body) g.2 }
+          let z = drop_first (taken_count past w) (told_sent past w) (told f) (flying_on f.peer (record { peer = s.number; slot = f.slot; client = f.up }) f.epoch (first f i).back) (sym two.0 ∙ l.same) in
+          let g = mapped_at told (frames_sent past w) (taken_count past w) (told f) z.2 in
+          let x = mapped_at (λ (x : Flying). x.frame) (frames_sent past w) (taken_count past w) g.0 g.1 in
+          let seq : g.0.seq ≡ 0 + taken_count past w + 1 = follow_at 0 (taken_count past w) (frames_sent past w) g.0 order.follow g.1 in
+          record { it = x.0; next = x.1; seq_is = sym (ap (λ (t : Told). t.seq) g.2) ∙ seq ∙ ap (λ k. k + 1) (none_more (taken_count past w)); body_is = ap (λ (h : FrameView). h.body) x.2 ∙ ap (λ (t : Told). t.body) g.2 }
 
       go : Flies past xs f.peer (record { peer = s.number; slot = f.slot; client = f.up }) f.epoch → MayTake past (way_of s.number f) f
       go (inr l) = it' l

@@ -1,3 +1,4 @@
+-- The lemmas of this crate.
 pub mod Premises
 pub mod EndLemmas
 pub mod AtHand

@@ -46,7 +46,7 @@ use Rattle.node_model.specs.SessionStep.{Here, here}
 use Rattle.node_model.specs.Ends.{server_end}
 use Rattle.node_model.specs.Sessions.{Doing}
 use Rattle.node_model.specs.SetUp.{SetUp}
-use Rattle.run_model.specs.Logs.{branch, branch_after, compact_file, kept}
+use Rattle.run_model.specs.Logs.{branch, branch_after, compact_file, lines_of_file}
 use Rattle.run_model.specs.Past.{is_of, now}
 use Rattle.run_model.specs.Run.{ComesAnyTime, IsStep, MayBe, OwnPart, RunPast, RunStep, TimeIs}
 use Rattle.run_model.specs.States.{owes, state_of}
@@ -100,7 +100,7 @@ pub record MayWrite (d : Driver) (r : ℕ) (file : LogFile) (lines : List (List 
   pub path : HasPath file
   pub known : kind_of file ≢ None
   pub set : IsLineSet lines
-  pub new : Each (λ line. ¬ Member line (kept d.past r (file_path file))) lines
+  pub new : Each (λ line. ¬ Member line (lines_of_file d.past r (file_path file))) lines
 
 module _ (laws : Laws) (g : Given) where
   pub keeps_noted : (d : Driver) (r : ℕ) (file : LogFile) (lines : List (List ℕ)) → r < length g.repos → MayWrite d r file lines → Keeps g d → Keeps g (notes r (kinds.Log file) lines d)

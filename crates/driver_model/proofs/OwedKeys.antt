@@ -31,16 +31,16 @@ use Rattle.node_model.specs.Found.{BySession, GivesAt, JobKind, SessionKind, Ste
 use Rattle.node_model.specs.Jobs.{Orders, Phase, PutsAnswer, PutsOffer, Rows, Work, work_after, works_after}
 use Rattle.node_model.specs.JobStep.{turn_of}
 use Rattle.node_model.specs.Look.{Look, Made}
-use Rattle.node_model.specs.Owed.{Owed, changed, due, lost, owed, owed_after, pays, same_lines, told_frame, told_line, told_to}
+use Rattle.node_model.specs.Owed.{Owed, owed_for, due, owed_without, owed_line, owed_after, pays, same_lines, told_frame, told_line, told_to}
 use Rattle.node_model.specs.Rows.{option_is}
 use Rattle.node_model.specs.SessionStep.{here}
-use Rattle.node_model.specs.Sessions.{Doing, Gives, Session, Takes, Took, Wants, doing_after, gave_bytes, gives, guards, line_in, reaches, said, sends_close, sent_more, sent_one, session_after, session_goes, session_left, session_took, takes_more, took_bytes, took_message, wanted, wants}
+use Rattle.node_model.specs.Sessions.{Doing, Gives, Session, Takes, Took, Wants, doing_after, gave_bytes, gives, guards, line_in, reaches, message_said, sends_close, sent_more, sent_one, session_after, session_goes, session_left, session_took, takes_more, took_bytes, took_message, takes_from, wants}
 use Rattle.node_model.specs.SetUp.{SetUp}
 use Rattle.node_model.specs.Slots.{Running}
 use Rattle.hash_dirs.specs.LogPath.{location_path}
 use Rattle.run_data.specs.Files.{file_path}
 use Rattle.node_model.specs.Clocks.{wall}
-use Rattle.run_model.specs.Logs.{kept}
+use Rattle.run_model.specs.Logs.{lines_of_file}
 use Rattle.run_model.specs.Past.{is_of}
 use Rattle.run_model.specs.Run.{ComesAnyTime, IsStep, MayBe, OwnPart, RunPast}
 use Rattle.run_model.specs.States.{content, owes, rows_at, session, state_of, works}
@@ -142,7 +142,7 @@ module _ (laws : Laws) where
   more_well : (key : List ℕ) (size left : ℕ) → IsKeyText key → DoingWell (takes_more key size left)
   more_well key size left is = if_either DoingWell (left == 0) (Took key size) (Takes key size left) (λ b. is) (λ b. is)
 
-  wanted_well : (n : ℕ) (doing : Doing) → DoingWell doing → DoingWell (wanted n doing)
+  wanted_well : (n : ℕ) (doing : Doing) → DoingWell doing → DoingWell (takes_from n doing)
   wanted_well n (Wants key size) is = more_well key size n is
   wanted_well n (Takes key size left) is = is
   wanted_well n (Took key size) is = is
@@ -199,7 +199,7 @@ module _ (laws : Laws) where
   took_well size kind was sent Opening d = d
   took_well size kind was sent Closing d = tt
   took_well size kind was sent (Bytes n) d = bytes_well n was.doing d
-  took_well size kind was sent (Line text) d = message_well size kind was (said sent) (message_of text) (message_read text) d
+  took_well size kind was sent (Line text) d = message_well size kind was (message_said sent) (message_of text) (message_read text) d
 
   goes_well : (size : List ℕ → Option ℕ) (kind : EntryKind) (was : Session) (sent : List FrameView) (taken : Option FrameView) → DoingWell was.doing → DoingWell (session_goes size kind was sent taken).doing
   goes_well size kind was sent None d = sent_well was sent d
@@ -305,7 +305,7 @@ module _ (laws : Laws) where
   told_well w (PutsAnswer peer start) Success is = (is, tt)
   told_well w Orders Success is = go w.what.peer
     where
-      go : (o : Option ℕ) → Each OwedWell (map (λ peer. owed (by_job w.number) peer false w.what.key) (option_to_list o))
+      go : (o : Option ℕ) → Each OwedWell (map (λ peer. owed_line (by_job w.number) peer false w.what.key) (option_to_list o))
       go None = tt
       go (Some peer) = (is, tt)
   told_well w phase m is = tt
@@ -319,23 +319,23 @@ module _ (laws : Laws) where
   told_frame-well (Some w) None is = tt
   told_frame-well None taken is = tt
 
-  lost_well : (call : Call) (by : By) (os : List Owed) → Each OwedWell os → Each OwedWell (lost call by os)
+  lost_well : (call : Call) (by : By) (os : List Owed) → Each OwedWell os → Each OwedWell (owed_without call by os)
   lost_well PutFile Script os all = all
   lost_well PutFile by os all = Each-drop OwedWell 1 os all
   lost_well call by os all = all
 
-  changed_well : (r : ℕ) (by : By) (there : Bool) (key : List ℕ) → IsKeyText key → Each OwedWell (changed r by there key)
+  changed_well : (r : ℕ) (by : By) (there : Bool) (key : List ℕ) → IsKeyText key → Each OwedWell (owed_for r by there key)
   changed_well r Script there key is = tt
   changed_well r by there key is = (is, tt)
 
-  gained_well : (r : ℕ) (by : By) (size : ℕ) (key : List ℕ) → KindWell (Gain by size key) → Each OwedWell (changed r by true key)
+  gained_well : (r : ℕ) (by : By) (size : ℕ) (key : List ℕ) → KindWell (Gain by size key) → Each OwedWell (owed_for r by true key)
   gained_well r Script size key is = tt
   gained_well r by size key is = (is, tt)
 
   owed_well : (repos : List RepoView) (lines : List ℕ → List (List ℕ)) (clock : ℕ) (ws : List Work) (r : ℕ) (was : List Owed) (e : Entry) (kind : EntryKind)
       → KindWell kind → Each WorkWell ws → Each OwedWell was → Each OwedWell (owed_after repos lines clock ws r was e kind)
-  owed_well repos lines clock ws r was e (Gain by size key) k jobs all = Each-append OwedWell was (changed r by true key) all (gained_well r by size key k)
-  owed_well repos lines clock ws r was e (Gone by key) k jobs all = Each-append OwedWell was (changed r by false key) all (changed_well r by false key k)
+  owed_well repos lines clock ws r was e (Gain by size key) k jobs all = Each-append OwedWell was (owed_for r by true key) all (gained_well r by size key k)
+  owed_well repos lines clock ws r was e (Gone by key) k jobs all = Each-append OwedWell was (owed_for r by false key) all (changed_well r by false key k)
   owed_well repos lines clock ws r was e (Log file) k jobs all = pays_well repos lines clock e file was all
   owed_well repos lines clock ws r was e (Talk (Some job)) k jobs all = Each-append OwedWell was (told_frame (find (λ w. w.number == job) ws) e.taken) all
       (told_frame-well (find (λ w. w.number == job) ws) e.taken (λ w i. Each-member WorkWell ws w jobs (find_member (λ w. w.number == job) ws w i).0))
@@ -369,7 +369,7 @@ module _ (laws : Laws) where
             record {
               jobs = rw i (works_well (rows_at past r) r (works past r) e e.kind kind was.jobs);
               doing = λ a. rw i (session_well (content past r) e.kind (session past r a) (sent_at a e.sent) (taken_at a e.taken) (was.doing a));
-              owes_well = rw i (owed_well repos (kept past r) (wall repos r e.time) (works past r) r (owes repos past r) e e.kind kind was.jobs was.owes_well);
+              owes_well = rw i (owed_well repos (lines_of_file past r) (wall repos r e.time) (works past r) r (owes repos past r) e e.kind kind was.jobs was.owes_well);
             }
 
   -- the keys of owed lines are keys, in each run

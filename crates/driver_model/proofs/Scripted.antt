@@ -14,7 +14,7 @@ use Rattle.run_data.specs.declared.entry.By.TheVariants.{Script}
 use Rattle.run_data.specs.declared.entry.FrameView.{FrameView}
 use Rattle.run_data.specs.declared.job.Job.{Job}
 use Rattle.run_data.specs.declared.job.Outcome.{Outcome}
-use Rattle.run_model.specs.Frames.{sender_of, sent, taken, taker_of}
+use Rattle.run_model.specs.Frames.{sender_of, frames_sent, taken_count, taker_of}
 use Rattle.run_model.specs.Past.{begun, is_of, now}
 use Rattle.node_model.specs.SetUp.{SetUp, others}
 use Rattle.node_model.specs.State.{State}
@@ -34,25 +34,25 @@ use Rattle.driver_model.proofs.Turned.{keeps_answers}
 
 -- ---- one entry
 
-ends_none : (s : SetUp) (st : State) (lines : List (List ℕ)) (sent : List FrameView) (kind : EntryKind) (j : ℕ) (outcome : Outcome) → MayCome s st lines sent kind → kind ≡ kinds.End j outcome → ⊥
-ends_none s st lines sent kind j outcome may is = subst (MayCome s st lines sent) is may
+ends_none : (s : SetUp) (st : State) (lines : List (List ℕ)) (frames_sent : List FrameView) (kind : EntryKind) (j : ℕ) (outcome : Outcome) → MayCome s st lines frames_sent kind → kind ≡ kinds.End j outcome → ⊥
+ends_none s st lines frames_sent kind j outcome may is = subst (MayCome s st lines frames_sent) is may
 
 -- an entry that may come at any time, and takes none
-come_entry : (g : Given) (d : Driver) (r : ℕ) (kind : EntryKind) (lines : List (List ℕ)) (sent : List FrameView) → r < length g.repos → MayCome (set_up_of g d r) (state_at g d r) lines sent kind
-    → NewEntry g d r (record (entry d r kind lines) { sent = sent })
-come_entry g d r kind lines sent known may = record {
+come_entry : (g : Given) (d : Driver) (r : ℕ) (kind : EntryKind) (lines : List (List ℕ)) (frames_sent : List FrameView) → r < length g.repos → MayCome (set_up_of g d r) (state_at g d r) lines frames_sent kind
+    → NewEntry g d r (record (entry d r kind lines) { sent = frames_sent })
+come_entry g d r kind lines frames_sent known may = record {
   words = λ c. None;
   repo_is = refl;
   time_is = refl;
   count_is = refl;
   own = record { known = known; does = inr (record { may = may; takes_none = refl }) };
   first = λ f i. absurd (cc);
-  tells = λ j outcome is c. absurd (ends_none (set_up_of g d r) (state_at g d r) lines sent kind j outcome may is);
+  tells = λ j outcome is c. absurd (ends_none (set_up_of g d r) (state_at g d r) lines frames_sent kind j outcome may is);
 }
 
 -- an entry that only sends
-pub keeps_sends : Laws → (g : Given) (d : Driver) (r : ℕ) (kind : EntryKind) (sent : List FrameView) → r < length g.repos → (Holds g d → MayCome (set_up_of g d r) (state_at g d r) [] sent kind) → Keeps g d → Keeps g (sends g r kind sent d)
-keeps_sends laws g d r kind sent known may k = keeps_adds laws g d r (state_at g d r) (record (entry d r kind []) { sent = sent }) k (λ h fits fit. come_entry g d r kind [] sent known (may h))
+pub keeps_sends : Laws → (g : Given) (d : Driver) (r : ℕ) (kind : EntryKind) (frames_sent : List FrameView) → r < length g.repos → (Holds g d → MayCome (set_up_of g d r) (state_at g d r) [] frames_sent kind) → Keeps g d → Keeps g (sends g r kind frames_sent d)
+keeps_sends laws g d r kind frames_sent known may k = keeps_adds laws g d r (state_at g d r) (record (entry d r kind []) { sent = frames_sent }) k (λ h fits fit. come_entry g d r kind [] frames_sent known (may h))
 
 -- an entry that sends nothing
 pub keeps_notes : Laws → (g : Given) (d : Driver) (r : ℕ) (kind : EntryKind) (lines : List (List ℕ)) → r < length g.repos → (Holds g d → IsSmall kind → MayCome (set_up_of g d r) (state_at g d r) lines [] kind) → Keeps g d → Keeps g (notes r kind lines d)
@@ -145,11 +145,11 @@ flies_other past xs e none r a n (inl o) = inl (subst (λ (c : End). Over c n) (
     same : end_at (e ∷ past) a.peer (other_end r a) ≡ end_at past a.peer (other_end r a)
     same = rw (none a.peer) refl
 flies_other past xs e none r a n (inr l) = inr (record {
-  inside = subst (λ k. k ≤ length (told_sent (e ∷ past) (way_out r a n))) (sym count) (subst (λ zs. taken past (way_out r a n) ≤ length zs) (sym told_same) l.inside);
-  same = l.same ∙ ap (drop (taken past (way_out r a n))) (sym told_same) ∙ ap (λ k. drop k (told_sent (e ∷ past) (way_out r a n))) (sym count);
+  inside = subst (λ k. k ≤ length (told_sent (e ∷ past) (way_out r a n))) (sym count) (subst (λ zs. taken_count past (way_out r a n) ≤ length zs) (sym told_same) l.inside);
+  same = l.same ∙ ap (drop (taken_count past (way_out r a n))) (sym told_same) ∙ ap (λ k. drop k (told_sent (e ∷ past) (way_out r a n))) (sym count);
 })
   where
-    count : taken (e ∷ past) (way_out r a n) ≡ taken past (way_out r a n)
+    count : taken_count (e ∷ past) (way_out r a n) ≡ taken_count past (way_out r a n)
     count = rw (none (taker_of (way_out r a n))) refl
 
     told_same : told_sent (e ∷ past) (way_out r a n) ≡ told_sent past (way_out r a n)

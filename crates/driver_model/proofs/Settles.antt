@@ -10,7 +10,7 @@ use Rattle.run_data.specs.declared.entry.FrameView.{FrameView}
 use Rattle.run_data.specs.declared.entry.FrameText.{FrameText}
 use Rattle.run_data.specs.declared.entry.FrameText.TheVariants.{Bytes, Line}
 use Rattle.node_model.specs.SetUp.{SetUp}
-use Rattle.node_model.specs.Sessions.{line_in, said}
+use Rattle.node_model.specs.Sessions.{line_in, message_said}
 use Rattle.node_model.specs.State.{State}
 use Rattle.node_model.specs.Look.{Look, Made}
 use Rattle.node_model.specs.Step.{step}
@@ -25,7 +25,7 @@ use Rattle.driver_model.proofs.Settling.{goes, rounds_are, settled_stays}
 
 into_past : (r : ℕ) (key bytes : List ℕ) (body : FrameText) (sent : List FrameView) (d : Driver) → (takes_into r key bytes body sent d).past ≡ d.past
 into_past r key bytes (Bytes n) [] d = refl
-into_past r key bytes (Line text) sent d = go (is_valid (line_in (Line text))) (is_failure (said sent))
+into_past r key bytes (Line text) sent d = go (is_valid (line_in (Line text))) (is_failure (message_said sent))
   where
     go : (b c : Bool) → (if b then (if c then drops_part r key d else d) else d).past ≡ d.past
     go true true = refl

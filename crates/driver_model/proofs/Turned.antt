@@ -14,7 +14,7 @@ use Rattle.run_data.specs.declared.entry.FrameText.TheVariants.{Bytes, Line}
 use Rattle.run_data.specs.declared.job.Outcome.{Outcome}
 use Rattle.node_model.specs.SetUp.{SetUp}
 use Rattle.node_model.specs.Ends.{EndName, takes_at}
-use Rattle.node_model.specs.Sessions.{line_in, said}
+use Rattle.node_model.specs.Sessions.{line_in, message_said}
 use Rattle.node_model.specs.State.{State}
 use Rattle.node_model.specs.Look.{Look, Made, entry_of}
 use Rattle.node_model.specs.Step.{step}
@@ -84,7 +84,7 @@ module _ (g : Given) (d : Driver) where
 
   keeps_into : (r : ℕ) (key bytes : List ℕ) (body : FrameText) (sent : List FrameView) → Keeps g d → Keeps g (takes_into r key bytes body sent d)
   keeps_into r key bytes (Bytes n) [] k = keeps_puts r key (part_at d r key ++ bytes) k
-  keeps_into r key bytes (Line text) sent k = go (is_valid (line_in (Line text))) (is_failure (said sent))
+  keeps_into r key bytes (Line text) sent k = go (is_valid (line_in (Line text))) (is_failure (message_said sent))
     where
       go : (b c : Bool) → Keeps g (if b then (if c then drops_part r key d else d) else d)
       go true true = keeps_drops r key k

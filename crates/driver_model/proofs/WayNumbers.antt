@@ -8,7 +8,7 @@ use Rattle.run_data.specs.declared.entry.Entry.{Entry}
 use Rattle.run_data.specs.declared.entry.FrameView.{FrameView}
 use Rattle.run_data.specs.declared.entry.FrameText.{FrameText}
 use Rattle.run_data.specs.declared.entry.FrameText.TheVariants.{Opening, Closing, Bytes, Line}
-use Rattle.run_model.specs.Frames.{Way, flying, on_way, sender_of, sent}
+use Rattle.run_model.specs.Frames.{Way, flying, on_way, sender_of, frames_sent}
 use Rattle.run_model.specs.Past.{is_of}
 use Rattle.node_model.specs.SetUp.{SetUp}
 use Rattle.node_model.specs.Ends.{End, EndName, end_sends, end_takes, end_took, is_opening, may_take, sent_at, taken_at, takes_at}
@@ -103,7 +103,7 @@ counted_takes c f n len may x = go (is_opening f.body) refl
 -- ---- the frames of a way
 
 abbrev pub frames_sent : List Entry → Way → List FrameView
-frames_sent past w = map (λ x. x.frame) (sent past w)
+frames_sent past w = map (λ x. x.frame) (frames_sent past w)
 
 pub record InOrder (past : List Entry) (r : ℕ) (a : EndName) (n : ℕ) : Type 0 where
   pub counted : Counted (end_at past r a) n (length (frames_sent past (way_out r a n)))
@@ -119,7 +119,7 @@ frames_flying e past (g ∷ gs) = ap (λ zs. g ∷ zs) (frames_flying e past gs)
 
 -- what an entry of the sender adds
 pub sent_more : (e : Entry) (past : List Entry) (w : Way) → is_of (sender_of w) e ≡ true → frames_sent (e ∷ past) w ≡ frames_sent past w ++ on_way w e
-sent_more e past w is = rw is (map_append (λ x. x.frame) (sent past w) (map (flying e past) (on_way w e)) ∙ ap (λ gs. map (λ x. x.frame) (sent past w) ++ gs) (frames_flying e past (on_way w e)))
+sent_more e past w is = rw is (map_append (λ x. x.frame) (frames_sent past w) (map (flying e past) (on_way w e)) ∙ ap (λ gs. map (λ x. x.frame) (frames_sent past w) ++ gs) (frames_flying e past (on_way w e)))
 
 pub sent_same_as : (e : Entry) (past : List Entry) (w : Way) → is_of (sender_of w) e ≡ false → frames_sent (e ∷ past) w ≡ frames_sent past w
 sent_same_as e past w is = rw is refl

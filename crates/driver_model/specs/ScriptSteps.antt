@@ -20,7 +20,7 @@ use Rattle.run_data.specs.declared.job.Job.{Job}
 use Rattle.run_data.specs.Repos.{id_of}
 use Rattle.run_model.specs.Past.{begun, now, present}
 use Rattle.node_model.specs.Clocks.{wall}
-use Rattle.run_model.specs.Logs.{branch, kept}
+use Rattle.run_model.specs.Logs.{branch, lines_of_file}
 use Rattle.node_model.specs.Files.{compact_lines}
 use Rattle.run_data.specs.Files.{file_of, file_path, kind_of}
 use Rattle.node_model.specs.Ends.{EndName}
@@ -45,7 +45,7 @@ abbrev pub wall_of : Given → Driver → ℕ → ℕ
 wall_of g d r = wall g.repos r (now d.past)
 
 abbrev pub lines_of : Driver → ℕ → LogFile → List (List ℕ)
-lines_of d r file = kept d.past r (file_path file)
+lines_of d r file = lines_of_file d.past r (file_path file)
 
 -- the lines that the file doesn't have
 abbrev pub unknown : Driver → ℕ → LogFile → List (List ℕ) → List (List ℕ)

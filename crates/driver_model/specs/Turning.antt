@@ -17,7 +17,7 @@ use Rattle.p2p_wire.specs.declared.message.Message.{Message}
 use Rattle.p2p_wire.specs.declared.message.Message.TheVariants.{Failure, Put, Valid}
 use Rattle.node_model.specs.SetUp.{SetUp}
 use Rattle.node_model.specs.Ends.{takes_at}
-use Rattle.node_model.specs.Sessions.{Doing, Takes, Took, Wants, line_in, said}
+use Rattle.node_model.specs.Sessions.{Doing, Takes, Took, Wants, line_in, message_said}
 use Rattle.node_model.specs.Jobs.{Work}
 use Rattle.node_model.specs.State.{State}
 use Rattle.node_model.specs.Step.{step}
@@ -135,7 +135,7 @@ is_failure _ = false
 -- a piece that is taken without an answer is appended; a part that doesn't match is dropped
 abbrev pub takes_into : ℕ → List ℕ → List ℕ → FrameText → List FrameView → Driver → Driver
 takes_into r key bytes (Bytes n) [] d = puts_part r key (part_at d r key ++ bytes) d
-takes_into r key bytes (Line text) sent d = if is_valid (line_in (Line text)) then (if is_failure (said sent) then drops_part r key d else d) else d
+takes_into r key bytes (Line text) sent d = if is_valid (line_in (Line text)) then (if is_failure (message_said sent) then drops_part r key d else d) else d
 takes_into r key bytes body sent d = d
 
 abbrev pub bytes_of : Option Flight → List ℕ

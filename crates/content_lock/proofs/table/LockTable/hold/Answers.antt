@@ -1,3 +1,4 @@
+-- What the proof of `table::LockTable::hold` needs beside the tactics.
 use Rattle.std.proofs.Common.{false, List, ◌<◌, ap, sym, subst, ◌∙◌}
 use Rattle.std.specs.Prelude.{All}
 use Rattle.run_data.specs.declared.row.Hold.{Hold}

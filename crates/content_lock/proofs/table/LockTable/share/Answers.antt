@@ -1,3 +1,4 @@
+-- What the proof of `table::LockTable::share` needs beside the tactics.
 use Rattle.std.proofs.Common.{◌+◌}
 use Rattle.std.proofs.lemmas.Result.{on_ok_weaker}
 use Rattle.content_lock.proofs.StoredLemmas.{share_given, share_others, share_owns}
