@@ -1,6 +1,6 @@
 -- The lines that a script writes are lines: they have no newline, and aren't empty.
 use Rattle.std.proofs.Common.{◌≢◌, ℕ, List, [], ◌∷◌, ◌++◌, Some, refl}
-use Rattle.annex_base.specs.Lines.{IsOneLine}
+use Rattle.annex_base.specs.Lines.{IsOneLine, space}
 use Rattle.annex_base.specs.Lists.{Each}
 use Rattle.annex_base.specs.declared.kinds.Level.{Level}
 use Rattle.annex_base.specs.declared.kinds.Level.TheVariants as levels
@@ -14,7 +14,6 @@ use Rattle.log_lines.specs.declared.entry.Topic.TheVariants as topics
 use Rattle.log_lines.specs.declared.entry.Value.{Value}
 use Rattle.log_lines.specs.declared.entry.Value.TheVariants as values
 use Rattle.log_lines.specs.declared.entry.Entry.{Entry}
-use Rattle.annex_base.specs.Lines.{space}
 use Rattle.log_lines.specs.LineText.{stamp_mark, topic_text, value_text, spaced_value, level_letter, stamp_first, stamp_last, line_text, repo_line_text, number_line_text}
 use Rattle.union_merge.specs.LineSet.{IsLine}
 use Rattle.driver_model.specs.Scripts.{IsPlainTopic, IsPlainValue}
