@@ -12,7 +12,7 @@ use Rattle.p2p_wire.specs.declared.message.Message.{Message}
 use Rattle.p2p_wire.specs.declared.message.Message.TheVariants.{Success, Failure}
 use Rattle.object_store.specs.Stores.{Contents, with_at}
 use Rattle.run_data.specs.declared.entry.FrameText.TheVariants.{Closing}
-use Rattle.node_model.specs.SessionStep.{Here, Reply, reply, silent}
+use Rattle.node_model.specs.SessionStep.{Here, Reply, reply, silent_reply}
 use Rattle.content_lock.specs.Rows.{AreAfter, Rows, bar_at}
 use Rattle.content_lock.specs.Stored.{without_content}
 use Rattle.p2p_server.specs.declared.step.Step.{Step}
@@ -53,7 +53,7 @@ talks x rows c known part right asked m step is same f =
 
 pub quiets : (x : Scene) (rows : Rows) (c : Contents) (known : Option Contents) (part : ℕ) (right : Bool) (asked : Here → Reply) (step : Step)
     → step ≡ record { kind = Talk None; reply = None; close = false } → known ≡ Some c
-    → silent (Talk None) ≡ asked (here_of x rows c None part right) → Does x rows c known part right asked step
+    → silent_reply (Talk None) ≡ asked (here_of x rows c None part right) → Does x rows c known part right asked step
 quiets x rows c known part right asked step is same f =
     subst (λ (s : Step). Does x rows c known part right asked s) (sym is)
     (record { answers = f; changes = record { contents = c; told = same; present = λ k. refl; sizes = λ k. refl } })

@@ -1,3 +1,4 @@
+-- The lemmas of this crate.
 pub mod Replies
 pub mod Doings
 pub mod Agreeing

@@ -16,7 +16,7 @@ use Rattle.p2p_wire.specs.declared.message.Message.TheVariants as messages
 use Rattle.object_store.specs.Stores.{AreShort, AreSmallParts, Contents, Parts, with_at}
 use Rattle.node_model.specs.Rows.{keep_of}
 use Rattle.node_model.specs.Sessions as sessions
-use Rattle.node_model.specs.SessionStep.{Here, by_of, gives_next, on_bytes, silent}
+use Rattle.node_model.specs.SessionStep.{Here, by_of, gives_next, on_bytes, silent_reply}
 use Rattle.content_lock.specs.Tokens.{Owns, ShareView}
 use Rattle.p2p_server.specs.declared.doing.Doing.{Doing}
 use Rattle.p2p_server.specs.declared.doing.Doing.TheVariants as doings
@@ -88,7 +88,7 @@ longer_so d t known known' piece has grown small p is p' is' =
     let told : p' ≡ with_at p t.fill (p t.fill ++ piece) = same_Some _ _ (sym is' ∙ grown ∙ ap (option_map (λ (q : Parts). with_at q t.fill (q t.fill ++ piece))) is) in
     subst (λ (x : Doing). IsLonger x p p' piece) (sym has) (longer t p p' piece told (small p' is'))
 
-pub piece_taken : (h : Here) (key : List ℕ) (size left n : ℕ) → h.fails ≡ None → 0 < n → n ≤ left → silent (Talk None) ≡ on_bytes h n (sessions.Takes key size left)
+pub piece_taken : (h : Here) (key : List ℕ) (size left n : ℕ) → h.fails ≡ None → 0 < n → n ≤ left → silent_reply (Talk None) ≡ on_bytes h n (sessions.Takes key size left)
 piece_taken h key size left n f some fits =
     let a : nat_lt 0 n ≡ true = lt-ltb 0 n some in
     let b : nat_le n left ≡ true = le-leb n left fits in

@@ -16,7 +16,7 @@ use Rattle.key_verify.specs.Sums.{HasTaken, sum_of}
 use Rattle.key_verify.specs.Matching.{MatchesKey}
 use Rattle.node_model.specs.Rows.{bar_after, holds_after}
 use Rattle.node_model.specs.Sessions as sessions
-use Rattle.node_model.specs.Sessions.{new_session, said, sends_close, session_left, took_bytes, took_message, version_told}
+use Rattle.node_model.specs.Sessions.{new_session, message_said, sends_close, session_left, took_bytes, took_message, version_told}
 use Rattle.node_model.specs.SessionStep.{Here, Reply, on_bytes, on_frame, on_text}
 use Rattle.content_lock.specs.Rows.{Rows, bar_at, is_filling}
 use Rattle.content_lock.specs.Tokens.{ShareView}
@@ -91,7 +91,7 @@ on_heard h was (incoming.Message m) = on_text h was (Some m)
 
 -- the frames that a step sends: its reply, if they have a message, and a Close
 pub record SaysSo (step : Step) (sent : List FrameView) : Type 0 where
-  pub said_is : said sent ≡ step.reply
+  pub said_is : message_said sent ≡ step.reply
   pub close_is : sends_close sent ≡ step.close
 
 -- `session_took` of what is heard, and of an entry of this kind that said this

@@ -15,7 +15,7 @@ ghost use Rattle.node_model.specs.Ends.{EndName, server_end};
 ghost use Rattle.node_model.specs.Look.{Look};
 ghost use Rattle.node_model.specs.Rows.{same_owner};
 ghost use Rattle.node_model.specs.Sessions as sessions;
-ghost use Rattle.node_model.specs.Sessions.{gave_bytes, gives, new_session, reaches, session_after, session_left, took_bytes, version_told, wanted, wants};
+ghost use Rattle.node_model.specs.Sessions.{gave_bytes, gives, new_session, reaches, session_after, session_left, took_bytes, version_told, takes_from, wants};
 ghost use Rattle.node_model.specs.SessionStep.{bytes_left, content_of, gives_next, here, is_filled, on_bytes, on_frame, on_message, on_put, reply, tries};
 ghost use Rattle.node_model.specs.SetUp.{SetUp};
 ghost use Rattle.node_model.specs.State.{State};
@@ -956,7 +956,7 @@ fn spend(doing: Doing, table: &mut LockTable)
 /// So many bytes are to come.
 fn expect(doing: &mut Doing, count: u64)
     requires phase { IsWanting doing.old }
-    ensures doing { doing_of doing.new ≡ wanted count (doing_of doing.old) }
+    ensures doing { doing_of doing.new ≡ takes_from count (doing_of doing.old) }
     ensures share { share_in doing.new ≡ share_in doing.old }
     ensures fills { (rows : Rows) → HasFill rows doing.old → HasFill rows doing.new }
     ensures fed { (p : Parts) → IsFed p doing.old → IsFed p doing.new }

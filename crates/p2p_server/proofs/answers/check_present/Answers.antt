@@ -1,3 +1,4 @@
+-- What the proof of `answers::check_present` needs beside the tactics.
 use Rattle.std.proofs.Common.{None, refl, ◌∙◌}
 use Rattle.p2p_server.specs.Answers.{here_of}
 use Rattle.p2p_server.proofs.Replies.{check_there, check_gone, check_barred}

@@ -1,3 +1,4 @@
+-- What the proof of `answers::lock` needs beside the tactics.
 use Rattle.std.proofs.Common.{Some, None, refl, ◌∙◌}
 use Rattle.p2p_server.specs.Answers.{here_of}
 use Rattle.p2p_server.proofs.Replies.{lock_gone, lock_barred, lock_failed, share_leaves}

@@ -1,3 +1,4 @@
+-- What the proof of `answers::remove` needs beside the tactics.
 use Rattle.std.proofs.Common.{Some, None, refl, ◌∙◌}
 use Rattle.p2p_server.specs.Answers.{here_of}
 use Rattle.p2p_server.proofs.Replies.{remove_there, remove_gone, remove_barred, remove_held, remove_failed, remove_leaves}

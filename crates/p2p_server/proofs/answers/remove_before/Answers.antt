@@ -1,3 +1,4 @@
+-- What the proof of `answers::remove_before` needs beside the tactics.
 use Rattle.std.proofs.Common.{◌≡◌, ℕ, ◌<◌, ◌*◌, ◌/◌, true, nat_lt, arith}
 use Rattle.p2p_server.proofs.answers.remove_before.Goals as goal
 

@@ -1,3 +1,4 @@
+-- What the proof of `session::spend` needs beside the tactics.
 use Rattle.std.proofs.Common.{refl}
 use Rattle.p2p_server.proofs.Agreeing.{agrees_on}
 use Rattle.p2p_server.proofs.Holding.{gave_back}

@@ -1,3 +1,4 @@
+-- What the proof of `session::Session::end` needs beside the tactics.
 use Rattle.p2p_server.specs.Answers.{owner_at}
 use Rattle.p2p_server.proofs.Numbers.{closed_numbers}
 use Rattle.p2p_server.proofs.session.Session.end.Goals as goal

@@ -1,3 +1,4 @@
+-- What the proof of `session::Session::let_go` needs beside the tactics.
 use Rattle.std.proofs.Common.{sym}
 use Rattle.p2p_server.specs.Answers.{owner_at}
 use Rattle.p2p_server.proofs.session.Session.let_go.Goals as goal

@@ -1,3 +1,4 @@
+-- What the proof of `session::Session::lock` needs beside the tactics.
 use Rattle.p2p_server.proofs.session.Session.lock.Goals as goal
 
 pub returns-in-None-clause-does : goal.returns-in-None-clause-does

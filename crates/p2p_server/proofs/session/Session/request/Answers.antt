@@ -1,3 +1,4 @@
+-- What the proof of `session::Session::request` needs beside the tactics.
 use Rattle.std.proofs.Common.{◌≡◌, true}
 use Rattle.std.specs.Prelude.{nat_le}
 use Rattle.std.proofs.lemmas.Bool.{le-leb}

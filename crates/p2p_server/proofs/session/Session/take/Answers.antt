@@ -1,3 +1,4 @@
+-- What the proof of `session::Session::take` needs beside the tactics.
 use Rattle.std.proofs.Common.{Ok, Err, IfOk, OnErr, ◌∙◌}
 use Rattle.std.proofs.lemmas.Result.{IfOk-weaker, on_err_weaker}
 use Rattle.annex_base.proofs.Results.{IfOk-both}

@@ -1,3 +1,4 @@
+-- What the proof of `session::Session::unlock` needs beside the tactics.
 use Rattle.p2p_server.proofs.Agreeing.{agrees_on}
 use Rattle.p2p_server.proofs.session.Session.unlock.Goals as goal
 
