@@ -1,0 +1,4 @@
+pub mod Worker
+pub mod Standings
+pub mod Working
+pub mod Doing
