@@ -1,0 +1,50 @@
+-- What a worker knows, by what it reads (the project's own).
+use Rattle.std.specs.Prelude.{ℕ, ◌+◌, Bool, List, [], ◌∷◌, find, Option, Some, None}
+use Rattle.std.specs.List.{range_with_len}
+use Rattle.drop_proof.specs.declared.evidence.Evidence.{Evidence}
+use Rattle.drop_proof.specs.declared.evidence.Kind.{Kind}
+use Rattle.drop_proof.specs.declared.rule.Side.{Side}
+use Rattle.node_model.specs.Evidence.{Offer, Gives, Fails, but, gather, reached}
+use Rattle.node_model.specs.Knows.{Reading, is_unasked, offer_by}
+use Rattle.drop_proof.specs.declared.evidence.Kind.TheVariants.{Locked, Recent}
+use Rattle.node_model.specs.Look.{Made}
+use Rattle.node_model.specs.JobStep.{Turn, clock_of, ends}
+use Rattle.node_model.specs.DropStep.{expired, first_end, lacking}
+use Rattle.node_model.specs.Requests.{goes_to}
+use Rattle.drop_worker.specs.Doing.{removes_now}
+use Rattle.drop_worker.specs.declared.judging.Verdict.{Verdict}
+use Rattle.drop_worker.specs.declared.judging.Verdict.TheVariants as verdicts
+use Rattle.drop_worker.specs.declared.phase.Heard.{Heard}
+use Rattle.drop_worker.specs.declared.phase.Heard.TheVariants as heards
+use Rattle.drop_worker.specs.Worker.{Worker}
+use Rattle.drop_worker.specs.Working.{heard_in}
+
+abbrev pub offer_as : Option Kind → Offer
+offer_as (Some kind) = Gives kind
+offer_as None = Fails
+
+abbrev pub offer_of : Reading → Worker → ℕ → Offer
+offer_of r w c = offer_by r.clock (r.standing c) (heard_in w.heard c)
+
+abbrev pub asks_of : Reading → Worker → ℕ → Bool
+asks_of r w c = is_unasked (r.standing c) (heard_in w.heard c)
+
+-- the other repositories, which are the candidates of a local drop
+abbrev pub others_in : Reading → List ℕ
+others_in r = but r.repo (range_with_len 0 r.count)
+
+abbrev pub gathered : Side → Reading → Worker → List ℕ → List Evidence → List Evidence
+gathered side r w cs items = gather side r.need (offer_of r w) (reached (asks_of r w) cs) items
+
+-- what was heard gives
+abbrev pub offer_heard : (ℕ → ℕ) → Option Heard → Offer
+offer_heard clock (Some (heards.Held since)) = Gives (Locked (clock since + 600000))
+offer_heard clock (Some heards.Seen) = Gives Recent
+offer_heard clock _ = Fails
+
+-- the step of a local drop by its judgement
+abbrev pub step_by : Verdict → Turn → Made
+step_by (verdicts.Asks peer) t = goes_to t peer
+step_by verdicts.Removes t = removes_now t
+step_by verdicts.Late t = ends t None (expired (clock_of t) (first_end t))
+step_by verdicts.Lacks t = ends t None (lacking t)
