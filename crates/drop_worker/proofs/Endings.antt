@@ -75,6 +75,7 @@ ends_does x rows rows' p w w' taken asked outcome sends out is sent after f =
       makes = λ rest. made rest ∙ f rest;
       next = λ e. absurd (cc);
       after = after;
+      whose = refl;
     })
   where
     made : (rest : Rest) → made_of x w taken (record { kind = ends_job w.number outcome; sends = sends; ended = true }) ≡ ends (turn_in x rows p None rest w) taken outcome

@@ -27,7 +27,8 @@ use Rattle.drop_worker.specs.declared.turn.Output.{Output}
 use Rattle.drop_worker.specs.declared.turn.Taken.TheVariants as takens
 use Rattle.drop_worker.specs.Worker.{Worker}
 use Rattle.drop_worker.specs.Working.{Rest, Sight, heard_as, end_in, frames_of, made_of, phase_as, taken_line, taken_of, texts_of, turn_in, work_of}
-use Rattle.drop_worker.specs.Doing.{Does, Comes, Shuts, moved}
+use Rattle.node_model.specs.Slots.{job_of}
+use Rattle.drop_worker.specs.Doing.{Does, Comes, GoesOn, Shuts, Talks, moved}
 use Rattle.drop_worker.proofs.Talks.{on_heard, on_said, on_shut, open_line}
 
 -- ---- the line that came
@@ -55,34 +56,38 @@ line_takes t f peer m l = rw (l.is, l.reads) refl
 abbrev took_was : Work → FrameText → Work
 took_was w body = took w body
 
-module _ (t : Turn) (f : FrameView) (peer : ℕ) (took : Message) (drops : t.w.part ≡ Drops) (learn : learns t.w t.w.phase (Some f) ≡ t.w) (with_peer : partner t.w.what.peer t.w.phase ≡ Some peer)
+-- n is the version that the work has learnt, or had
+module _ (t : Turn) (f : FrameView) (peer : ℕ) (took : Message) (n : ℕ) (drops : t.w.part ≡ Drops) (learn : learns t.w t.w.phase (Some f) ≡ record t.w { version = n }) (with_peer : partner t.w.what.peer t.w.phase ≡ Some peer)
     (l : Lined f.body took) (live : (end_with t peer).opened ≡ true) where
   abbrev at_work : Made → Jobs.Rows → Work
   at_work m rows = talks_on rows (me t) (learns (claims t.w t.w.part t.w.phase) t.w.phase (Some f)) (entry_of (me t) t.look m) (partner t.w.what.peer t.w.phase)
 
-  here : (m : Made) (rows : Jobs.Rows) → at_work m rows ≡ talks_on rows (me t) t.w (entry_of (me t) t.look m) (Some peer)
+  abbrev now_work : Work
+  now_work = record t.w { version = n }
+
+  here : (m : Made) (rows : Jobs.Rows) → at_work m rows ≡ talks_on rows (me t) now_work (entry_of (me t) t.look m) (Some peer)
   here m rows = λ i. talks_on rows (me t) ((ap (λ (part : Part). learns (claims t.w part t.w.phase) t.w.phase (Some f)) drops ∙ learn) i) (entry_of (me t) t.look m) (with_peer i)
 
   told : taken_message (Some f) ≡ Some took
   told = rw (l.is, l.reads) refl
 
-  pub moved_heard : moved t (hears t f) ≡ took_line t.w (Some took)
+  pub moved_heard : moved t (hears t f) ≡ took_line now_work (Some took)
   moved_heard =
       let rows : Jobs.Rows = record { present = t.present; bar = t.bar; ends = t.ends } in
-      here (hears t f) rows ∙ (on_heard rows (me t) t.w (entry_of (me t) t.look (hears t f)) peer refl (open_line (job_end t.w peer) (end_with t peer) f l.text l.is live)
-      ∙ (ap (took_was t.w) l.is ∙ ap (took_line t.w) l.reads))
+      here (hears t f) rows ∙ (on_heard rows (me t) now_work (entry_of (me t) t.look (hears t f)) peer refl (open_line (job_end t.w peer) (end_with t peer) f l.text l.is live)
+      ∙ (ap (took_was now_work) l.is ∙ ap (took_line now_work) l.reads))
 
-  pub moved_said : (m : Message) → message_of (text_of m) ≡ Some m → moved t (says_to t (talk t) (Some f) peer m) ≡ says t.w t.look.time peer (Some took) m
+  pub moved_said : (m : Message) → message_of (text_of m) ≡ Some m → moved t (says_to t (talk t) (Some f) peer m) ≡ says now_work t.look.time peer (Some took) m
   moved_said m reads =
       let rows : Jobs.Rows = record { present = t.present; bar = t.bar; ends = t.ends } in
       here (says_to t (talk t) (Some f) peer m) rows
-      ∙ (on_said rows (me t) t.w (entry_of (me t) t.look (says_to t (talk t) (Some f) peer m)) peer m refl (open_line (job_end t.w peer) (end_with t peer) f l.text l.is live) reads
-      ∙ ap (λ (o : Option Message). says t.w t.look.time peer o m) told)
+      ∙ (on_said rows (me t) now_work (entry_of (me t) t.look (says_to t (talk t) (Some f) peer m)) peer m refl (open_line (job_end t.w peer) (end_with t peer) f l.text l.is live) reads
+      ∙ ap (λ (o : Option Message). says now_work t.look.time peer o m) told)
 
-  pub moved_shut : moved t (wrong t f peer) ≡ closed_part (me t) t.w peer Drops
+  pub moved_shut : moved t (wrong t f peer) ≡ closed_part (me t) now_work peer Drops
   moved_shut =
       let rows : Jobs.Rows = record { present = t.present; bar = t.bar; ends = t.ends } in
-      here (wrong t f peer) rows ∙ (on_shut rows (me t) t.w (entry_of (me t) t.look (wrong t f peer)) peer refl ∙ ap (closed_part (me t) t.w peer) drops)
+      here (wrong t f peer) rows ∙ (on_shut rows (me t) now_work (entry_of (me t) t.look (wrong t f peer)) peer refl ∙ ap (closed_part (me t) now_work peer) drops)
 
 -- the local drop's target is itself
 pub closed_local : (r : ℕ) (w : Work) (peer : ℕ) → side_of w ≡ Local → (r == peer) ≡ false → closed_part r w peer Drops ≡ Jobs.hears w peer (Jobs.Lacks causes.Closed)
@@ -99,6 +104,7 @@ talk_does x rows p w w' taken asked items out kind sends f n =
       makes = λ rest. rw (kind, sends) (f rest);
       next = λ e rest. rw kind (n rest);
       after = record { holds = rw kind refl; bars = λ k. rw kind refl; fills = refl };
+      whose = ap job_of kind;
     }
 
 pub heard_next : (rest : Rest) (w w' : Worker) (peer : ℕ) (h : Heard) → w' ≡ record w { heard = (peer, h) ∷ w.heard; phase = phases.Next }
@@ -108,11 +114,11 @@ heard_next rest w w' peer h next = ap (work_of rest) next
 one_parcel : (x : Sight) (slot peer : ℕ) (m : Message) → frames_of x.ends slot (record { peer = peer; body = bodies.Message m } ∷ []) ≡ frames (end_in slot peer) (x.ends (end_in slot peer)) (Line (text_of m) ∷ [])
 one_parcel x slot peer m = append-nil (frames (end_in slot peer) (x.ends (end_in slot peer)) (Line (text_of m) ∷ []))
 
-close_parcel : (x : Sight) (slot peer : ℕ) → frames_of x.ends slot (record { peer = peer; body = bodies.Close } ∷ []) ≡ frames (end_in slot peer) (x.ends (end_in slot peer)) (Closing ∷ [])
+pub close_parcel : (x : Sight) (slot peer : ℕ) → frames_of x.ends slot (record { peer = peer; body = bodies.Close } ∷ []) ≡ frames (end_in slot peer) (x.ends (end_in slot peer)) (Closing ∷ [])
 close_parcel x slot peer = append-nil (frames (end_in slot peer) (x.ends (end_in slot peer)) (Closing ∷ []))
 
-module _ (x : Sight) (rows : Rows) (p : List ℕ → Bool) (w w' : Worker) (f : FrameView) (peer : ℕ) (took : Message) (out : Output) (kind : out.kind ≡ Talk (Some w.number))
-    (comes : Comes x w.slot peer f (takens.Message took)) (learn : (rest : Rest) → learns (work_of rest w) (phase_as w.phase) (Some f) ≡ work_of rest w)
+module _ (x : Sight) (rows : Rows) (p : List ℕ → Bool) (w w' : Worker) (f : FrameView) (peer : ℕ) (took : Message) (n : ℕ) (out : Output) (kind : out.kind ≡ Talk (Some w.number))
+    (comes : Comes x w.slot peer f (takens.Message took)) (learn : (rest : Rest) → learns (work_of rest w) (phase_as w.phase) (Some f) ≡ record (work_of rest w) { version = n })
     (with_peer : partner w.job.peer (phase_as w.phase) ≡ Some peer) where
   abbrev turn : Rest → Turn
   turn rest = turn_in x rows p None rest w
@@ -124,30 +130,42 @@ module _ (x : Sight) (rows : Rows) (p : List ℕ → Bool) (w w' : Worker) (f : 
   line = lined f.body took comes.is
 
   pub hear_does : out.sends.items ≡ [] → ((rest : Rest) → hears (turn rest) f ≡ takes (turn rest) f peer (phase_as w.phase) took)
-      → ((rest : Rest) → work_of rest w' ≡ took_line (work_of rest w) (Some took)) → Does x rows rows p w w' (Some f) (λ t. takes_frame t peer f f.body) out
+      → ((rest : Rest) → work_of rest w' ≡ took_line (record (work_of rest w) { version = n }) (Some took)) → Does x rows rows p w w' (Some f) (λ t. takes_frame t peer f f.body) out
   hear_does sends makes next =
       let is : (rest : Rest) → hears (turn rest) f ≡ asked (turn rest) = λ rest. makes rest ∙ line_takes (turn rest) f peer took line in
       talk_does x rows p w w' (Some f) asked [] out kind sends is
-      (λ rest. next rest ∙ (sym (moved_heard (turn rest) f peer took refl (learn rest) with_peer line comes.live) ∙ ap (moved (turn rest)) (is rest)))
+      (λ rest. next rest ∙ (sym (moved_heard (turn rest) f peer took n refl (learn rest) with_peer line comes.live) ∙ ap (moved (turn rest)) (is rest)))
 
   pub say_does : (m : Message) → out.sends.items ≡ record { peer = peer; body = bodies.Message m } ∷ [] → message_of (text_of m) ≡ Some m
       → ((rest : Rest) → says_to (turn rest) (talk (turn rest)) (Some f) peer m ≡ takes (turn rest) f peer (phase_as w.phase) took)
-      → ((rest : Rest) → work_of rest w' ≡ says (work_of rest w) x.time peer (Some took) m) → Does x rows rows p w w' (Some f) (λ t. takes_frame t peer f f.body) out
+      → ((rest : Rest) → work_of rest w' ≡ says (record (work_of rest w) { version = n }) x.time peer (Some took) m) → Does x rows rows p w w' (Some f) (λ t. takes_frame t peer f f.body) out
   say_does m sends reads makes next =
       let is : (rest : Rest) → says_to (turn rest) (talk (turn rest)) (Some f) peer m ≡ asked (turn rest) = λ rest. makes rest ∙ line_takes (turn rest) f peer took line in
       talk_does x rows p w w' (Some f) asked _ out kind sends
       (λ rest. (λ i. record { kind = Talk (Some w.number); taken = Some f; sent = one_parcel x w.slot peer m i; lines = [] }) ∙ is rest)
-      (λ rest. next rest ∙ (sym (moved_said (turn rest) f peer took refl (learn rest) with_peer line comes.live m reads) ∙ ap (moved (turn rest)) (is rest)))
+      (λ rest. next rest ∙ (sym (moved_said (turn rest) f peer took n refl (learn rest) with_peer line comes.live m reads) ∙ ap (moved (turn rest)) (is rest)))
 
-  pub shut_does : drop_side w.job.kind w.job.peer ≡ Local → Shuts peer w w' out
+  pub shut_does : drop_side w.job.kind w.job.peer ≡ Local → out.sends.items ≡ record { peer = peer; body = bodies.Close } ∷ []
+      → w' ≡ record w { heard = (peer, heards.Lacks causes.Closed) ∷ w.heard; phase = phases.Next; version = n }
       → ((rest : Rest) → wrong (turn rest) f peer ≡ takes (turn rest) f peer (phase_as w.phase) took) → Does x rows rows p w w' (Some f) (λ t. takes_frame t peer f f.body) out
-  shut_does local shuts makes =
+  shut_does local sends next makes =
       let is : (rest : Rest) → wrong (turn rest) f peer ≡ asked (turn rest) = λ rest. makes rest ∙ line_takes (turn rest) f peer took line in
-      talk_does x rows p w w' (Some f) asked _ out kind shuts.sends
+      talk_does x rows p w w' (Some f) asked _ out kind sends
       (λ rest. (λ i. record { kind = Talk (Some w.number); taken = Some f; sent = close_parcel x w.slot peer i; lines = [] }) ∙ is rest)
-      (λ rest. heard_next rest w w' peer (heards.Lacks causes.Closed) shuts.next ∙ (sym (closed_local x.read.repo (work_of rest w) peer local comes.apart)
-      ∙ (sym (moved_shut (turn rest) f peer took refl (learn rest) with_peer line comes.live) ∙ ap (moved (turn rest)) (is rest))))
+      (λ rest. ap (work_of rest) next ∙ (sym (closed_local x.read.repo (record (work_of rest w) { version = n }) peer local comes.apart)
+      ∙ (sym (moved_shut (turn rest) f peer took n refl (learn rest) with_peer line comes.live) ∙ ap (moved (turn rest)) (is rest))))
 
 pub if_ok : {T E : Type 0} (r : Result T E) (P Q : T → Type 0) → IfOk r P → ((y : T) → P y → Q y) → IfOk r Q
 if_ok (Ok y) P Q a f = f y a
 if_ok (Err e) P Q a f = tt
+
+-- ---- what stays of a worker that talks
+
+pub talks_as : (w v w' : Worker) (out : Output) → out.kind ≡ Talk (Some w.number) → out.ended ≡ false → w' ≡ v → v.number ≡ w.number → v.job ≡ w.job → v.token ≡ w.token → GoesOn v.phase
+    → Talks w w' out
+talks_as w v w' out kind ended is number job token phase =
+    subst (λ (u : Worker). Talks w u out) (sym is) (record { kind = kind; goes_on = ended; number = number; job = job; token = token; phase = phase })
+
+pub heard_talks : (w w' : Worker) (peer : ℕ) (h : Heard) (out : Output) → out.kind ≡ Talk (Some w.number) → out.ended ≡ false
+    → w' ≡ record w { heard = (peer, h) ∷ w.heard; phase = phases.Next } → Talks w w' out
+heard_talks w w' peer h out kind ended is = talks_as w (record w { heard = (peer, h) ∷ w.heard; phase = phases.Next }) w' out kind ended is refl refl refl tt

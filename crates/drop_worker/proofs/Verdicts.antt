@@ -25,9 +25,11 @@ removes_so : (t : Turn) → side_of t.w ≡ Local → enough_by t.read t.w ≡ t
 removes_so t side enough soon =
     sym ((λ i. judges t (enough i) (next_by t.read t.w) (side i)) ∙ ap (λ (b : Bool). if b then removes_now t else ends t None (expired (clock_of t) (first_end t))) soon)
 
-late_so : (t : Turn) → side_of t.w ≡ Local → enough_by t.read t.w ≡ true → in_time (clock_of t) (first_end t) ≡ false → step_by verdicts.Late t ≡ next_step t Drops
-late_so t side enough late =
-    sym ((λ i. judges t (enough i) (next_by t.read t.w) (side i)) ∙ ap (λ (b : Bool). if b then removes_now t else ends t None (expired (clock_of t) (first_end t))) late)
+late_so : (t : Turn) (end clock : ℕ) → side_of t.w ≡ Local → enough_by t.read t.w ≡ true → first_end t ≡ Some end → clock_of t ≡ clock → nat_lt clock end ≡ false
+    → step_by (verdicts.Late end clock) t ≡ next_step t Drops
+late_so t end clock side enough first now late =
+    sym ((λ i. judges t (enough i) (next_by t.read t.w) (side i))
+    ∙ (ap (λ (b : Bool). if b then removes_now t else ends t None (expired (clock_of t) (first_end t))) ((λ i. in_time (now i) (first i)) ∙ late) ∙ (λ i. ends t None (expired (now i) (first i)))))
 
 asks_so : (t : Turn) (peer : ℕ) → enough_by t.read t.w ≡ false → next_by t.read t.w ≡ Some peer → step_by (verdicts.Asks peer) t ≡ next_step t Drops
 asks_so t peer enough next = sym (λ i. judges t (enough i) (next i) (side_of t.w))
@@ -55,9 +57,9 @@ module _ (x : Sight) (rows : Rows) (p : List ℕ → Bool) (fails : Option Call)
   removes_by end enough first soon =
       removes_so turn local (sym enough_is ∙ enough) (ap (λ (l : List Evidence). in_time (x.read.clock x.time) (least_end l)) (sym known_is) ∙ (ap (in_time (x.read.clock x.time)) first ∙ soon))
 
-  pub late_by : (end : Option ℕ) → is_enough Local need items ≡ true → least_end items ≡ end → in_time (x.read.clock x.time) end ≡ false → step_by verdicts.Late turn ≡ next_step turn Drops
-  late_by end enough first late =
-      late_so turn local (sym enough_is ∙ enough) (ap (λ (l : List Evidence). in_time (x.read.clock x.time) (least_end l)) (sym known_is) ∙ (ap (in_time (x.read.clock x.time)) first ∙ late))
+  pub late_by : (end clock : ℕ) → is_enough Local need items ≡ true → least_end items ≡ Some end → x.read.clock x.time ≡ clock → nat_lt clock end ≡ false
+      → step_by (verdicts.Late end clock) turn ≡ next_step turn Drops
+  late_by end clock enough first now late = late_so turn end clock local (sym enough_is ∙ enough) (ap least_end (sym known_is) ∙ first) now late
 
   pub asks_by' : (peer : ℕ) → is_enough Local need items ≡ false → find (asks_of x.read w) (others_in x.read) ≡ Some peer → step_by (verdicts.Asks peer) turn ≡ next_step turn Drops
   asks_by' peer lacks found = asks_so turn peer (sym enough_is ∙ lacks) (sym next_is ∙ found)

@@ -6,6 +6,7 @@ use Rattle.run_data.specs.declared.entry.Entry.{Entry}
 use Rattle.run_data.specs.declared.entry.FrameView.{FrameView}
 use Rattle.run_data.specs.declared.row.Hold.{Hold}
 use Rattle.node_model.specs.Rows.{option_is}
+use Rattle.node_model.specs.Slots.{job_of}
 use Rattle.node_model.specs.Jobs.{Work, work_kind}
 use Rattle.node_model.specs.Look.{Made, entry_of}
 use Rattle.node_model.specs.JobStep.{Turn, attempts, by_me, key_of, me, quietly}
@@ -16,10 +17,11 @@ use Rattle.p2p_wire.specs.declared.message.Message.{Message}
 use Rattle.node_model.specs.Turns.{takes_frame}
 use Rattle.drop_worker.specs.declared.turn.Taken.{Taken}
 use Rattle.drop_worker.specs.declared.turn.Taken.TheVariants as takens
-use Rattle.run_data.specs.declared.entry.EntryKind.TheVariants.{Gone, Talk}
+use Rattle.run_data.specs.declared.entry.EntryKind.TheVariants.{End, Gone, Talk}
 use Rattle.annex_base.specs.declared.kinds.Call.TheVariants as calls
 use Rattle.run_data.specs.declared.job.Cause.TheVariants as causes
 use Rattle.drop_worker.specs.declared.phase.Heard.TheVariants as heards
+use Rattle.drop_worker.specs.declared.phase.Phase.{Phase}
 use Rattle.drop_worker.specs.declared.phase.Phase.TheVariants as phases
 use Rattle.drop_worker.specs.declared.turn.ParcelBody.TheVariants as bodies
 use Rattle.run_data.specs.declared.entry.EntryKind.{EntryKind}
@@ -43,6 +45,7 @@ pub record Does (x : Sight) (rows rows' : Rows) (present : List ℕ → Bool) (w
   pub makes : (rest : Rest) → made_of x w taken out ≡ asked (turn_in x rows present (failed_in out.kind) rest w)
   pub next : out.ended ≡ false → (rest : Rest) → work_of rest w' ≡ moved (turn_in x rows present (failed_in out.kind) rest w) (asked (turn_in x rows present (failed_in out.kind) rest w))
   pub after : AreAfter out.kind rows rows'
+  pub whose : job_of out.kind ≡ Some w.number
 
 -- the contents after an entry of a drop
 abbrev pub contents_after : Option Contents → EntryKind → Option Contents
@@ -106,6 +109,24 @@ pub record Shuts (peer : ℕ) (w w' : Worker) (out : Output) : Type 0 where
   pub sends : out.sends.items ≡ record { peer = peer; body = bodies.Close } ∷ []
   pub next : w' ≡ record w { heard = (peer, heards.Lacks causes.Closed) ∷ w.heard; phase = phases.Next }
 
+-- a local drop that goes on with a candidate, or is to judge
+abbrev pub GoesOn : Phase → Type 0
+GoesOn phases.Next = Unit {0}
+GoesOn (phases.Opens peer) = Unit {0}
+GoesOn (phases.Greets peer) = Unit {0}
+GoesOn (phases.AsksLock peer since) = Unit {0}
+GoesOn (phases.AsksLook peer) = Unit {0}
+GoesOn phase = ⊥
+
+-- a step that talks, and leaves the job what it has of its row
+pub record Talks (w w' : Worker) (out : Output) : Type 0 where
+  pub kind : out.kind ≡ Talk (Some w.number)
+  pub goes_on : out.ended ≡ false
+  pub number : w'.number ≡ w.number
+  pub job : w'.job ≡ w.job
+  pub token : w'.token ≡ w.token
+  pub phase : GoesOn w'.phase
+
 abbrev pub IsBar : Token → Type 0
 IsBar (tokens.Bar bar) = Unit {0}
 IsBar token = ⊥
@@ -113,3 +134,14 @@ IsBar token = ⊥
 -- a removal in time
 abbrev pub removes_now : Turn → Made
 removes_now t = attempts t (calls.Remove ∷ []) None (quietly (Gone (by_me t) (key_of t)) None)
+
+-- ---- ends
+
+abbrev pub IsEnd : EntryKind → Type 0
+IsEnd (End job outcome) = Unit {0}
+IsEnd kind = ⊥
+
+-- the last step of a job
+pub record IsEnding (out : Output) : Type 0 where
+  pub kind : IsEnd out.kind
+  pub ended : out.ended ≡ true

@@ -4,20 +4,27 @@ use Rattle.std.specs.List.{range_with_len}
 use Rattle.drop_proof.specs.declared.evidence.Evidence.{Evidence}
 use Rattle.drop_proof.specs.declared.evidence.Kind.{Kind}
 use Rattle.drop_proof.specs.declared.rule.Side.{Side}
-use Rattle.node_model.specs.Evidence.{Offer, Gives, Fails, but, gather, reached}
-use Rattle.node_model.specs.Knows.{Reading, is_unasked, offer_by}
+use Rattle.node_model.specs.Evidence.{Offer, Gives, Fails, but, gather, is_locked, is_recent, is_trusted, reached}
+use Rattle.node_model.specs.Knows.{Reading, cause_by, is_unasked, offer_by}
 use Rattle.drop_proof.specs.declared.evidence.Kind.TheVariants.{Locked, Recent}
 use Rattle.node_model.specs.Look.{Made}
-use Rattle.node_model.specs.JobStep.{Turn, clock_of, ends}
-use Rattle.node_model.specs.DropStep.{expired, first_end, lacking}
+use Rattle.node_model.specs.JobStep.{Turn, ends}
+use Rattle.node_model.specs.DropStep.{lacking}
+use Rattle.run_data.specs.declared.job.Outcome.TheVariants.{Refused}
+use Rattle.run_data.specs.declared.job.DropRefusal.TheVariants as refusals
+use Rattle.run_data.specs.declared.job.Cause.{Cause}
+use Rattle.run_data.specs.declared.job.Cause.TheVariants as causes
+use Rattle.annex_base.specs.declared.kinds.Word.TheVariants as words
 use Rattle.node_model.specs.Requests.{goes_to}
 use Rattle.drop_worker.specs.Doing.{removes_now}
+use Rattle.drop_worker.specs.declared.evidence.Sort.{Sort}
+use Rattle.drop_worker.specs.declared.evidence.Sort.TheVariants as sorts
 use Rattle.drop_worker.specs.declared.judging.Verdict.{Verdict}
 use Rattle.drop_worker.specs.declared.judging.Verdict.TheVariants as verdicts
 use Rattle.drop_worker.specs.declared.phase.Heard.{Heard}
 use Rattle.drop_worker.specs.declared.phase.Heard.TheVariants as heards
 use Rattle.drop_worker.specs.Worker.{Worker}
-use Rattle.drop_worker.specs.Working.{heard_in}
+use Rattle.drop_worker.specs.Working.{heard_in, words_of}
 
 abbrev pub offer_as : Option Kind → Offer
 offer_as (Some kind) = Gives kind
@@ -46,5 +53,22 @@ offer_heard clock _ = Fails
 abbrev pub step_by : Verdict → Turn → Made
 step_by (verdicts.Asks peer) t = goes_to t peer
 step_by verdicts.Removes t = removes_now t
-step_by verdicts.Late t = ends t None (expired (clock_of t) (first_end t))
+step_by (verdicts.Late end clock) t = ends t None (Refused (refusals.Expired end clock))
 step_by verdicts.Lacks t = ends t None (lacking t)
+
+-- ---- what an end states
+
+abbrev pub test_of : Sort → Kind → Bool
+test_of sorts.Locked = is_locked
+test_of sorts.Trusted = is_trusted
+test_of sorts.Recent = is_recent
+
+-- why a candidate gave nothing, by what was heard of it
+abbrev pub cause_told : Option Heard → Cause
+cause_told (Some (heards.Lacks cause)) = cause
+cause_told (Some (heards.Unseen (Some words.Absent))) = causes.Absent
+cause_told (Some (heards.Unseen (Some words.Barred))) = causes.Barred
+cause_told _ = causes.Fault
+
+abbrev pub cause_at : Reading → Worker → ℕ → Cause
+cause_at r w c = cause_by (words_of w c) (r.standing c) (heard_in w.heard c)

@@ -15,6 +15,7 @@ use Rattle.run_data.specs.declared.job.DropRefusal.TheVariants as refusals
 use Rattle.run_data.specs.declared.job.SourceFailure.{SourceFailure}
 use Rattle.p2p_wire.specs.declared.message.Message.{Message}
 use Rattle.p2p_wire.specs.Messages.{message_of, text_of}
+use Rattle.node_model.specs.Rows.{option_is}
 use Rattle.node_model.specs.Evidence.{but}
 use Rattle.node_model.specs.Ends.{EndName, End, frames}
 use Rattle.node_model.specs.Jobs
@@ -90,6 +91,10 @@ work_of rest w =
       heard = map (λ x. (x.0, heard_as x.1)) w.heard;
       causes = rest.causes;
     }
+
+-- the version that the job's peer answered
+abbrev pub learnt : Worker → ℕ → ℕ → Worker
+learnt w peer n = record w { version = (if option_is w.job.peer peer then n else w.version) }
 
 -- the newest that was heard of a repository, and the word that it told
 abbrev pub newest_of : List (ℕ × Heard) → ℕ → Option Heard

@@ -1,5 +1,7 @@
-ghost use Rattle.std.specs.Prelude.{◌≡◌, true};
+//! What a drop reads of its repository, other than rows and contents.
+ghost use Rattle.std.specs.Prelude.{◌≡◌, ◌+◌, ◌<◌, ◌^◌, true};
 
+use crate::time::Time;
 use drop_proof::Need;
 use run_data::Cause;
 
@@ -25,6 +27,7 @@ pub trait Here {
     /// How the repository's ends stand.
     ghost ends: { Self → EndName → End };
 
+    /// The repository's number.
     fn repo(&self) -> u32
         ensures { result ≡ (reading self.now).repo };
 
@@ -33,9 +36,11 @@ pub trait Here {
         ensures { result ≡ (reading self.now).count };
 
     /// Its clock at a time, as it was set last, in milliseconds.
-    fn clock(&self, time: u64) -> u64
-        ensures { result ≡ (reading self.now).clock time };
+    fn clock(&self, time: Time) -> u64
+        ensures same { result ≡ (reading self.now).clock time }
+        ensures early { result + 600000 < 2 ^ 62 };
 
+    /// The numbers of copies that must stay in other repositories.
     fn need(&self) -> Need
         ensures { result ≡ (reading self.now).need };
 

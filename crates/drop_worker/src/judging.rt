@@ -1,4 +1,5 @@
-ghost use Rattle.std.specs.Prelude.{◌≡◌, ◌+◌, ◌<◌, ◌^◌, ℕ, Bool, List, [], ◌∷◌, find, count_by, true, false, Some, None, IfOk};
+//! What a drop knows of the copies, candidate by candidate, and what it is to do by that.
+ghost use Rattle.std.specs.Prelude.{◌≡◌, ◌+◌, ◌<◌, ◌≤◌, ◌^◌, ℕ, Bool, List, [], ◌∷◌, find, length, count_by, true, false, Some, None, IfOk};
 ghost use Rattle.drop_proof.specs.Judging.{counts, is_enough};
 ghost use Rattle.std.specs.declared.option.Option.{Option};
 ghost use Rattle.annex_base.specs.declared.kinds.Call.{Call};
@@ -11,10 +12,14 @@ ghost use Rattle.drop_worker.specs.Judging.{step_by, asks_of, gathered, offer_as
 
 use crate::here::{Here, Standing};
 use crate::phase::Heard;
+use crate::time::Time;
 use crate::worker::{Worker, newest};
 use annex_base::NoMemory;
 use drop_proof::{Evidence, Judged, Kind, Need, Side};
 use std::alloc::Global;
+
+/// How long a lock lasts, in milliseconds: ten minutes.
+const LOCK_TIME: u64 = 600_000;
 
 /// Whether a candidate is to be asked.
 fn asks<H: Here>(worker: &Worker, here: &H, candidate: u32) -> bool
@@ -29,44 +34,37 @@ fn asks<H: Here>(worker: &Worker, here: &H, candidate: u32) -> bool
     }
 }
 
-/// When a lock ends that was asked for at this clock.
-fn lock_end(asked: u64) -> Result<u64, NoMemory>
-    ensures { IfOk result (λ end. end ≡ asked + 600000) }
-{
-    let Some(end) = asked.checked_add(600_000) else {
-        return Err(NoMemory);
-    };
-    Ok(end)
-}
-
 /// What a candidate gives by what was heard of it.
-fn heard_kind<H: Here>(heard: Option<Heard>, here: &H) -> Result<Option<Kind>, NoMemory>
-    ensures { IfOk result (λ o. offer_as o ≡ offer_heard (H.reading here.now).clock heard) }
+fn heard_kind<H: Here>(heard: Option<Heard>, here: &H) -> Option<Kind>
+    ensures { offer_as result ≡ offer_heard (H.reading here.now).clock heard }
 {
     match heard {
         Some(Heard::Held { since }) => {
-            let end = lock_end(here.clock(since))?;
-            Ok(Some(Kind::Locked { end }))
+            let asked = here.clock(since);
+            Some(Kind::Locked {
+                end: asked + LOCK_TIME,
+            })
         }
-        Some(Heard::Seen) => Ok(Some(Kind::Recent)),
-        None | Some(Heard::Unseen { .. }) | Some(Heard::Lacks(_)) => Ok(None),
+        Some(Heard::Seen) => Some(Kind::Recent),
+        None | Some(Heard::Unseen { .. }) | Some(Heard::Lacks(_)) => None,
     }
 }
 
 /// What a candidate gives.
-fn offer<H: Here>(worker: &Worker, here: &H, candidate: u32) -> Result<Option<Kind>, NoMemory>
-    ensures { IfOk result (λ o. offer_as o ≡ offer_of (H.reading here.now) worker.now candidate) }
+pub fn offer<H: Here>(worker: &Worker, here: &H, candidate: u32) -> Option<Kind>
+    ensures { offer_as result ≡ offer_of (H.reading here.now) worker.now candidate }
 {
     match here.standing(candidate) {
-        Standing::Claimed => Ok(Some(Kind::Trusted)),
-        Standing::Ignored(_) => Ok(None),
+        Standing::Claimed => Some(Kind::Trusted),
+        Standing::Ignored(_) => None,
         Standing::Asked => heard_kind(newest(worker.heard(), candidate), here),
     }
 }
 
-/// The other repositories.
+/// The other repositories, in order of number.
 pub fn others<H: Here>(alloc: Global, here: &H) -> Result<Vec<u32>, NoMemory>
-    ensures { IfOk result (λ cs. cs.items ≡ others_in (H.reading here.now)) }
+    ensures all { IfOk result (λ cs. cs.items ≡ others_in (H.reading here.now)) }
+    ensures few { IfOk result (λ cs. length cs.items < 2 ^ 32) }
 {
     let mut found = Vec::new(alloc);
     let count = here.count();
@@ -95,7 +93,7 @@ fn full_count(side: Side, items: &[Evidence]) -> usize
 }
 
 /// Whether the evidence is enough.
-pub fn suffices(side: Side, need: Need, items: &[Evidence]) -> bool
+fn suffices(side: Side, need: Need, items: &[Evidence]) -> bool
     ensures { result ≡ is_enough side need items.now }
 {
     items.len() >= need.n.max(need.m) as usize && full_count(side, items) >= need.m as usize
@@ -109,7 +107,8 @@ pub fn gather<H: Here>(
     side: Side,
     candidates: &[u32],
 ) -> Result<Vec<Evidence>, NoMemory>
-    ensures { IfOk result (λ items. items.items ≡ gathered side (H.reading here.now) worker.now candidates.now []) }
+    ensures known { IfOk result (λ items. items.items ≡ gathered side (H.reading here.now) worker.now candidates.now []) }
+    ensures few { IfOk result (λ items. length items.items ≤ length candidates.now) }
 {
     let mut items = Vec::new(alloc);
     let need = here.need();
@@ -120,7 +119,7 @@ pub fn gather<H: Here>(
         if suffices(side, need, &items) {
             return Ok(items);
         }
-        if let Some(kind) = offer(worker, here, *c)? {
+        if let Some(kind) = offer(worker, here, *c) {
             items.push(Evidence { repo: *c, kind })?;
         }
     }
@@ -139,42 +138,42 @@ pub fn next<H: Here>(worker: &Worker, here: &H, candidates: &[u32]) -> Option<u3
     None
 }
 
-/// What a local drop is to do next: ask a candidate, remove the content, or end, since its locks have expired or since it
-/// lacks evidence.
+/// What a local drop is to do next: ask a candidate, remove the content, or end, since its clock isn't below the least end of
+/// its locks or since it lacks evidence.
 #[derive(Clone, Copy, Debug, PartialEq, Eq)]
 pub enum Verdict {
     Asks(u32),
     Removes,
-    Late,
+    Late { end: u64, clock: u64 },
     Lacks,
 }
 
 /// Judges what a local drop knows.
 pub fn judge<H: Here>(
     worker: &Worker,
-    alloc: Global,
     here: &H,
-    time: u64,
-) -> Result<Verdict, NoMemory>
+    time: Time,
+    candidates: &[u32],
+    items: &[Evidence],
+) -> Verdict
     requires local { drop_side worker.now.job.kind worker.now.job.peer ≡ sides.Local }
-    ensures { IfOk result (λ v. (number : ℕ) (rows : Rows) (p : List ℕ → Bool) (fails : Option Call) (rest : Rest) → step_by v (turn_in (sight (H.reading here.now) (H.ends here.now) time number) rows p fails rest worker.now) ≡ next_step (turn_in (sight (H.reading here.now) (H.ends here.now) time number) rows p fails rest worker.now) Drops) }
+    requires all { candidates.now ≡ others_in (H.reading here.now) }
+    requires known { items.now ≡ gathered sides.Local (H.reading here.now) worker.now candidates.now [] }
+    requires few { length items.now < 2 ^ 32 }
+    ensures { (number : ℕ) (rows : Rows) (p : List ℕ → Bool) (fails : Option Call) (rest : Rest) → step_by result (turn_in (sight (H.reading here.now) (H.ends here.now) time number) rows p fails rest worker.now) ≡ next_step (turn_in (sight (H.reading here.now) (H.ends here.now) time number) rows p fails rest worker.now) Drops }
 {
-    let candidates = others(alloc, here)?;
-    let items = gather(worker, alloc, here, Side::Local, &candidates)?;
-    if items.len() >= 4_294_967_295 {
-        return Err(NoMemory);
-    }
-    match drop_proof::judge(&items, here.need(), Side::Local) {
-        Judged::Enough { end: None } => Ok(Verdict::Removes),
+    match drop_proof::judge(items, here.need(), Side::Local) {
+        Judged::Enough { end: None } => Verdict::Removes,
         Judged::Enough { end: Some(end) } => {
-            if here.clock(time) < end {
-                return Ok(Verdict::Removes);
+            let clock = here.clock(time);
+            if clock < end {
+                return Verdict::Removes;
             }
-            Ok(Verdict::Late)
+            Verdict::Late { end, clock }
         }
-        Judged::Lacking { .. } => match next(worker, here, &candidates) {
-            Some(peer) => Ok(Verdict::Asks(peer)),
-            None => Ok(Verdict::Lacks),
+        Judged::Lacking { .. } => match next(worker, here, candidates) {
+            Some(peer) => Verdict::Asks(peer),
+            None => Verdict::Lacks,
         },
     }
 }

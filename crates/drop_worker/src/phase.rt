@@ -1,3 +1,5 @@
+//! Where a drop stands, what it heard, and what it has of its row.
+use crate::time::Time;
 use annex_base::Word;
 use content_lock::{Bar, Share};
 use run_data::Cause;
@@ -6,7 +8,7 @@ use run_data::Cause;
 /// beside a refusal; or why there is none.
 #[derive(Clone, Copy, Debug, PartialEq, Eq)]
 pub enum Heard {
-    Held { since: u64 },
+    Held { since: Time },
     Seen,
     Unseen { word: Option<Word> },
     Lacks(Cause),
@@ -23,7 +25,7 @@ pub enum Phase {
     Opens { peer: u32 },
     Greets { peer: u32 },
     /// It sent LOCKCONTENT at this time; CHECKPRESENT.
-    AsksLock { peer: u32, since: u64 },
+    AsksLock { peer: u32, since: Time },
     AsksLook { peer: u32 },
     /// It sent the target GETTIMESTAMP; an order.
     AsksTime,
@@ -32,7 +34,7 @@ pub enum Phase {
     Removed,
     Denied,
     /// The locks had expired at this time, and its own couldn't be released.
-    Late { time: u64 },
+    Late { time: Time },
     /// It is to end so.
     Ends(Ending),
 }

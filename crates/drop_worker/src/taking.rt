@@ -1,35 +1,93 @@
+//! The steps of a local drop that take a frame, or find the connection closed.
 ghost use Rattle.std.specs.Prelude.{◌≡◌, ◌==◌, ◌≤◌, ◌+◌, ◌<◌, ◌^◌, ℕ, List, Bool, true, false, Some, None, IfOk, OnOk, OnErr, [], ◌∷◌};
+ghost use Rattle.std.specs.declared.option.Option.{Option};
 ghost use Rattle.drop_proof.specs.declared.rule.Side.TheVariants as sides;
 ghost use Rattle.node_model.specs.Jobs.{drop_side, partner};
 ghost use Rattle.run_data.specs.declared.entry.FrameView.{FrameView};
 ghost use Rattle.run_data.specs.declared.entry.FrameText.TheVariants.{Closing};
 ghost use Rattle.node_model.specs.Ends.{takes_at};
+ghost use Rattle.node_model.specs.JobStep as jobs;
 ghost use Rattle.node_model.specs.Turns.{takes_frame};
 ghost use Rattle.content_lock.specs.Rows.{Rows};
 ghost use Rattle.drop_worker.specs.Working.{Sight, end_in, phase_as};
-ghost use Rattle.drop_worker.specs.Doing.{Does, Shuts, Takes};
+ghost use Rattle.drop_worker.specs.Doing.{Comes, Does, Shuts, Takes, Talks};
+ghost use Rattle.drop_worker.specs.Feeding.{Fed, FitsLocal, step_of};
 
 use crate::phase::{Heard, Phase};
-use crate::turn::{Output, ParcelBody};
+use crate::time::Time;
+use crate::turn::{Input, Output, ParcelBody, Taken};
 use crate::worker::{Worker, quietly, reads, telling};
 use annex_base::{NoMemory, Word};
 use p2p_wire::Message;
 use run_data::{Cause, EntryKind};
 use std::alloc::Global;
 
+/// What the step does that is told what came at its partner's end.
+pub(crate) fn hear(
+    worker: &mut Worker,
+    alloc: Global,
+    input: &Input,
+    peer: u32,
+) -> Result<Output, NoMemory>
+    requires local { drop_side worker.old.job.kind worker.old.job.peer ≡ sides.Local }
+    requires fits { FitsLocal worker.old.phase worker.old.token }
+    requires awaits { partner worker.old.job.peer (phase_as worker.old.phase) ≡ Some peer }
+    requires told { input.now.taken ≡ Taken.Nothing → ⊥ }
+    ensures does { IfOk result (λ out. (x : Sight) (rows : Rows) (p : List ℕ → Bool) (f : Option FrameView) → x.time ≡ input.now.time → Fed x worker.old.slot peer f input.now.taken
+        → Does x rows rows p worker.old worker.new f (step_of (Some peer) f) out) }
+    ensures talks { IfOk result (Talks worker.old worker.new) }
+    ensures err { OnErr result (worker.new ≡ worker.old) }
+{
+    match &input.taken {
+        Taken::Message(message) => {
+            take_message(worker, alloc, input.time, message, input.word, peer)
+        }
+        Taken::Other => take_other(worker, alloc, peer),
+        Taken::Closed => close(worker, alloc, peer),
+        Taken::Nothing => unreachable!(),
+    }
+}
+
+/// A message.
+fn take_message(
+    worker: &mut Worker,
+    alloc: Global,
+    time: Time,
+    message: &Message,
+    word: Option<Word>,
+    peer: u32,
+) -> Result<Output, NoMemory>
+    requires local { drop_side worker.old.job.kind worker.old.job.peer ≡ sides.Local }
+    requires fits { FitsLocal worker.old.phase worker.old.token }
+    requires awaits { partner worker.old.job.peer (phase_as worker.old.phase) ≡ Some peer }
+    ensures does { IfOk result (λ out. Takes time peer message.now worker.old worker.new out) }
+    ensures talks { IfOk result (Talks worker.old worker.new) }
+    ensures err { OnErr result (worker.new ≡ worker.old) }
+{
+    match worker.phase() {
+        Phase::Opens { peer: _ } => take_opened(worker, alloc, time, message, peer),
+        Phase::Greets { peer: _ } => take_version(worker, alloc, time, message, peer),
+        Phase::AsksLock { peer: _, since } => {
+            take_lock(worker, alloc, time, message, peer, since)
+        }
+        Phase::AsksLook { peer: _ } => take_look(worker, alloc, time, message, word, peer),
+        _ => unreachable!(),
+    }
+}
+
 /// The answer to LOCKCONTENT.
 fn take_lock(
     worker: &mut Worker,
     alloc: Global,
-    time: u64,
+    time: Time,
     message: &Message,
     peer: u32,
-    since: u64,
+    since: Time,
 ) -> Result<Output, NoMemory>
     requires local { drop_side worker.old.job.kind worker.old.job.peer ≡ sides.Local }
     requires at { worker.old.phase ≡ Phase.AsksLock peer since }
     ensures does { IfOk result (λ out. Takes time peer message.now worker.old worker.new out) }
-    ensures same { (worker.new.token ≡ worker.old.token) × (worker.new.number ≡ worker.old.number) }
+    ensures talks { IfOk result (Talks worker.old worker.new) }
     ensures err { OnErr result (worker.new ≡ worker.old) }
 {
     match message {
@@ -53,7 +111,7 @@ fn take_lock(
 fn take_look(
     worker: &mut Worker,
     alloc: Global,
-    time: u64,
+    time: Time,
     message: &Message,
     word: Option<Word>,
     peer: u32,
@@ -61,7 +119,7 @@ fn take_look(
     requires local { drop_side worker.old.job.kind worker.old.job.peer ≡ sides.Local }
     requires at { worker.old.phase ≡ Phase.AsksLook peer }
     ensures does { IfOk result (λ out. Takes time peer message.now worker.old worker.new out) }
-    ensures same { (worker.new.token ≡ worker.old.token) × (worker.new.number ≡ worker.old.number) }
+    ensures talks { IfOk result (Talks worker.old worker.new) }
     ensures err { OnErr result (worker.new ≡ worker.old) }
 {
     match message {
@@ -81,14 +139,14 @@ fn take_look(
 fn take_opened(
     worker: &mut Worker,
     alloc: Global,
-    time: u64,
+    time: Time,
     message: &Message,
     peer: u32,
 ) -> Result<Output, NoMemory>
     requires local { drop_side worker.old.job.kind worker.old.job.peer ≡ sides.Local }
     requires at { worker.old.phase ≡ Phase.Opens peer }
     ensures does { IfOk result (λ out. Takes time peer message.now worker.old worker.new out) }
-    ensures same { (worker.new.token ≡ worker.old.token) × (worker.new.number ≡ worker.old.number) }
+    ensures talks { IfOk result (Talks worker.old worker.new) }
     ensures err { OnErr result (worker.new ≡ worker.old) }
 {
     match message {
@@ -103,13 +161,74 @@ fn take_opened(
     }
 }
 
-/// The peer closed the connection.
+/// The answer to VERSION.
+fn take_version(
+    worker: &mut Worker,
+    alloc: Global,
+    time: Time,
+    message: &Message,
+    peer: u32,
+) -> Result<Output, NoMemory>
+    requires local { drop_side worker.old.job.kind worker.old.job.peer ≡ sides.Local }
+    requires at { worker.old.phase ≡ Phase.Greets peer }
+    ensures does { IfOk result (λ out. Takes time peer message.now worker.old worker.new out) }
+    ensures talks { IfOk result (Talks worker.old worker.new) }
+    ensures err { OnErr result (worker.new ≡ worker.old) }
+{
+    match message {
+        Message::Version(version) => greet(worker, alloc, time, *version, peer),
+        _ => shut(worker, alloc, peer),
+    }
+}
+
+/// A version: the first request follows, or the connection is closed where the version is none that was asked for.
+fn greet(
+    worker: &mut Worker,
+    alloc: Global,
+    time: Time,
+    version: u64,
+    peer: u32,
+) -> Result<Output, NoMemory>
+    requires local { drop_side worker.old.job.kind worker.old.job.peer ≡ sides.Local }
+    requires at { worker.old.phase ≡ Phase.Greets peer }
+    ensures does { IfOk result (λ out. Takes time peer (Message.Version version) worker.old worker.new out) }
+    ensures talks { IfOk result (Talks worker.old worker.new) }
+    ensures err { OnErr result (worker.new ≡ worker.old) }
+{
+    if version > 3 {
+        let out = shut(worker, alloc, peer)?;
+        worker.learn(peer, version);
+        return Ok(out);
+    }
+    reads(worker.key());
+    let said = ParcelBody::Message(Message::LockContent(worker.key().copy()?));
+    let out = telling(alloc, worker.number(), peer, said)?;
+    worker.learn(peer, version);
+    worker.go_to(Phase::AsksLock { peer, since: time });
+    Ok(out)
+}
+
+/// What is no message closes the connection.
+fn take_other(worker: &mut Worker, alloc: Global, peer: u32) -> Result<Output, NoMemory>
+    requires local { drop_side worker.old.job.kind worker.old.job.peer ≡ sides.Local }
+    requires awaits { partner worker.old.job.peer (phase_as worker.old.phase) ≡ Some peer }
+    ensures does { IfOk result (λ out. (x : Sight) (rows : Rows) (p : List ℕ → Bool) (f : FrameView) → Comes x worker.old.slot peer f Taken.Other
+        → Does x rows rows p worker.old worker.new (Some f) (λ t. takes_frame t peer f f.body) out) }
+    ensures talks { IfOk result (Talks worker.old worker.new) }
+    ensures err { OnErr result (worker.new ≡ worker.old) }
+{
+    shut(worker, alloc, peer)
+}
+
+/// The connection is closed, by the peer or here.
 fn close(worker: &mut Worker, alloc: Global, peer: u32) -> Result<Output, NoMemory>
     requires local { drop_side worker.old.job.kind worker.old.job.peer ≡ sides.Local }
     requires awaits { partner worker.old.job.peer (phase_as worker.old.phase) ≡ Some peer }
     ensures does { IfOk result (λ out. (x : Sight) (rows : Rows) (p : List ℕ → Bool) (f : FrameView) → (x.read.repo == peer) ≡ false → takes_at (end_in worker.old.slot peer) f ≡ true → f.body ≡ Closing
         → Does x rows rows p worker.old worker.new (Some f) (λ t. takes_frame t peer f f.body) out) }
-    ensures same { (worker.new.token ≡ worker.old.token) × (worker.new.number ≡ worker.old.number) }
+    ensures here { IfOk result (λ out. (x : Sight) (rows : Rows) (p : List ℕ → Bool) → (x.read.repo == peer) ≡ false → (x.ends (end_in worker.old.slot peer)).opened ≡ false
+        → Does x rows rows p worker.old worker.new None (λ t. jobs.quietly (jobs.talk t) None) out) }
+    ensures talks { IfOk result (Talks worker.old worker.new) }
     ensures err { OnErr result (worker.new ≡ worker.old) }
 {
     worker.hear(peer, Heard::Lacks(Cause::Closed))?;
@@ -119,7 +238,7 @@ fn close(worker: &mut Worker, alloc: Global, peer: u32) -> Result<Output, NoMemo
 /// What isn't expected closes the connection.
 fn shut(worker: &mut Worker, alloc: Global, peer: u32) -> Result<Output, NoMemory>
     ensures shuts { IfOk result (λ out. Shuts peer worker.old worker.new out) }
-    ensures same { (worker.new.token ≡ worker.old.token) × (worker.new.number ≡ worker.old.number) }
+    ensures talks { IfOk result (Talks worker.old worker.new) }
     ensures err { OnErr result (worker.new ≡ worker.old) }
 {
     let out = telling(alloc, worker.number(), peer, ParcelBody::Close)?;

@@ -1,3 +1,5 @@
+//! What a step takes and gives.
+use crate::time::Time;
 use annex_base::Word;
 use p2p_wire::Message;
 use run_data::EntryKind;
@@ -18,7 +20,7 @@ pub enum Taken {
 #[derive(Debug, Drop)]
 pub struct Input {
     pub taken: Taken,
-    pub time: u64,
+    pub time: Time,
     pub number: u64,
     pub word: Option<Word>,
 }

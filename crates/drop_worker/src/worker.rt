@@ -1,10 +1,12 @@
+//! A drop of a job, and what it says at its end.
 ghost use Rattle.std.specs.Prelude.{◌≡◌, ◌≤◌, ◌+◌, ◌<◌, ◌^◌, ℕ, List, [], ◌∷◌, map, find, true, false, not, ◌&&◌, ◌==◌, Some, None, IfOk, IfSome, OnErr, OnOk};
 ghost use Rattle.std.specs.Option.{ForSome, option_map};
 ghost use Rattle.run_data.specs.declared.job.DropRefusal.{DropRefusal};
-ghost use Rattle.node_model.specs.Jobs.{drop_side};
+ghost use Rattle.node_model.specs.Jobs.{drop_side, partner};
+ghost use Rattle.node_model.specs.Rows.{option_is};
 ghost use Rattle.node_model.specs.JobStep.{is_held};
 ghost use Rattle.drop_worker.specs.Doing.{Reads};
-ghost use Rattle.drop_worker.specs.Working.{frames_of, heard_in, is_lock, newest_of, parting, partings, texts_of};
+ghost use Rattle.drop_worker.specs.Working.{frames_of, heard_in, is_lock, learnt, newest_of, parting, partings, phase_as, texts_of};
 
 use crate::here::Here;
 use crate::phase::{Ending, Heard, Phase, Token};
@@ -42,7 +44,10 @@ impl Model for Worker {
 }
 
 impl Worker {
-    pub fn new(alloc: Global, number: u32, slot: u32, job: Job, version: u64) -> Worker
+    /// The drop of a job that begins it: of a begun job, or of a move that is done with its transfer. The version is what the job's
+    /// peer answered, or 3 where it wasn't asked.
+    pub fn start(alloc: Global, number: u32, slot: u32, job: Job, version: u64) -> Worker
+        ensures { result ≡ record { number = number; slot = slot; job = job; version = version; heard = []; phase = Phase.Fresh; token = Token.Nothing } }
     {
         Worker {
             number,
@@ -73,31 +78,79 @@ impl Worker {
         &self.job.key
     }
 
-    pub fn heard(&self) -> &[(u32, Heard)]
+    pub(crate) fn heard(&self) -> &[(u32, Heard)]
         ensures { result.now ≡ self.now.heard }
     {
         &self.heard
     }
 
-    pub fn phase(&self) -> Phase
+    pub(crate) fn phase(&self) -> Phase
         ensures { result ≡ self.now.phase }
     {
         self.phase
     }
 
     /// Goes on so.
-    pub fn go_to(&mut self, phase: Phase)
+    pub(crate) fn go_to(&mut self, phase: Phase)
         ensures { self.new ≡ record self.old { phase = phase } }
     {
         self.phase = phase;
     }
 
+    /// What it has of the table, as the worker ends.
+    pub(crate) fn into_token(self) -> Token
+        ensures { result ≡ self.token }
+    {
+        let Worker {
+            number: _,
+            slot: _,
+            job: _,
+            version: _,
+            heard: _,
+            phase: _,
+            token,
+        } = self;
+        token
+    }
+
     /// Hands over what it has of the table.
-    pub fn take_token(&mut self) -> Token
+    pub(crate) fn take_token(&mut self) -> Token
         ensures token { result ≡ self.old.token }
         ensures bare { self.new ≡ record self.old { token = Token.Nothing } }
     {
         mem::replace(&mut self.token, Token::Nothing)
+    }
+
+    /// The peer whose frame the job awaits, if it awaits one.
+    pub fn awaits(&self) -> Option<u32>
+        ensures { result ≡ partner self.now.job.peer (phase_as self.now.phase) }
+    {
+        match self.phase {
+            Phase::Opens { peer } | Phase::Greets { peer } => Some(peer),
+            Phase::AsksLock { peer, since: _ } | Phase::AsksLook { peer } => Some(peer),
+            Phase::AsksTime | Phase::Orders => self.job.peer,
+            Phase::Fresh | Phase::Next | Phase::Removed | Phase::Denied => None,
+            Phase::Late { time: _ } | Phase::Ends(_) => None,
+        }
+    }
+
+    /// Whether this is the job's peer.
+    fn is_partner(&self, peer: u32) -> bool
+        ensures { result ≡ option_is self.now.job.peer peer }
+    {
+        match self.job.peer {
+            Some(other) => other == peer,
+            None => false,
+        }
+    }
+
+    /// Keeps the version that the job's peer answered.
+    pub(crate) fn learn(&mut self, peer: u32, version: u64)
+        ensures { self.new ≡ learnt self.old peer version }
+    {
+        if self.is_partner(peer) {
+            self.version = version;
+        }
     }
 
     /// Where it removes.
@@ -111,7 +164,7 @@ impl Worker {
     }
 
     /// Whether a peer gave it a lock.
-    pub fn has_lock(&self, peer: u32) -> bool
+    pub(crate) fn has_lock(&self, peer: u32) -> bool
         ensures { result ≡ is_held (heard_in self.now.heard peer) }
     {
         is_lock(newest(self.heard(), peer))
@@ -135,7 +188,7 @@ impl Worker {
     }
 
     /// What is sent at the end.
-    pub fn partings<H: Here>(
+    pub(crate) fn partings<H: Here>(
         &self,
         alloc: Global,
         here: &H,
@@ -155,7 +208,7 @@ impl Worker {
     }
 
     /// A store call failed: the job ends next.
-    pub fn fail(&mut self, alloc: Global, call: Call) -> Output
+    pub(crate) fn fail(&mut self, alloc: Global, call: Call) -> Output
         ensures says { (result.kind ≡ EntryKind.Fault call (By.Job self.old.number)) × (result.sends.items ≡ []) × (result.ended ≡ false) }
         ensures next { self.new ≡ record self.old { phase = Phase.Ends Ending.StoreFault } }
     {
@@ -171,7 +224,7 @@ impl Worker {
     }
 
     /// Hears of a candidate's copy, and goes on.
-    pub fn hear(&mut self, peer: u32, heard: Heard) -> Result<(), NoMemory>
+    pub(crate) fn hear(&mut self, peer: u32, heard: Heard) -> Result<(), NoMemory>
         ensures ok { OnOk result (self.new ≡ record self.old { heard = (peer, heard) ∷ self.old.heard; phase = Phase.Next }) }
         ensures err { OnErr result (self.new ≡ self.old) }
     {
@@ -181,7 +234,7 @@ impl Worker {
     }
 
     /// Has a bar.
-    pub fn take_bar(&mut self, bar: Bar)
+    pub(crate) fn take_bar(&mut self, bar: Bar)
         requires bare { self.old.token ≡ Token.Nothing }
         ensures { self.new ≡ record self.old { token = Token.Bar bar } }
     {
@@ -194,7 +247,7 @@ impl Worker {
 }
 
 /// What was heard of a repository last.
-pub fn newest(heard: &[(u32, Heard)], peer: u32) -> Option<Heard>
+pub(crate) fn newest(heard: &[(u32, Heard)], peer: u32) -> Option<Heard>
     ensures { result ≡ newest_of heard.now peer }
 {
     match heard.iter().find(|x| x.0 == peer) {
@@ -213,7 +266,7 @@ fn is_lock(heard: Option<Heard>) -> bool
 }
 
 /// The job ends so.
-pub fn ending(number: u32, outcome: Outcome, sends: Vec<Parcel>) -> Output
+pub(crate) fn ending(number: u32, outcome: Outcome, sends: Vec<Parcel>) -> Output
     ensures { result ≡ record { kind = EntryKind.End number outcome; sends = sends; ended = true } }
 {
     Output {
@@ -227,7 +280,7 @@ pub fn ending(number: u32, outcome: Outcome, sends: Vec<Parcel>) -> Output
 }
 
 /// A peer is told something.
-pub fn telling(alloc: Global, number: u32, peer: u32, body: ParcelBody) -> Result<Output, NoMemory>
+pub(crate) fn telling(alloc: Global, number: u32, peer: u32, body: ParcelBody) -> Result<Output, NoMemory>
     ensures { IfOk result (λ out. (out.kind ≡ EntryKind.Talk (Some number)) × (out.sends.items ≡ record { peer = peer; body = body } ∷ []) × (out.ended ≡ false)) }
 {
     let mut sends = Vec::new(alloc);
@@ -240,7 +293,7 @@ pub fn telling(alloc: Global, number: u32, peer: u32, body: ParcelBody) -> Resul
 }
 
 /// Nothing is sent, and the job goes on.
-pub fn quietly(alloc: Global, kind: EntryKind) -> Output
+pub(crate) fn quietly(alloc: Global, kind: EntryKind) -> Output
     ensures { (result.kind ≡ kind) × (result.sends.items ≡ []) × (result.ended ≡ false) }
 {
     Output {
@@ -251,7 +304,7 @@ pub fn quietly(alloc: Global, kind: EntryKind) -> Output
 }
 
 // For the proof: that the lines of a drop are read as they were said.
-pub fn reads(key: &Key)
+pub(crate) fn reads(key: &Key)
     ensures { Reads key.now }
 {
     key_texts_have_no_fault();

@@ -8,7 +8,7 @@ use Rattle.drop_worker.proofs.taking.take_lock.Goals as goal
 
 pub returns-in_ok-out-in-Failure-clause-does : goal.returns-in_ok-out-in-Failure-clause-does
 returns-in_ok-out-in-Failure-clause-does c = λ x rows p f time comes.
-    say_does x rows p c.args.worker.now _ f c.args.peer c.args.message.now c.in_ok-out-in-Failure.out (rw c.number-in-Failure.ensures at c.in_ok-out-in-Failure.ensures.0) comes (λ rest. rw c.requires.at refl) (rw c.requires.at refl)
+    say_does x rows p c.args.worker.now _ f c.args.peer c.args.message.now c.args.worker.now.version c.in_ok-out-in-Failure.out (rw c.number-in-Failure.ensures at c.in_ok-out-in-Failure.ensures.0) comes (λ rest. rw c.requires.at refl) (rw c.requires.at refl)
     (messages.CheckPresent c.args.worker.now.job.key) (rw (c.in_ok-key-in-Failure.ensures, c.key-in-Failure.ensures) at c.in_ok-out-in-Failure.ensures.1) c.reads.ensures.look
     (λ rest. rw (c.requires.at, c.in-Failure.is) refl) (λ rest. rw c.go_to.ensures refl)
 
@@ -17,8 +17,8 @@ returns-in_default c =
     let w = c.args.worker.now in
     record {
       does = if_ok c.shut.result (Shuts c.args.peer w c.shut.new.worker) (Takes c.args.time c.args.peer c.args.message.now w c.shut.new.worker) c.shut.ensures.shuts (λ out is x rows p f time comes.
-        shut_does x rows p w c.shut.new.worker f c.args.peer c.args.message.now out is.kind comes (λ rest. rw c.requires.at refl) (rw c.requires.at refl) c.requires.local is
+        shut_does x rows p w c.shut.new.worker f c.args.peer c.args.message.now w.version out is.kind comes (λ rest. rw c.requires.at refl) (rw c.requires.at refl) c.requires.local is.sends is.next
         (λ rest. rw c.requires.at (sym (lock_else (turn_in x rows p None rest w) f c.args.peer c.args.peer c.args.since c.args.message.now c.in_default.not-Success c.in_default.not-Failure))));
-      same = c.shut.ensures.same;
+      talks = c.shut.ensures.talks;
       err = c.shut.ensures.err;
     }
