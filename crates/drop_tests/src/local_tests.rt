@@ -181,3 +181,129 @@ fn locks_are_enough(rt: HostRuntime) -> Result<(), Fail> {
     assert_eq!(rt; ended, wanted);
     Ok(())
 }
+
+// A drop of a content that isn't there, and drops whose store fails at either call.
+#[test]
+fn the_row_refuses(rt: HostRuntime) -> Result<(), Fail> {
+    let alloc = rt.alloc();
+    let here = desk(Need { n: 1, m: 1 });
+    let absent = drop_of(alloc, &here, Peer::Locks, false, None, 1)?;
+    assert_eq!(rt; absent, Ended::NotPresent);
+    let unseen = drop_of(alloc, &here, Peer::Locks, true, Some(Call::Has), 1)?;
+    assert_eq!(rt; unseen, Ended::StoreFault);
+    let kept = drop_of(alloc, &here, Peer::Locks, true, Some(Call::Remove), 1)?;
+    assert_eq!(rt; kept, Ended::StoreFault);
+    Ok(())
+}
+
+// Looks count for a local drop.
+#[test]
+fn looks_are_enough(rt: HostRuntime) -> Result<(), Fail> {
+    let alloc = rt.alloc();
+    let ended = drop_of(alloc, &desk(Need { n: 1, m: 1 }), Peer::Has, true, None, 1)?;
+    let wanted = Ended::Dropped {
+        locked: 0,
+        trusted: 0,
+        recent: 1,
+    };
+    assert_eq!(rt; ended, wanted);
+    Ok(())
+}
+
+// Peers that lack the content, close, or speak no version that was asked for.
+#[test]
+fn nothing_heard_is_lacking(rt: HostRuntime) -> Result<(), Fail> {
+    let alloc = rt.alloc();
+    let here = desk(Need { n: 1, m: 1 });
+    let wanted = Ended::Lacking {
+        locked: 0,
+        trusted: 0,
+        recent: 0,
+        causes: 3,
+    };
+    let absent = drop_of(alloc, &here, Peer::Lacks(Some(Word::Absent)), true, None, 1)?;
+    assert_eq!(rt; absent, wanted);
+    let closed = drop_of(alloc, &here, Peer::Closes, true, None, 1)?;
+    assert_eq!(rt; closed, wanted);
+    let strange = drop_of(alloc, &here, Peer::Speaks(4), true, None, 1)?;
+    assert_eq!(rt; strange, wanted);
+    Ok(())
+}
+
+// A repository that is trusted and claimed isn't asked, and counts; one that is untrusted doesn't.
+#[test]
+fn standings_count(rt: HostRuntime) -> Result<(), Fail> {
+    let alloc = rt.alloc();
+    let mut trusting = desk(Need { n: 1, m: 1 });
+    trusting.claimed = 2;
+    let trusted = drop_of(alloc, &trusting, Peer::Lacks(None), true, None, 1)?;
+    let one = Ended::Dropped {
+        locked: 0,
+        trusted: 1,
+        recent: 0,
+    };
+    assert_eq!(rt; trusted, one);
+    let mut wary = desk(Need { n: 3, m: 1 });
+    wary.ignored = 2;
+    let short = drop_of(alloc, &wary, Peer::Locks, true, None, 1)?;
+    let two = Ended::Lacking {
+        locked: 2,
+        trusted: 0,
+        recent: 0,
+        causes: 1,
+    };
+    assert_eq!(rt; short, two);
+    Ok(())
+}
+
+// The first lock was asked for at the fourth step, and has ended when the last lock comes.
+#[test]
+fn slow_locks_expire(rt: HostRuntime) -> Result<(), Fail> {
+    let alloc = rt.alloc();
+    let ended = drop_of(alloc, &desk(Need { n: 2, m: 1 }), Peer::Locks, true, None, 200_000)?;
+    let wanted = Ended::Expired {
+        end: 1_200_000,
+        clock: 1_800_000,
+    };
+    assert_eq!(rt; ended, wanted);
+    Ok(())
+}
+
+// A second drop of the key meets the bar of the first.
+#[test]
+fn a_bar_refuses(rt: HostRuntime) -> Result<(), Fail> {
+    let alloc = rt.alloc();
+    let here = desk(Need { n: 1, m: 1 });
+    let key = Key::parse(alloc, b"WORM-s3--abc")?;
+    let mut keeper = MemoryKeeper::new(alloc)?;
+    keeper.append_part(&key, b"abc")?;
+    keeper.commit(&key)?;
+    let mut table = LockTable::new(alloc)?;
+    let job = Job {
+        kind: JobKind::Drop,
+        key: key.copy()?,
+        path: None,
+        peer: None,
+    };
+    let mut first = Worker::start(alloc, 1, 0, job, 3);
+    let again = Job {
+        kind: JobKind::Drop,
+        key,
+        path: None,
+        peer: None,
+    };
+    let mut second = Worker::start(alloc, 2, 1, again, 3);
+    let input = Input {
+        taken: Taken::Nothing,
+        time: Time::new(0),
+        number: 1,
+        word: None,
+    };
+    let put = step(&mut first, alloc, &here, &mut table, &mut keeper, &input);
+    let met = step(&mut second, alloc, &here, &mut table, &mut keeper, &input);
+    end(second, &mut table);
+    end(first, &mut table);
+    assert!(rt; !put?.ended);
+    assert_eq!(rt; ended_so(Some(met?.kind)), Ended::Barred { job: 1 });
+    Ok(())
+}

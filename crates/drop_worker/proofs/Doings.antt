@@ -27,7 +27,7 @@ use Rattle.drop_worker.specs.declared.turn.Taken.TheVariants as takens
 use Rattle.drop_worker.specs.Worker.{Worker}
 use Rattle.drop_worker.specs.Working.{Rest, Sight, end_in, failed_in, phase_as, taken_line, taken_of, turn_in}
 use Rattle.drop_worker.specs.Doing.{Comes, Does, GoesOn, HasToken, IsBar, IsEnd, Takes, Talks, contents_after, moved, share_in}
-use Rattle.drop_worker.specs.Feeding.{Fed, FitsLocal, IsBare, IsOfLocal, step_of}
+use Rattle.drop_worker.specs.Feeding.{Fed, FindsClosed, FitsLocal, TakesClose, TakesFed, TakesOther, IsBare, IsOfLocal, step_of}
 
 pub does_as : (x : Sight) (rows rows' : Rows) (p : List ℕ → Bool) (w w' : Worker) (taken : Option FrameView) (a b : Turn → Made) (out : Output)
     → Does x rows rows' p w w' taken a out → ((rest : Rest) → a (turn_in x rows p (failed_in out.kind) rest w) ≡ b (turn_in x rows p (failed_in out.kind) rest w)) → Does x rows rows' p w w' taken b out
@@ -46,16 +46,13 @@ does_over x rows rows' p w w' taken a out same d = subst (λ (r : Rows). Does x 
 
 -- ---- what is told
 
-pub fed_message : (x : Sight) (rows : Rows) (p : List ℕ → Bool) (time peer : ℕ) (m : Message) (w w' : Worker) (out : Output) (f : Option FrameView) (taken : Taken) → taken ≡ takens.Message m
-    → Takes time peer m w w' out → x.time ≡ time → Fed x w.slot peer f taken → Does x rows rows p w w' f (step_of (Some peer) f) out
-fed_message x rows p time peer m w w' out None taken is takes at fed = absurd (let both : takens.Message m ≡ takens.Closed = sym is ∙ fed.0 in cc)
-fed_message x rows p time peer m w w' out (Some f) taken is takes at fed = takes x rows p f at (subst (λ (t : Taken). Comes x w.slot peer f t) is fed)
+pub fed_message : (time peer : ℕ) (m : Message) (w w' : Worker) (out : Output) (taken : Taken) → taken ≡ takens.Message m → Takes time peer m w w' out → TakesFed time peer taken w w' out
+fed_message time peer m w w' out taken is takes x rows p None at fed = absurd (let both : takens.Message m ≡ takens.Closed = sym is ∙ fed.0 in cc)
+fed_message time peer m w w' out taken is takes x rows p (Some f) at fed = takes x rows p f at (subst (λ (t : Taken). Comes x w.slot peer f t) is fed)
 
-pub fed_other : (x : Sight) (rows : Rows) (p : List ℕ → Bool) (peer : ℕ) (w w' : Worker) (out : Output) (f : Option FrameView) (taken : Taken) → taken ≡ takens.Other
-    → ((x : Sight) (rows : Rows) (p : List ℕ → Bool) (f : FrameView) → Comes x w.slot peer f takens.Other → Does x rows rows p w w' (Some f) (λ t. takes_frame t peer f f.body) out)
-    → Fed x w.slot peer f taken → Does x rows rows p w w' f (step_of (Some peer) f) out
-fed_other x rows p peer w w' out None taken is takes fed = absurd (let both : takens.Other ≡ takens.Closed = sym is ∙ fed.0 in cc)
-fed_other x rows p peer w w' out (Some f) taken is takes fed = takes x rows p f (subst (λ (t : Taken). Comes x w.slot peer f t) is fed)
+pub fed_other : (time peer : ℕ) (w w' : Worker) (out : Output) (taken : Taken) → taken ≡ takens.Other → TakesOther peer w w' out → TakesFed time peer taken w w' out
+fed_other time peer w w' out taken is takes x rows p None at fed = absurd (let both : takens.Other ≡ takens.Closed = sym is ∙ fed.0 in cc)
+fed_other time peer w w' out taken is takes x rows p (Some f) at fed = takes x rows p f (subst (λ (t : Taken). Comes x w.slot peer f t) is fed)
 
 line_open : (o : Option Message) → taken_line o ≡ takens.Closed → ⊥
 line_open None e = cc
@@ -67,12 +64,9 @@ closed_body Closing e = refl
 closed_body (Bytes n) e = absurd (cc)
 closed_body (Line text) e = absurd (line_open (message_of text) e)
 
-pub fed_closed : (x : Sight) (rows : Rows) (p : List ℕ → Bool) (peer : ℕ) (w w' : Worker) (out : Output) (f : Option FrameView) (taken : Taken) → taken ≡ takens.Closed
-    → ((x : Sight) (rows : Rows) (p : List ℕ → Bool) (f : FrameView) → (x.read.repo == peer) ≡ false → takes_at (end_in w.slot peer) f ≡ true → f.body ≡ Closing → Does x rows rows p w w' (Some f) (λ t. takes_frame t peer f f.body) out)
-    → ((x : Sight) (rows : Rows) (p : List ℕ → Bool) → (x.read.repo == peer) ≡ false → (x.ends (end_in w.slot peer)).opened ≡ false → Does x rows rows p w w' None (λ t. quietly (talk t) None) out)
-    → Fed x w.slot peer f taken → Does x rows rows p w w' f (step_of (Some peer) f) out
-fed_closed x rows p peer w w' out None taken is takes here fed = here x rows p fed.1 fed.2
-fed_closed x rows p peer w w' out (Some f) taken is takes here fed = takes x rows p f fed.apart fed.at (closed_body f.body (fed.is ∙ is))
+pub fed_closed : (time peer : ℕ) (w w' : Worker) (out : Output) (taken : Taken) → taken ≡ takens.Closed → TakesClose peer w w' out → FindsClosed peer w w' out → TakesFed time peer taken w w' out
+fed_closed time peer w w' out taken is takes here x rows p None at fed = here x rows p fed.1 fed.2
+fed_closed time peer w w' out taken is takes here x rows p (Some f) at fed = takes x rows p f fed.apart fed.at (closed_body f.body (fed.is ∙ is))
 
 -- ---- tokens and phases
 

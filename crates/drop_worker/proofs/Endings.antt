@@ -61,7 +61,7 @@ pub ends_rows : (job : ℕ) (key : List ℕ) (token : Token) (rows rows' : Rows)
 ends_rows job key token rows rows' outcome plain bare own off same filling =
     record {
       holds = same ∙ sym (ap (λ (b : Bool). if b then map (keep_of (by_job job)) rows.holds else filter (λ h. h.kept || not (same_owner h.owner (by_job job))) rows.holds) plain
-        ∙ kept_stay (by_job job) rows.holds (subst (λ (o : Option ShareView). Owns (by_job job) o rows.holds) bare own.holds).kept);
+          ∙ kept_stay (by_job job) rows.holds (subst (λ (o : Option ShareView). Owns (by_job job) o rows.holds) bare own.holds).kept);
       bars = λ k. off k ∙ ap (λ (b : Bool). if b then None else bar_at rows k) (sym (own.bars k));
       fills = filling;
     }
@@ -89,4 +89,4 @@ pub refused_does : (x : Sight) (rows rows' : Rows) (p : List ℕ → Bool) (w w'
 refused_does x rows rows' p w w' asked why sends out is sent plain bare own same f =
     ends_does x rows rows' p w w' None asked (Refused why) sends out is sent
     (ends_rows w.number w.job.key w.token rows rows' (Refused why) plain (ap share_in bare) own
-      (λ k. ap (λ (r : Rows). bar_at r k) same ∙ ap (λ (t : Token). if is_barring t k then None else bar_at rows k) (sym bare)) (ap (λ (r : Rows). r.holds) same) (ap (λ (r : Rows). r.fills) same)) f
+    (λ k. ap (λ (r : Rows). bar_at r k) same ∙ ap (λ (t : Token). if is_barring t k then None else bar_at rows k) (sym bare)) (ap (λ (r : Rows). r.holds) same) (ap (λ (r : Rows). r.fills) same)) f

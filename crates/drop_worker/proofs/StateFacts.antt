@@ -100,7 +100,7 @@ steps_so x rows rows' contents w w' taken out s st k v f sees d =
     now = turn_of s st k v
 
     is : then ≡ now
-    is = turn_is x rows contents s st k w v (failed_in out.kind) sees.sight sees.keeps sees.fails
+    is = turn_is x rows contents s st k w v (failed_in out.kind) sees.sight sees.keeps sees.failing
 
     work : work_of rest w ≡ v
     work = sees.sight.work

@@ -1,5 +1,5 @@
 -- The steps of a local drop that take a message.
-use Rattle.std.proofs.Common.{◌≡◌, ℕ, Bool, true, false, List, [], ◌∷◌, ◌++◌, map, Option, Some, None, Result, Ok, Err, refl, sym, ap, ◌∙◌, subst}
+use Rattle.std.proofs.Common.{inl, inr, ◌≡◌, ℕ, Bool, true, false, List, [], ◌∷◌, ◌++◌, map, Option, Some, None, Result, Ok, Err, refl, sym, ap, ◌∙◌, subst}
 use Rattle.std.specs.Prelude.{IfOk, ◌==◌, if◌then◌else◌}
 use Rattle.std.proofs.lemmas.List.{append-nil}
 use Rattle.drop_proof.specs.declared.rule.Side.TheVariants.{Local}
@@ -28,7 +28,7 @@ use Rattle.drop_worker.specs.declared.turn.Taken.TheVariants as takens
 use Rattle.drop_worker.specs.Worker.{Worker}
 use Rattle.drop_worker.specs.Working.{Rest, Sight, heard_as, end_in, frames_of, made_of, phase_as, taken_line, taken_of, texts_of, turn_in, work_of}
 use Rattle.node_model.specs.Slots.{job_of}
-use Rattle.drop_worker.specs.Doing.{Does, Comes, GoesOn, Shuts, Talks, moved}
+use Rattle.drop_worker.specs.Doing.{Does, Comes, GoesOn, Grows, Shuts, Talks, moved}
 use Rattle.drop_worker.proofs.Talks.{on_heard, on_said, on_shut, open_line}
 
 -- ---- the line that came
@@ -161,11 +161,15 @@ if_ok (Err e) P Q a f = tt
 
 -- ---- what stays of a worker that talks
 
-pub talks_as : (w v w' : Worker) (out : Output) → out.kind ≡ Talk (Some w.number) → out.ended ≡ false → w' ≡ v → v.number ≡ w.number → v.job ≡ w.job → v.token ≡ w.token → GoesOn v.phase
+pub talks_as : (w v w' : Worker) (out : Output) → out.kind ≡ Talk (Some w.number) → out.ended ≡ false → w' ≡ v → v.number ≡ w.number → v.job ≡ w.job → v.token ≡ w.token → GoesOn v.phase → Grows w.heard v.heard
     → Talks w w' out
-talks_as w v w' out kind ended is number job token phase =
-    subst (λ (u : Worker). Talks w u out) (sym is) (record { kind = kind; goes_on = ended; number = number; job = job; token = token; phase = phase })
+talks_as w v w' out kind ended is number job token phase heard =
+    subst (λ (u : Worker). Talks w u out) (sym is) (record { kind = kind; goes_on = ended; number = number; job = job; token = token; phase = phase; heard = heard })
 
 pub heard_talks : (w w' : Worker) (peer : ℕ) (h : Heard) (out : Output) → out.kind ≡ Talk (Some w.number) → out.ended ≡ false
     → w' ≡ record w { heard = (peer, h) ∷ w.heard; phase = phases.Next } → Talks w w' out
-heard_talks w w' peer h out kind ended is = talks_as w (record w { heard = (peer, h) ∷ w.heard; phase = phases.Next }) w' out kind ended is refl refl refl tt
+heard_talks w w' peer h out kind ended is = talks_as w (record w { heard = (peer, h) ∷ w.heard; phase = phases.Next }) w' out kind ended is refl refl refl tt (inr ((peer, h), refl))
+
+pub if_both : {T E : Type 0} (r : Result T E) (P Q R : T → Type 0) → IfOk r P → IfOk r Q → ((y : T) → P y → Q y → R y) → IfOk r R
+if_both (Ok y) P Q R a b f = f y a b
+if_both (Err e) P Q R a b f = tt

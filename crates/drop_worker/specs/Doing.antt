@@ -1,5 +1,5 @@
 -- What a worker's step does, in the words of the step (the project's own).
-use Rattle.std.specs.Prelude.{◌≡◌, ℕ, Bool, true, false, not, ◌==◌, List, [], ◌∷◌, filter, map, Option, Some, None, bytes_eq}
+use Rattle.std.specs.Prelude.{◌≡◌, ℕ, Bool, true, false, not, ◌==◌, ◌⊎◌, List, [], ◌∷◌, filter, map, Option, Some, None, bytes_eq}
 use Rattle.run_data.specs.declared.entry.By.{By}
 use Rattle.run_data.specs.declared.entry.By.TheVariants.{Job as by_job}
 use Rattle.run_data.specs.declared.entry.Entry.{Entry}
@@ -12,7 +12,8 @@ use Rattle.node_model.specs.Look.{Made, entry_of}
 use Rattle.node_model.specs.JobStep.{Turn, attempts, by_me, key_of, me, quietly}
 use Rattle.p2p_wire.specs.declared.message.Message.TheVariants.{CheckPresent, LockContent, Version}
 use Rattle.p2p_wire.specs.Messages.{message_of, text_of}
-use Rattle.node_model.specs.Ends.{takes_at}
+use Rattle.node_model.specs.Ends.{End as EndState, EndName, takes_at}
+use Rattle.node_model.specs.Knows.{Reading}
 use Rattle.p2p_wire.specs.declared.message.Message.{Message}
 use Rattle.node_model.specs.Turns.{takes_frame}
 use Rattle.drop_worker.specs.declared.turn.Taken.{Taken}
@@ -20,6 +21,7 @@ use Rattle.drop_worker.specs.declared.turn.Taken.TheVariants as takens
 use Rattle.run_data.specs.declared.entry.EntryKind.TheVariants.{End, Gone, Talk}
 use Rattle.annex_base.specs.declared.kinds.Call.TheVariants as calls
 use Rattle.run_data.specs.declared.job.Cause.TheVariants as causes
+use Rattle.drop_worker.specs.declared.phase.Heard.{Heard}
 use Rattle.drop_worker.specs.declared.phase.Heard.TheVariants as heards
 use Rattle.drop_worker.specs.declared.phase.Phase.{Phase}
 use Rattle.drop_worker.specs.declared.phase.Phase.TheVariants as phases
@@ -33,7 +35,7 @@ use Rattle.drop_worker.specs.declared.phase.Token.{Token}
 use Rattle.drop_worker.specs.declared.phase.Token.TheVariants as tokens
 use Rattle.drop_worker.specs.declared.turn.Output.{Output}
 use Rattle.drop_worker.specs.Worker.{Worker}
-use Rattle.drop_worker.specs.Working.{Rest, Sight, end_in, failed_in, taken_of, made_of, turn_in, work_of}
+use Rattle.drop_worker.specs.Working.{Rest, Sight, end_in, failed_in, taken_of, made_of, sight, turn_in, work_of}
 
 -- the work after the entry that a turn makes
 abbrev pub moved : Turn → Made → Work
@@ -46,6 +48,14 @@ pub record Does (x : Sight) (rows rows' : Rows) (present : List ℕ → Bool) (w
   pub next : out.ended ≡ false → (rest : Rest) → work_of rest w' ≡ moved (turn_in x rows present (failed_in out.kind) rest w) (asked (turn_in x rows present (failed_in out.kind) rest w))
   pub after : AreAfter out.kind rows rows'
   pub whose : job_of out.kind ≡ Some w.number
+
+-- a step that takes no frame does what is asked, at this time
+abbrev pub Acts : Reading → (EndName → EndState) → ℕ → Rows → Rows → Worker → Worker → (Turn → Made) → Output → Type 0
+Acts read ends time rows rows' w w' asked out = (number : ℕ) (p : List ℕ → Bool) → Does (sight read ends time number) rows rows' p w w' None asked out
+
+-- at every time
+abbrev pub ActsAnyTime : Reading → (EndName → EndState) → Rows → Rows → Worker → Worker → (Turn → Made) → Output → Type 0
+ActsAnyTime read ends rows rows' w w' asked out = (time : ℕ) → Acts read ends time rows rows' w w' asked out
 
 -- the contents after an entry of a drop
 abbrev pub contents_after : Option Contents → EntryKind → Option Contents
@@ -118,6 +128,10 @@ GoesOn (phases.AsksLock peer since) = Unit {0}
 GoesOn (phases.AsksLook peer) = Unit {0}
 GoesOn phase = ⊥
 
+-- it heard nothing, or of one repository
+abbrev pub Grows : List (ℕ × Heard) → List (ℕ × Heard) → Type 0
+Grows was now = (now ≡ was) ⊎ ((x : ℕ × Heard) × (now ≡ x ∷ was))
+
 -- a step that talks, and leaves the job what it has of its row
 pub record Talks (w w' : Worker) (out : Output) : Type 0 where
   pub kind : out.kind ≡ Talk (Some w.number)
@@ -126,6 +140,7 @@ pub record Talks (w w' : Worker) (out : Output) : Type 0 where
   pub job : w'.job ≡ w.job
   pub token : w'.token ≡ w.token
   pub phase : GoesOn w'.phase
+  pub heard : Grows w.heard w'.heard
 
 abbrev pub IsBar : Token → Type 0
 IsBar (tokens.Bar bar) = Unit {0}

@@ -1,5 +1,5 @@
 -- What a worker knows, by what it reads (the project's own).
-use Rattle.std.specs.Prelude.{ℕ, ◌+◌, Bool, List, [], ◌∷◌, find, Option, Some, None}
+use Rattle.std.specs.Prelude.{ℕ, ◌+◌, ◌&&◌, Bool, List, [], ◌∷◌, find, Option, Some, None}
 use Rattle.std.specs.List.{range_with_len}
 use Rattle.drop_proof.specs.declared.evidence.Evidence.{Evidence}
 use Rattle.drop_proof.specs.declared.evidence.Kind.{Kind}
@@ -8,7 +8,8 @@ use Rattle.node_model.specs.Evidence.{Offer, Gives, Fails, but, gather, is_locke
 use Rattle.node_model.specs.Knows.{Reading, cause_by, is_unasked, offer_by}
 use Rattle.drop_proof.specs.declared.evidence.Kind.TheVariants.{Locked, Recent}
 use Rattle.node_model.specs.Look.{Made}
-use Rattle.node_model.specs.JobStep.{Turn, ends}
+use Rattle.node_model.specs.Ends.{End, EndName}
+use Rattle.node_model.specs.JobStep.{Turn, ends, is_held, locked_peers}
 use Rattle.node_model.specs.DropStep.{lacking}
 use Rattle.run_data.specs.declared.job.Outcome.TheVariants.{Refused}
 use Rattle.run_data.specs.declared.job.DropRefusal.TheVariants as refusals
@@ -24,7 +25,7 @@ use Rattle.drop_worker.specs.declared.judging.Verdict.TheVariants as verdicts
 use Rattle.drop_worker.specs.declared.phase.Heard.{Heard}
 use Rattle.drop_worker.specs.declared.phase.Heard.TheVariants as heards
 use Rattle.drop_worker.specs.Worker.{Worker}
-use Rattle.drop_worker.specs.Working.{heard_in, words_of}
+use Rattle.drop_worker.specs.Working.{end_in, heard_in, words_of}
 
 abbrev pub offer_as : Option Kind → Offer
 offer_as (Some kind) = Gives kind
@@ -55,6 +56,17 @@ step_by (verdicts.Asks peer) t = goes_to t peer
 step_by verdicts.Removes t = removes_now t
 step_by (verdicts.Late end clock) t = ends t None (Refused (refusals.Expired end clock))
 step_by verdicts.Lacks t = ends t None (lacking t)
+
+-- the peers to which that step may send more than a Close
+abbrev pub needs_by : Verdict → Turn → List ℕ
+needs_by (verdicts.Asks peer) t = peer ∷ []
+needs_by verdicts.Removes t = []
+needs_by (verdicts.Late end clock) t = locked_peers t
+needs_by verdicts.Lacks t = locked_peers t
+
+-- the peer gave a lock, and the connection with it is open
+abbrev pub is_owing : (EndName → End) → Worker → ℕ → Bool
+is_owing ends w peer = is_held (heard_in w.heard peer) && (ends (end_in w.slot peer)).opened
 
 -- ---- what an end states
 

@@ -45,7 +45,7 @@ pub record IsSight (x : Sight) (s : SetUp) (st : State) (k : Look) (w : Worker) 
 pub record Sees (x : Sight) (rows : Rows) (contents : Contents) (w : Worker) (taken : Taken) (fails : Option Call) (s : SetUp) (st : State) (k : Look) (v : Work) (f : Option FrameView) : Type 0 where
   pub sight : IsSight x s st k w v
   pub keeps : Keeps rows contents st
-  pub fails : k.fails ≡ fails
+  pub failing : k.fails ≡ fails
   pub finds : FindsAt (turn_of s st k v) (partner w.job.peer (phase_as w.phase)) f
   pub fed : FedAt x w.slot (partner w.job.peer (phase_as w.phase)) f taken
 

@@ -44,12 +44,7 @@ fn has_item(items: &[Evidence], repo: u32, sort: Sort) -> bool
 }
 
 /// The repositories, in order of number, whose evidence is of this kind.
-fn repos_of(
-    alloc: Global,
-    count: u32,
-    items: &[Evidence],
-    sort: Sort,
-) -> Result<Vec<u32>, NoMemory>
+fn repos_of(alloc: Global, count: u32, items: &[Evidence], sort: Sort) -> Result<Vec<u32>, NoMemory>
     ensures { IfOk result (λ repos. repos.items ≡ repos_of (test_of sort) count items.now) }
 {
     let mut repos = Vec::new(alloc);
@@ -83,12 +78,16 @@ fn cause_told(heard: Option<Heard>) -> Cause
 {
     match heard {
         Some(Heard::Lacks(cause)) => cause,
-        Some(Heard::Unseen {
-            word: Some(Word::Absent),
-        }) => Cause::Absent,
-        Some(Heard::Unseen {
-            word: Some(Word::Barred),
-        }) => Cause::Barred,
+        Some(
+            Heard::Unseen {
+                word: Some(Word::Absent),
+            },
+        ) => Cause::Absent,
+        Some(
+            Heard::Unseen {
+                word: Some(Word::Barred),
+            },
+        ) => Cause::Barred,
         _ => Cause::Fault,
     }
 }

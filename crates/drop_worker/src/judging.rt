@@ -5,10 +5,10 @@ ghost use Rattle.std.specs.declared.option.Option.{Option};
 ghost use Rattle.annex_base.specs.declared.kinds.Call.{Call};
 ghost use Rattle.drop_proof.specs.declared.rule.Side.TheVariants as sides;
 ghost use Rattle.node_model.specs.Jobs.{Drops, drop_side};
-ghost use Rattle.node_model.specs.Turns.{next_step};
+ghost use Rattle.node_model.specs.Turns.{next_needs, next_step};
 ghost use Rattle.content_lock.specs.Rows.{Rows};
 ghost use Rattle.drop_worker.specs.Working.{Rest, sight, turn_in};
-ghost use Rattle.drop_worker.specs.Judging.{step_by, asks_of, gathered, offer_as, offer_heard, offer_of, others_in};
+ghost use Rattle.drop_worker.specs.Judging.{step_by, needs_by, asks_of, gathered, offer_as, offer_heard, offer_of, others_in};
 
 use crate::here::{Here, Standing};
 use crate::phase::Heard;
@@ -160,7 +160,8 @@ pub fn judge<H: Here>(
     requires all { candidates.now ≡ others_in (H.reading here.now) }
     requires known { items.now ≡ gathered sides.Local (H.reading here.now) worker.now candidates.now [] }
     requires few { length items.now < 2 ^ 32 }
-    ensures { (number : ℕ) (rows : Rows) (p : List ℕ → Bool) (fails : Option Call) (rest : Rest) → step_by result (turn_in (sight (H.reading here.now) (H.ends here.now) time number) rows p fails rest worker.now) ≡ next_step (turn_in (sight (H.reading here.now) (H.ends here.now) time number) rows p fails rest worker.now) Drops }
+    ensures step { (number : ℕ) (rows : Rows) (p : List ℕ → Bool) (fails : Option Call) (rest : Rest) → step_by result (turn_in (sight (H.reading here.now) (H.ends here.now) time number) rows p fails rest worker.now) ≡ next_step (turn_in (sight (H.reading here.now) (H.ends here.now) time number) rows p fails rest worker.now) Drops }
+    ensures needs { (number : ℕ) (rows : Rows) (p : List ℕ → Bool) (fails : Option Call) (rest : Rest) → needs_by result (turn_in (sight (H.reading here.now) (H.ends here.now) time number) rows p fails rest worker.now) ≡ next_needs (turn_in (sight (H.reading here.now) (H.ends here.now) time number) rows p fails rest worker.now) Drops }
 {
     match drop_proof::judge(items, here.need(), Side::Local) {
         Judged::Enough { end: None } => Verdict::Removes,

@@ -11,7 +11,7 @@ ghost use Rattle.node_model.specs.Requests.{goes_to};
 ghost use Rattle.node_model.specs.Turns.{goes, next_step};
 ghost use Rattle.content_lock.specs.Rows.{AreAfter, Rows};
 ghost use Rattle.drop_worker.specs.Working.{Sight, failed_in, phase_as, present_in, sight};
-ghost use Rattle.drop_worker.specs.Doing.{Does, HasToken, IsBar, IsEnding, OthersStay, Talks, contents_after, removes_now};
+ghost use Rattle.drop_worker.specs.Doing.{Acts, ActsAnyTime, Does, HasToken, IsBar, IsEnding, OthersStay, Talks, contents_after, removes_now};
 ghost use Rattle.drop_worker.specs.Feeding.{FitsLocal, IsOfLocal};
 ghost use Rattle.drop_worker.specs.Judging.{gathered, others_in};
 
@@ -49,6 +49,7 @@ pub(crate) fn act<K: Keeper, H: Here>(
     ensures contents { IfOk result (λ out. K.contents keeper.new ≡ contents_after (K.contents keeper.old) out.kind) }
     ensures owns { HasToken worker.new.number worker.new.job.key worker.new.token table.new }
     ensures fits { IfOk result (λ out. out.ended ≡ false → FitsLocal worker.new.phase worker.new.token) }
+    ensures heard { worker.new.heard ≡ worker.old.heard }
     ensures job { (worker.new.number ≡ worker.old.number) × (worker.new.job ≡ worker.old.job) }
     ensures others { OthersStay worker.old.number table.old table.new }
     ensures holds { table.new.holds ≡ table.old.holds }
@@ -85,6 +86,7 @@ fn begin<K: Keeper, H: Here>(
     ensures contents { IfOk result (λ out. K.contents keeper.new ≡ contents_after (K.contents keeper.old) out.kind) }
     ensures owns { HasToken worker.new.number worker.new.job.key worker.new.token table.new }
     ensures fits { IfOk result (λ out. out.ended ≡ false → FitsLocal worker.new.phase worker.new.token) }
+    ensures heard { worker.new.heard ≡ worker.old.heard }
     ensures job { (worker.new.number ≡ worker.old.number) × (worker.new.job ≡ worker.old.job) }
     ensures others { OthersStay worker.old.number table.old table.new }
     ensures holds { table.new.holds ≡ table.old.holds }
@@ -137,10 +139,11 @@ fn go_on<K: Keeper, H: Here>(
     requires next { worker.old.phase ≡ Phase.Next }
     requires bars { IsBar worker.old.token }
     requires owns { HasToken worker.old.number worker.old.job.key worker.old.token table.old }
-    ensures does { IfOk result (λ out. (number : ℕ) (p : List ℕ → Bool) → Does (sight (H.reading here.now) (H.ends here.now) time number) table.old table.new p worker.old worker.new None (λ t. next_step t Drops) out) }
+    ensures does { IfOk result (Acts (H.reading here.now) (H.ends here.now) time table.old table.new worker.old worker.new (λ t. next_step t Drops)) }
     ensures contents { IfOk result (λ out. K.contents keeper.new ≡ contents_after (K.contents keeper.old) out.kind) }
     ensures owns { HasToken worker.new.number worker.new.job.key worker.new.token table.new }
     ensures fits { IfOk result (λ out. out.ended ≡ false → FitsLocal worker.new.phase worker.new.token) }
+    ensures heard { worker.new.heard ≡ worker.old.heard }
     ensures job { (worker.new.number ≡ worker.old.number) × (worker.new.job ≡ worker.old.job) }
     ensures others { OthersStay worker.old.number table.old table.new }
     ensures holds { table.new.holds ≡ table.old.holds }
@@ -174,6 +177,7 @@ fn remove<K: Keeper>(
     ensures contents { IfOk result (λ out. K.contents keeper.new ≡ contents_after (K.contents keeper.old) out.kind) }
     ensures owns { HasToken worker.new.number worker.new.job.key worker.new.token table.new }
     ensures fits { IfOk result (λ out. FitsLocal worker.new.phase worker.new.token) }
+    ensures heard { worker.new.heard ≡ worker.old.heard }
     ensures job { (worker.new.number ≡ worker.old.number) × (worker.new.job ≡ worker.old.job) }
     ensures others { OthersStay worker.old.number table.old table.new }
     ensures holds { table.new.holds ≡ table.old.holds }
@@ -210,8 +214,9 @@ fn ask<H: Here>(
 ) -> Result<Output, NoMemory>
     requires local { drop_side worker.old.job.kind worker.old.job.peer ≡ sides.Local }
     requires next { worker.old.phase ≡ Phase.Next }
-    ensures does { IfOk result (λ out. (number : ℕ) (rows : Rows) (p : List ℕ → Bool) → Does (sight (H.reading here.now) (H.ends here.now) time number) rows rows p worker.old worker.new None (λ t. goes_to t peer) out) }
+    ensures does { IfOk result (λ out. (rows : Rows) → Acts (H.reading here.now) (H.ends here.now) time rows rows worker.old worker.new (λ t. goes_to t peer) out) }
     ensures talks { IfOk result (Talks worker.old worker.new) }
+    ensures heard { worker.new.heard ≡ worker.old.heard }
     ensures err { OnErr result (worker.new ≡ worker.old) }
 {
     if !here.is_open(peer, worker.slot()) {
@@ -239,9 +244,10 @@ fn expire<H: Here>(
 ) -> Result<Output, NoMemory>
     requires local { IsOfLocal worker.old.token }
     requires owns { HasToken worker.old.number worker.old.job.key worker.old.token table.old }
-    ensures does { IfOk result (λ out. (time number : ℕ) (p : List ℕ → Bool) → Does (sight (H.reading here.now) (H.ends here.now) time number) table.old table.new p worker.old worker.new None (λ t. ends t None (Outcome.Refused (DropRefusal.Expired end clock))) out) }
+    ensures does { IfOk result (ActsAnyTime (H.reading here.now) (H.ends here.now) table.old table.new worker.old worker.new (λ t. ends t None (Outcome.Refused (DropRefusal.Expired end clock)))) }
     ensures ended { IfOk result IsEnding }
     ensures owns { HasToken worker.new.number worker.new.job.key worker.new.token table.new }
+    ensures heard { worker.new.heard ≡ worker.old.heard }
     ensures same { (worker.new.number ≡ worker.old.number) × (worker.new.job ≡ worker.old.job) }
     ensures others { OthersStay worker.old.number table.old table.new }
     ensures holds { table.new.holds ≡ table.old.holds }
@@ -270,8 +276,9 @@ fn lack<H: Here>(
     requires all { candidates.now ≡ others_in (H.reading here.now) }
     requires known { items.now ≡ gathered sides.Local (H.reading here.now) worker.old candidates.now [] }
     requires owns { HasToken worker.old.number worker.old.job.key worker.old.token table.old }
-    ensures does { IfOk result (λ out. (time number : ℕ) (p : List ℕ → Bool) → Does (sight (H.reading here.now) (H.ends here.now) time number) table.old table.new p worker.old worker.new None (λ t. ends t None (lacking t)) out) }
+    ensures does { IfOk result (ActsAnyTime (H.reading here.now) (H.ends here.now) table.old table.new worker.old worker.new (λ t. ends t None (lacking t))) }
     ensures ended { IfOk result IsEnding }
+    ensures heard { worker.new.heard ≡ worker.old.heard }
     ensures same { (worker.new.number ≡ worker.old.number) × (worker.new.job ≡ worker.old.job) }
     ensures owns { HasToken worker.new.number worker.new.job.key worker.new.token table.new }
     ensures others { OthersStay worker.old.number table.old table.new }
@@ -298,8 +305,9 @@ fn drop_done<H: Here>(
     requires at { worker.old.phase ≡ Phase.Removed }
     requires local { IsOfLocal worker.old.token }
     requires owns { HasToken worker.old.number worker.old.job.key worker.old.token table.old }
-    ensures does { IfOk result (λ out. (time number : ℕ) (p : List ℕ → Bool) → Does (sight (H.reading here.now) (H.ends here.now) time number) table.old table.new p worker.old worker.new None (λ t. goes t t.w.phase) out) }
+    ensures does { IfOk result (ActsAnyTime (H.reading here.now) (H.ends here.now) table.old table.new worker.old worker.new (λ t. goes t t.w.phase)) }
     ensures ended { IfOk result IsEnding }
+    ensures heard { worker.new.heard ≡ worker.old.heard }
     ensures same { (worker.new.number ≡ worker.old.number) × (worker.new.job ≡ worker.old.job) }
     ensures owns { HasToken worker.new.number worker.new.job.key worker.new.token table.new }
     ensures others { OthersStay worker.old.number table.old table.new }
@@ -323,8 +331,9 @@ fn end_so<H: Here>(
     requires at { worker.old.phase ≡ Phase.Ends why }
     requires fits { FitsLocal worker.old.phase worker.old.token }
     requires owns { HasToken worker.old.number worker.old.job.key worker.old.token table.old }
-    ensures does { IfOk result (λ out. (time number : ℕ) (p : List ℕ → Bool) → Does (sight (H.reading here.now) (H.ends here.now) time number) table.old table.new p worker.old worker.new None (λ t. goes t t.w.phase) out) }
+    ensures does { IfOk result (ActsAnyTime (H.reading here.now) (H.ends here.now) table.old table.new worker.old worker.new (λ t. goes t t.w.phase)) }
     ensures ended { IfOk result IsEnding }
+    ensures heard { worker.new.heard ≡ worker.old.heard }
     ensures same { (worker.new.number ≡ worker.old.number) × (worker.new.job ≡ worker.old.job) }
     ensures owns { HasToken worker.new.number worker.new.job.key worker.new.token table.new }
     ensures others { OthersStay worker.old.number table.old table.new }
@@ -355,8 +364,9 @@ fn finish<H: Here>(
     requires plain { is_lost_ordered outcome ≡ false }
     requires local { IsOfLocal worker.old.token }
     requires owns { HasToken worker.old.number worker.old.job.key worker.old.token table.old }
-    ensures does { IfOk result (λ out. (time number : ℕ) (p : List ℕ → Bool) → Does (sight (H.reading here.now) (H.ends here.now) time number) table.old table.new p worker.old worker.new None (λ t. ends t None outcome) out) }
+    ensures does { IfOk result (ActsAnyTime (H.reading here.now) (H.ends here.now) table.old table.new worker.old worker.new (λ t. ends t None outcome)) }
     ensures ended { IfOk result IsEnding }
+    ensures heard { worker.new.heard ≡ worker.old.heard }
     ensures same { (worker.new.number ≡ worker.old.number) × (worker.new.job ≡ worker.old.job) }
     ensures owns { HasToken worker.new.number worker.new.job.key worker.new.token table.new }
     ensures others { OthersStay worker.old.number table.old table.new }

@@ -1,17 +1,10 @@
 //! The steps of a local drop that take a frame, or find the connection closed.
-ghost use Rattle.std.specs.Prelude.{◌≡◌, ◌==◌, ◌≤◌, ◌+◌, ◌<◌, ◌^◌, ℕ, List, Bool, true, false, Some, None, IfOk, OnOk, OnErr, [], ◌∷◌};
-ghost use Rattle.std.specs.declared.option.Option.{Option};
+ghost use Rattle.std.specs.Prelude.{◌≡◌, None, Some, IfOk, OnErr};
 ghost use Rattle.drop_proof.specs.declared.rule.Side.TheVariants as sides;
 ghost use Rattle.node_model.specs.Jobs.{drop_side, partner};
-ghost use Rattle.run_data.specs.declared.entry.FrameView.{FrameView};
-ghost use Rattle.run_data.specs.declared.entry.FrameText.TheVariants.{Closing};
-ghost use Rattle.node_model.specs.Ends.{takes_at};
-ghost use Rattle.node_model.specs.JobStep as jobs;
-ghost use Rattle.node_model.specs.Turns.{takes_frame};
-ghost use Rattle.content_lock.specs.Rows.{Rows};
-ghost use Rattle.drop_worker.specs.Working.{Sight, end_in, phase_as};
-ghost use Rattle.drop_worker.specs.Doing.{Comes, Does, Shuts, Takes, Talks};
-ghost use Rattle.drop_worker.specs.Feeding.{Fed, FitsLocal, step_of};
+ghost use Rattle.drop_worker.specs.Working.{phase_as};
+ghost use Rattle.drop_worker.specs.Doing.{Shuts, Takes, Talks};
+ghost use Rattle.drop_worker.specs.Feeding.{FindsClosed, FitsLocal, KeepsWord, TakesClose, TakesFed, TakesOther};
 
 use crate::phase::{Heard, Phase};
 use crate::time::Time;
@@ -33,8 +26,8 @@ pub(crate) fn hear(
     requires fits { FitsLocal worker.old.phase worker.old.token }
     requires awaits { partner worker.old.job.peer (phase_as worker.old.phase) ≡ Some peer }
     requires told { input.now.taken ≡ Taken.Nothing → ⊥ }
-    ensures does { IfOk result (λ out. (x : Sight) (rows : Rows) (p : List ℕ → Bool) (f : Option FrameView) → x.time ≡ input.now.time → Fed x worker.old.slot peer f input.now.taken
-        → Does x rows rows p worker.old worker.new f (step_of (Some peer) f) out) }
+    ensures does { IfOk result (TakesFed input.now.time peer input.now.taken worker.old worker.new) }
+    ensures word { IfOk result (λ out. KeepsWord input.now.taken input.now.word worker.old worker.new) }
     ensures talks { IfOk result (Talks worker.old worker.new) }
     ensures err { OnErr result (worker.new ≡ worker.old) }
 {
@@ -60,7 +53,8 @@ fn take_message(
     requires local { drop_side worker.old.job.kind worker.old.job.peer ≡ sides.Local }
     requires fits { FitsLocal worker.old.phase worker.old.token }
     requires awaits { partner worker.old.job.peer (phase_as worker.old.phase) ≡ Some peer }
-    ensures does { IfOk result (λ out. Takes time peer message.now worker.old worker.new out) }
+    ensures does { IfOk result (Takes time peer message.now worker.old worker.new) }
+    ensures word { IfOk result (λ out. KeepsWord (Taken.Message message.now) word worker.old worker.new) }
     ensures talks { IfOk result (Talks worker.old worker.new) }
     ensures err { OnErr result (worker.new ≡ worker.old) }
 {
@@ -86,7 +80,7 @@ fn take_lock(
 ) -> Result<Output, NoMemory>
     requires local { drop_side worker.old.job.kind worker.old.job.peer ≡ sides.Local }
     requires at { worker.old.phase ≡ Phase.AsksLock peer since }
-    ensures does { IfOk result (λ out. Takes time peer message.now worker.old worker.new out) }
+    ensures does { IfOk result (Takes time peer message.now worker.old worker.new) }
     ensures talks { IfOk result (Talks worker.old worker.new) }
     ensures err { OnErr result (worker.new ≡ worker.old) }
 {
@@ -118,7 +112,8 @@ fn take_look(
 ) -> Result<Output, NoMemory>
     requires local { drop_side worker.old.job.kind worker.old.job.peer ≡ sides.Local }
     requires at { worker.old.phase ≡ Phase.AsksLook peer }
-    ensures does { IfOk result (λ out. Takes time peer message.now worker.old worker.new out) }
+    ensures does { IfOk result (Takes time peer message.now worker.old worker.new) }
+    ensures word { IfOk result (λ out. KeepsWord (Taken.Message message.now) word worker.old worker.new) }
     ensures talks { IfOk result (Talks worker.old worker.new) }
     ensures err { OnErr result (worker.new ≡ worker.old) }
 {
@@ -145,7 +140,7 @@ fn take_opened(
 ) -> Result<Output, NoMemory>
     requires local { drop_side worker.old.job.kind worker.old.job.peer ≡ sides.Local }
     requires at { worker.old.phase ≡ Phase.Opens peer }
-    ensures does { IfOk result (λ out. Takes time peer message.now worker.old worker.new out) }
+    ensures does { IfOk result (Takes time peer message.now worker.old worker.new) }
     ensures talks { IfOk result (Talks worker.old worker.new) }
     ensures err { OnErr result (worker.new ≡ worker.old) }
 {
@@ -171,7 +166,7 @@ fn take_version(
 ) -> Result<Output, NoMemory>
     requires local { drop_side worker.old.job.kind worker.old.job.peer ≡ sides.Local }
     requires at { worker.old.phase ≡ Phase.Greets peer }
-    ensures does { IfOk result (λ out. Takes time peer message.now worker.old worker.new out) }
+    ensures does { IfOk result (Takes time peer message.now worker.old worker.new) }
     ensures talks { IfOk result (Talks worker.old worker.new) }
     ensures err { OnErr result (worker.new ≡ worker.old) }
 {
@@ -191,7 +186,7 @@ fn greet(
 ) -> Result<Output, NoMemory>
     requires local { drop_side worker.old.job.kind worker.old.job.peer ≡ sides.Local }
     requires at { worker.old.phase ≡ Phase.Greets peer }
-    ensures does { IfOk result (λ out. Takes time peer (Message.Version version) worker.old worker.new out) }
+    ensures does { IfOk result (Takes time peer (Message.Version version) worker.old worker.new) }
     ensures talks { IfOk result (Talks worker.old worker.new) }
     ensures err { OnErr result (worker.new ≡ worker.old) }
 {
@@ -212,8 +207,7 @@ fn greet(
 fn take_other(worker: &mut Worker, alloc: Global, peer: u32) -> Result<Output, NoMemory>
     requires local { drop_side worker.old.job.kind worker.old.job.peer ≡ sides.Local }
     requires awaits { partner worker.old.job.peer (phase_as worker.old.phase) ≡ Some peer }
-    ensures does { IfOk result (λ out. (x : Sight) (rows : Rows) (p : List ℕ → Bool) (f : FrameView) → Comes x worker.old.slot peer f Taken.Other
-        → Does x rows rows p worker.old worker.new (Some f) (λ t. takes_frame t peer f f.body) out) }
+    ensures does { IfOk result (TakesOther peer worker.old worker.new) }
     ensures talks { IfOk result (Talks worker.old worker.new) }
     ensures err { OnErr result (worker.new ≡ worker.old) }
 {
@@ -224,10 +218,8 @@ fn take_other(worker: &mut Worker, alloc: Global, peer: u32) -> Result<Output, N
 fn close(worker: &mut Worker, alloc: Global, peer: u32) -> Result<Output, NoMemory>
     requires local { drop_side worker.old.job.kind worker.old.job.peer ≡ sides.Local }
     requires awaits { partner worker.old.job.peer (phase_as worker.old.phase) ≡ Some peer }
-    ensures does { IfOk result (λ out. (x : Sight) (rows : Rows) (p : List ℕ → Bool) (f : FrameView) → (x.read.repo == peer) ≡ false → takes_at (end_in worker.old.slot peer) f ≡ true → f.body ≡ Closing
-        → Does x rows rows p worker.old worker.new (Some f) (λ t. takes_frame t peer f f.body) out) }
-    ensures here { IfOk result (λ out. (x : Sight) (rows : Rows) (p : List ℕ → Bool) → (x.read.repo == peer) ≡ false → (x.ends (end_in worker.old.slot peer)).opened ≡ false
-        → Does x rows rows p worker.old worker.new None (λ t. jobs.quietly (jobs.talk t) None) out) }
+    ensures does { IfOk result (TakesClose peer worker.old worker.new) }
+    ensures here { IfOk result (FindsClosed peer worker.old worker.new) }
     ensures talks { IfOk result (Talks worker.old worker.new) }
     ensures err { OnErr result (worker.new ≡ worker.old) }
 {
@@ -237,7 +229,7 @@ fn close(worker: &mut Worker, alloc: Global, peer: u32) -> Result<Output, NoMemo
 
 /// What isn't expected closes the connection.
 fn shut(worker: &mut Worker, alloc: Global, peer: u32) -> Result<Output, NoMemory>
-    ensures shuts { IfOk result (λ out. Shuts peer worker.old worker.new out) }
+    ensures shuts { IfOk result (Shuts peer worker.old worker.new) }
     ensures talks { IfOk result (Talks worker.old worker.new) }
     ensures err { OnErr result (worker.new ≡ worker.old) }
 {

@@ -280,7 +280,12 @@ pub(crate) fn ending(number: u32, outcome: Outcome, sends: Vec<Parcel>) -> Outpu
 }
 
 /// A peer is told something.
-pub(crate) fn telling(alloc: Global, number: u32, peer: u32, body: ParcelBody) -> Result<Output, NoMemory>
+pub(crate) fn telling(
+    alloc: Global,
+    number: u32,
+    peer: u32,
+    body: ParcelBody,
+) -> Result<Output, NoMemory>
     ensures { IfOk result (λ out. (out.kind ≡ EntryKind.Talk (Some number)) × (out.sends.items ≡ record { peer = peer; body = body } ∷ []) × (out.ended ≡ false)) }
 {
     let mut sends = Vec::new(alloc);

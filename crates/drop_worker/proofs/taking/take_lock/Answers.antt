@@ -17,8 +17,8 @@ returns-in_default c =
     let w = c.args.worker.now in
     record {
       does = if_ok c.shut.result (Shuts c.args.peer w c.shut.new.worker) (Takes c.args.time c.args.peer c.args.message.now w c.shut.new.worker) c.shut.ensures.shuts (λ out is x rows p f time comes.
-        shut_does x rows p w c.shut.new.worker f c.args.peer c.args.message.now w.version out is.kind comes (λ rest. rw c.requires.at refl) (rw c.requires.at refl) c.requires.local is.sends is.next
-        (λ rest. rw c.requires.at (sym (lock_else (turn_in x rows p None rest w) f c.args.peer c.args.peer c.args.since c.args.message.now c.in_default.not-Success c.in_default.not-Failure))));
+          shut_does x rows p w c.shut.new.worker f c.args.peer c.args.message.now w.version out is.kind comes (λ rest. rw c.requires.at refl) (rw c.requires.at refl) c.requires.local is.sends is.next
+          (λ rest. rw c.requires.at (sym (lock_else (turn_in x rows p None rest w) f c.args.peer c.args.peer c.args.since c.args.message.now c.in_default.not-Success c.in_default.not-Failure))));
       talks = c.shut.ensures.talks;
       err = c.shut.ensures.err;
     }

@@ -14,8 +14,8 @@ ghost use Rattle.node_model.specs.JobStep.{turn_of};
 ghost use Rattle.node_model.specs.Turns.{needs};
 ghost use Rattle.content_lock.specs.Rows.{AreAfter, Rows, bar_at};
 ghost use Rattle.drop_worker.specs.Working.{failed_in, phase_as, present_in, sight};
-ghost use Rattle.drop_worker.specs.Doing.{Does, HasToken, OthersStay, contents_after, is_barring};
-ghost use Rattle.drop_worker.specs.Feeding.{FedAt, FitsLocal, ToldAt, step_of};
+ghost use Rattle.drop_worker.specs.Doing.{Does, Grows, HasToken, OthersStay, contents_after, is_barring};
+ghost use Rattle.drop_worker.specs.Feeding.{FedAt, FitsLocal, KeepsWord, ToldAt, step_of};
 ghost use Rattle.drop_worker.specs.States.{IsSight, Keeps, Sees, StepsSo};
 
 use crate::here::Here;
@@ -48,6 +48,8 @@ pub fn step<K: Keeper, H: Here>(
     ensures step { IfOk result (λ out. ForSome (K.contents keeper.old) (λ c. (s : SetUp) (st : State) (k : Look) (v : Work) (f : Option FrameView)
         → Sees (sight (H.reading here.now) (H.ends here.now) input.now.time input.now.number) table.old c worker.old input.now.taken (failed_in out.kind) s st k v f
         → StepsSo (sight (H.reading here.now) (H.ends here.now) input.now.time input.now.number) worker.old worker.new out s st k v f)) }
+    ensures word { IfOk result (λ out. KeepsWord input.now.taken input.now.word worker.old worker.new) }
+    ensures heard { Grows worker.old.heard worker.new.heard }
     ensures after { IfOk result (λ out. AreAfter out.kind table.old table.new) }
     ensures contents { IfOk result (λ out. K.contents keeper.new ≡ contents_after (K.contents keeper.old) out.kind) }
     ensures owns { HasToken worker.new.number worker.new.job.key worker.new.token table.new }
@@ -79,6 +81,8 @@ fn advance<K: Keeper, H: Here>(
     ensures does { IfOk result (λ out. ForSome (K.contents keeper.old) (λ c. (f : Option FrameView)
         → FedAt (sight (H.reading here.now) (H.ends here.now) input.now.time input.now.number) worker.old.slot (partner worker.old.job.peer (phase_as worker.old.phase)) f input.now.taken
         → Does (sight (H.reading here.now) (H.ends here.now) input.now.time input.now.number) table.old table.new (present_in c) worker.old worker.new f (step_of (partner worker.old.job.peer (phase_as worker.old.phase)) f) out)) }
+    ensures word { IfOk result (λ out. KeepsWord input.now.taken input.now.word worker.old worker.new) }
+    ensures heard { Grows worker.old.heard worker.new.heard }
     ensures after { IfOk result (λ out. AreAfter out.kind table.old table.new) }
     ensures contents { IfOk result (λ out. K.contents keeper.new ≡ contents_after (K.contents keeper.old) out.kind) }
     ensures owns { HasToken worker.new.number worker.new.job.key worker.new.token table.new }

@@ -1,0 +1,13 @@
+-- What it states.
+use Rattle.std.proofs.Common.{sym, ap, ◌∙◌, []}
+use Rattle.drop_proof.specs.declared.rule.Side.TheVariants.{Local}
+use Rattle.drop_worker.specs.Judging.{gathered}
+use Rattle.drop_worker.proofs.Judged.{end_dropped}
+use Rattle.drop_worker.proofs.local.drop_done.Goals as goal
+
+pub returns-clause-does : goal.returns-clause-does
+returns-clause-does g c =
+    let r = g.H.Here.reading c.args.here.now in
+    let w = c.args.worker.now in
+    end_dropped r (g.H.Here.ends c.args.here.now) c.args.table.now c.finish.new.table w c.finish.new.worker c.finish.result c.deref-2.result.now c.in_ok-proof.proof c.requires.side c.requires.at
+    (c.deref-2.ensures.value ∙ (c.in_ok-items.ensures.known ∙ ap (λ l. gathered Local r w l []) (c.deref.ensures.value ∙ c.in_ok-candidates.ensures.all))) c.in_ok-proof.ensures c.finish.ensures.does
