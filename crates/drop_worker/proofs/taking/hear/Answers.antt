@@ -12,8 +12,8 @@ returns-in-Message-clause-does c =
     let w' = c.take_message.new.worker in
     let taken = c.args.input.now.taken in
     let time = c.args.input.now.time in
-    if_ok c.take_message.result (Takes time c.args.peer c.in-Message.message.now w w') (TakesFed time c.args.peer taken w w') c.take_message.ensures.does
-    (λ out takes. fed_message time c.args.peer c.in-Message.message.now w w' out taken c.in-Message.is takes)
+    if_ok c.take_message.result (Takes time c.args.peer c.in-Message.message w w') (TakesFed time c.args.peer taken w w') c.take_message.ensures.does
+    (λ out takes. fed_message time c.args.peer c.in-Message.message w w' out taken c.in-Message.is takes)
 
 pub returns-in-Other-clause-does : goal.returns-in-Other-clause-does
 returns-in-Other-clause-does c =
