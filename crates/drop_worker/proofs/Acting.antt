@@ -14,7 +14,7 @@ use Rattle.node_model.specs.Evidence.{failures, proof_of}
 use Rattle.node_model.specs.Jobs as Jobs
 use Rattle.node_model.specs.Jobs.{Drops, drop_side}
 use Rattle.node_model.specs.JobStep.{Turn, ends}
-use Rattle.node_model.specs.DropStep.{first_drop, first_local, lacking, removed}
+use Rattle.node_model.specs.DropStep.{first_drop, first_local, lacking, removal_outcome}
 use Rattle.node_model.specs.Knows.{Reading}
 use Rattle.node_model.specs.Look.{Made}
 use Rattle.node_model.specs.Turns.{goes, next_step, outcome_of}

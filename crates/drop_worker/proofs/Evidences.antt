@@ -17,10 +17,10 @@ use Rattle.run_data.specs.declared.job.Outcome.TheVariants.{Dropped, Refused}
 use Rattle.run_data.specs.declared.job.DropRefusal.TheVariants as refusals
 use Rattle.run_data.specs.declared.job.Proof.{Proof}
 use Rattle.node_model.specs.Evidence as drops
-use Rattle.node_model.specs.Evidence.{Offer, Gives, Fails, candidates, failures, gather, proof_of, reached}
+use Rattle.node_model.specs.Evidence.{Offer, Gives, Fails, candidates, failures, gather, proof_of, reached_candidates}
 use Rattle.node_model.specs.Jobs.{drop_side, target_of}
 use Rattle.node_model.specs.JobStep.{Turn}
-use Rattle.node_model.specs.DropStep.{lacking, removed}
+use Rattle.node_model.specs.DropStep.{lacking, removal_outcome}
 use Rattle.node_model.specs.Knows.{Reading, cause_heard, known_by, proof_by}
 use Rattle.content_lock.specs.Rows.{Rows}
 use Rattle.drop_worker.specs.declared.phase.Heard.{Heard}
@@ -84,13 +84,13 @@ module _ (x : Sight) (rows : Rows) (p : List ℕ → Bool) (fails : Option Call)
 
   known : items ≡ known_by x.read (work_of rest w)
   known =
-      is ∙ (λ i. gather (sym local i) x.read.need (offer_of x.read w) (reached (asks_of x.read w) (candidates (sym local i) x.read.count x.read.repo (target_of x.read.repo (work_of rest w)))) [])
+      is ∙ (λ i. gather (sym local i) x.read.need (offer_of x.read w) (reached_candidates (asks_of x.read w) (candidates (sym local i) x.read.count x.read.repo (target_of x.read.repo (work_of rest w)))) [])
 
   proof_is : proof ≡ proof_by x.read (work_of rest w)
   proof_is = proves ∙ ap (proof_of x.read.count x.read.need) known
 
-  pub dropped_is : Dropped proof ≡ removed (drop_side w.job.kind w.job.peer) turn
-  dropped_is = (λ i. Dropped (proof_is i)) ∙ sym (ap (λ (side : Side). removed side turn) local)
+  pub dropped_is : Dropped proof ≡ removal_outcome (drop_side w.job.kind w.job.peer) turn
+  dropped_is = (λ i. Dropped (proof_is i)) ∙ sym (ap (λ (side : Side). removal_outcome side turn) local)
 
   pub lacks_is : (causes : List CandidateCause) → causes ≡ failures (offer_of x.read w) (cause_at x.read w) (others_in x.read) → Refused (refusals.Lacking proof causes) ≡ lacking turn
   lacks_is causes told =

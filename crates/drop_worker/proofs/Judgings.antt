@@ -11,7 +11,7 @@ use Rattle.drop_proof.specs.declared.rule.Side.{Side}
 use Rattle.drop_proof.specs.declared.rule.Need.{Need}
 use Rattle.drop_proof.specs.Judging.{is_enough}
 use Rattle.node_model.specs.Evidence as drops
-use Rattle.node_model.specs.Evidence.{Offer, Gives, Fails, but, gather, pick, reached}
+use Rattle.node_model.specs.Evidence.{Offer, Gives, Fails, but, gather, pick, reached_candidates}
 use Rattle.node_model.specs.Knows.{Reading, heard_offer, is_unasked, offer_by}
 use Rattle.drop_worker.specs.declared.phase.Heard.{Heard}
 use Rattle.drop_worker.specs.declared.phase.Heard.TheVariants as heards

@@ -8,7 +8,7 @@ use Rattle.drop_proof.specs.declared.rule.Judged.{Judged}
 use Rattle.drop_proof.specs.declared.rule.Judged.TheVariants as judgements
 use Rattle.drop_proof.specs.declared.rule.Need.{Need}
 use Rattle.annex_base.specs.declared.kinds.Call.{Call}
-use Rattle.node_model.specs.Evidence.{candidates, gather, reached}
+use Rattle.node_model.specs.Evidence.{candidates, gather, reached_candidates}
 use Rattle.content_lock.specs.Rows.{Rows}
 use Rattle.node_model.specs.Jobs.{Drops, drop_side, side_of, target_of}
 use Rattle.drop_worker.specs.Worker.{Worker}
@@ -16,20 +16,20 @@ use Rattle.drop_worker.specs.Working.{Rest, Sight, turn_in, work_of}
 use Rattle.drop_worker.specs.Doing.{removes_now}
 use Rattle.node_model.specs.Knows.{enough_by, known_by, next_by}
 use Rattle.node_model.specs.JobStep.{Turn, clock_of, ends, locked_peers}
-use Rattle.node_model.specs.DropStep.{expired, first_end, in_time}
+use Rattle.node_model.specs.DropStep.{expiry, first_end, in_time}
 use Rattle.node_model.specs.Turns.{judge_needs, judges, next_needs, next_step}
 use Rattle.drop_worker.specs.declared.judging.Verdict.TheVariants as verdicts
 use Rattle.drop_worker.specs.Judging.{asks_of, gathered, offer_of, needs_by, others_in, step_by}
 
 removes_so : (t : Turn) → side_of t.w ≡ Local → enough_by t.read t.w ≡ true → in_time (clock_of t) (first_end t) ≡ true → step_by verdicts.Removes t ≡ next_step t Drops
 removes_so t side enough soon =
-    sym ((λ i. judges t (enough i) (next_by t.read t.w) (side i)) ∙ ap (λ (b : Bool). if b then removes_now t else ends t None (expired (clock_of t) (first_end t))) soon)
+    sym ((λ i. judges t (enough i) (next_by t.read t.w) (side i)) ∙ ap (λ (b : Bool). if b then removes_now t else ends t None (expiry (clock_of t) (first_end t))) soon)
 
 late_so : (t : Turn) (end clock : ℕ) → side_of t.w ≡ Local → enough_by t.read t.w ≡ true → first_end t ≡ Some end → clock_of t ≡ clock → nat_lt clock end ≡ false
     → step_by (verdicts.Late end clock) t ≡ next_step t Drops
 late_so t end clock side enough first now late =
     sym ((λ i. judges t (enough i) (next_by t.read t.w) (side i))
-    ∙ (ap (λ (b : Bool). if b then removes_now t else ends t None (expired (clock_of t) (first_end t))) ((λ i. in_time (now i) (first i)) ∙ late) ∙ (λ i. ends t None (expired (now i) (first i)))))
+    ∙ (ap (λ (b : Bool). if b then removes_now t else ends t None (expiry (clock_of t) (first_end t))) ((λ i. in_time (now i) (first i)) ∙ late) ∙ (λ i. ends t None (expiry (now i) (first i)))))
 
 asks_so : (t : Turn) (peer : ℕ) → enough_by t.read t.w ≡ false → next_by t.read t.w ≡ Some peer → step_by (verdicts.Asks peer) t ≡ next_step t Drops
 asks_so t peer enough next = sym (λ i. judges t (enough i) (next i) (side_of t.w))
@@ -62,7 +62,7 @@ module _ (x : Sight) (rows : Rows) (p : List ℕ → Bool) (fails : Option Call)
 
   known_is : items ≡ known_by x.read (work_of rest w)
   known_is =
-      is ∙ (λ i. gather (sym local i) x.read.need (offer_of x.read w) (reached (asks_of x.read w) (candidates (sym local i) x.read.count x.read.repo (target_of x.read.repo (work_of rest w)))) [])
+      is ∙ (λ i. gather (sym local i) x.read.need (offer_of x.read w) (reached_candidates (asks_of x.read w) (candidates (sym local i) x.read.count x.read.repo (target_of x.read.repo (work_of rest w)))) [])
 
   next_is : find (asks_of x.read w) (others_in x.read) ≡ next_by x.read (work_of rest w)
   next_is = λ i. find (asks_of x.read w) (candidates (sym local i) x.read.count x.read.repo (target_of x.read.repo (work_of rest w)))

@@ -4,7 +4,7 @@ use Rattle.std.specs.List.{range_with_len}
 use Rattle.drop_proof.specs.declared.evidence.Evidence.{Evidence}
 use Rattle.drop_proof.specs.declared.evidence.Kind.{Kind}
 use Rattle.drop_proof.specs.declared.rule.Side.{Side}
-use Rattle.node_model.specs.Evidence.{Offer, Gives, Fails, but, gather, is_locked, is_recent, is_trusted, reached}
+use Rattle.node_model.specs.Evidence.{Offer, Gives, Fails, but, gather, is_locked, is_recent, is_trusted, reached_candidates}
 use Rattle.node_model.specs.Knows.{Reading, cause_by, is_unasked, offer_by}
 use Rattle.drop_proof.specs.declared.evidence.Kind.TheVariants.{Locked, Recent}
 use Rattle.node_model.specs.Look.{Made}
@@ -42,7 +42,7 @@ abbrev pub others_in : Reading → List ℕ
 others_in r = but r.repo (range_with_len 0 r.count)
 
 abbrev pub gathered : Side → Reading → Worker → List ℕ → List Evidence → List Evidence
-gathered side r w cs items = gather side r.need (offer_of r w) (reached (asks_of r w) cs) items
+gathered side r w cs items = gather side r.need (offer_of r w) (reached_candidates (asks_of r w) cs) items
 
 -- what was heard gives
 abbrev pub offer_heard : (ℕ → ℕ) → Option Heard → Offer

@@ -1,3 +1,4 @@
+-- What the proof of `judging::asks` needs beside the tactics.
 use Rattle.std.proofs.Common.{sym, ap, ◌∙◌}
 use Rattle.drop_worker.specs.Standings.{standing_of}
 use Rattle.drop_worker.specs.Working.{newest_of}

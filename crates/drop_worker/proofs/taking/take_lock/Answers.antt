@@ -1,3 +1,4 @@
+-- What the proof of `taking::take_lock` needs beside the tactics.
 use Rattle.std.proofs.Common.{Some, None, refl, sym, ap, ◌∙◌}
 use Rattle.p2p_wire.specs.declared.message.Message.TheVariants as messages
 use Rattle.drop_worker.specs.Doing.{Shuts, Takes}

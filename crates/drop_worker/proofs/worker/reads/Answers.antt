@@ -1,3 +1,4 @@
+-- What the proof of `worker::reads` needs beside the tactics.
 use Rattle.std.proofs.Common.{arith}
 use Rattle.p2p_wire.specs.declared.message.Message.TheVariants.{CheckPresent, LockContent, Version}
 use Rattle.drop_worker.proofs.worker.reads.Goals as goal

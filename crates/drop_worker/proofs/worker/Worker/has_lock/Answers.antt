@@ -1,3 +1,4 @@
+-- What the proof of `worker::Worker::has_lock` needs beside the tactics.
 use Rattle.std.proofs.Common.{sym, ap, ◌∙◌}
 use Rattle.drop_worker.specs.Working.{is_lock, newest_of}
 use Rattle.drop_worker.proofs.Heards.{lock_same}

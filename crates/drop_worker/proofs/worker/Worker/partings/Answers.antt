@@ -1,3 +1,4 @@
+-- What the proof of `worker::Worker::partings` needs beside the tactics.
 use Rattle.std.proofs.Common.{◌≡◌, sym, ap, ◌∙◌, arith}
 use Rattle.std.specs.List.{range_with_len}
 use Rattle.drop_worker.specs.Working.{frames_of, parting_at}

@@ -1,3 +1,4 @@
+-- What holds at each turn of the loops of `worker::Worker::partings`.
 use Rattle.std.proofs.Common.{◌≡◌, flat_map}
 use Rattle.std.specs.List.{range_with_len}
 use Rattle.node_model.specs.Evidence.{but}
