@@ -6,3 +6,4 @@ pub mod PathLemmas
 pub mod PlaceLemmas
 pub mod SetLemmas
 pub mod ViewLemmas
+pub mod UndoneLemmas
