@@ -5,6 +5,7 @@ Each line gives a size, the median time of the program on a script of that size,
 how much more work the script has, and how much longer it took. Nothing here is a limit, and no figure is a promise.
 """
 
+import itertools
 import pathlib
 import statistics
 import subprocess
@@ -12,10 +13,6 @@ import time
 
 TOP = pathlib.Path(__file__).resolve().parent.parent
 PROGRAM = TOP / "crates" / "annex" / "out" / "annex"
-LOGS = TOP / "crates" / "log_bench" / "out" / "log_bench"
-STORE = TOP / "crates" / "store_bench" / "out" / "store_bench"
-WIRE = TOP / "crates" / "wire_bench" / "out" / "wire_bench"
-EXPRESSIONS = TOP / "crates" / "expr_bench" / "out" / "expr_bench"
 RUNS = 5
 
 
@@ -94,20 +91,57 @@ def run_time(lines):
     return median_time([str(PROGRAM), "run"], script)
 
 
-def log_time(work, number):
-    return median_time([str(LOGS), work, str(number)])
+def bench(name, *words, text=b""):
+    """The median time of the small program of this name, which is built where it is missing."""
+    program = TOP / "crates" / name / "out" / name
+    if not program.exists():
+        subprocess.run(["rt", "run"], cwd=program.parent.parent, stdout=subprocess.DEVNULL, check=True)
+    return median_time([str(program), *map(str, words)], text)
 
 
-def store_time(work, number):
-    return median_time([str(STORE), work, str(number)])
+# A line of each kind: '#' stands for its number, and '%' for that number's rest by 4,095, since the tree has at most 4,096 paths.
+LINES = (
+    ("a comment", "# comment #"),
+    ("a number", "numcopies a 2"),
+    ("a glob", "numcopiesfor a 2 doc/#/*.jpg"),
+    ("a level", "trust a b untrusted"),
+    ("a text", "describe a b the disk of #"),
+    ("an expression", "wanted a b include=*.mp3 and not copies=#"),
+    ("groups", "group a b client archive g#"),
+    ("a group's expression", "groupwanted a client include=#"),
+    ("a line of a log", "log a location WORM--k# 1600000000s 1 10000000-0000-4000-8000-000000000000"),
+    ("a content of a new key", "have a WORM-s3--k# text:abc"),
+    ("a content with its sum", "have a SHA256-s3--ba7816bf8f01cfea414140de5dae2223b00361a396177a9cb410ff61f20015ad text:abc"),
+    ("a part", "part a WORM-s3--k# hex:616263"),
+    ("a content of one byte, repeated", "part a WORM--k# fill:16:7"),
+    ("damage of a content that stands", "damage a WORM-s3--k text:abd"),
+    ("a path and its key", "file doc/% WORM--k#"),
+    ("a content of a path", "add a doc/% text:#"),
+    ("a job of a key", "drop a WORM--k# from b"),
+    ("a job of a path", "get a @x from b"),
+    ("a job that is begun", "begin move a WORM--k# to b"),
+    ("turns", "turn a 3"),
+    ("a merge", "merge a b"),
+    ("a crash", "crash a clock=#"),
+    ("a wait", "wait 1"),
+    ("a fault", "fail a putfile"),
+    ("a block of three lines", "par\ndrop a WORM--k#\nclose a b\nend"),
+    ("a show of a key", "show location a WORM--k#"),
+    ("a show of a path", "show numbers a doc/#"),
+)
 
 
-def wire_time(work, piece, kib):
-    return median_time([str(WIRE), work, str(piece), str(kib)])
-
-
-def expression_time(work, size):
-    return median_time([str(EXPRESSIONS), work, str(size)])
+def script_of(line, size):
+    """A script of at most so many bytes: two repositories, a content and a path, and then lines of this kind."""
+    lines = ["repo %s 00000000-0000-4000-8000-00000000000%s" % (repo, repo) for repo in "ab"]
+    text = "\n".join(lines + ["have a WORM-s3--k text:abc", "file x WORM-s3--k", ""])
+    pieces, length = [text], len(text)
+    for number in itertools.count():
+        piece = line.replace("#", str(number)).replace("%", str(number % 4095)) + "\n"
+        length += len(piece)
+        if length > size:
+            return "".join(pieces).encode()
+        pieces.append(piece)
 
 
 def table(title, rows, timed=run_time):
@@ -142,45 +176,49 @@ def main():
                 "lines, added one by one to %s%s" % (title, drops_title),
                 [(n, n, reads(lines_of(n), count)) for n in (10, 100, 1000, 10000)],
             )
-    if not LOGS.exists():
-        subprocess.run(["rt", "run"], cwd=LOGS.parent.parent, stdout=subprocess.DEVNULL, check=True)
     for work, title in (
         ("sets", "lines, made into a set; half of the number"),
         ("merge", "lines, two sets of half the number merged"),
         ("lines", "lines, added one by one to one file of a branch"),
         ("newest", "lines, merged and their newest entries read"),
     ):
-        table(title, [(n, n, n) for n in (1000, 10000, 100000)], lambda n: log_time(work, n))
+        table(title, [(n, n, n) for n in (1000, 10000, 100000)], lambda n: bench("log_bench", work, n))
     for work, title in (
         ("branch", "location logs, put into a branch"),
         ("settings", "location logs, and the settings of their branch read"),
         ("claims", "location logs, and the claims of one key read"),
     ):
-        table(title, [(n, n, n) for n in (100, 1000, 10000, 30000)], lambda n: log_time(work, n))
-    if not STORE.exists():
-        subprocess.run(["rt", "run"], cwd=STORE.parent.parent, stdout=subprocess.DEVNULL, check=True)
+        table(title, [(n, n, n) for n in (100, 1000, 10000, 30000)], lambda n: bench("log_bench", work, n))
     for work, title in (
         ("copy", "MiB, put into a plain vector in pieces"),
         ("append", "MiB, appended to a part in pieces and committed"),
         ("read", "MiB, appended in pieces, committed and read back in pieces"),
     ):
-        table(title, [(n, n, n) for n in (1, 4, 16, 64)], lambda n: store_time(work, n))
-    if not WIRE.exists():
-        subprocess.run(["rt", "run"], cwd=WIRE.parent.parent, stdout=subprocess.DEVNULL, check=True)
+        table(title, [(n, n, n) for n in (1, 4, 16, 64)], lambda n: bench("store_bench", work, n))
     for work in ("messages", "data"):
         for piece in (1, 100, 32768):
             table(
                 "kibibytes of %s, decoded in pieces of %d bytes" % (work, piece),
                 [(n, n, n) for n in (256, 1024, 4096, 16384)],
-                lambda n: wire_time(work, piece, n),
+                lambda n: bench("wire_bench", work, piece, n),
             )
-    if not EXPRESSIONS.exists():
-        subprocess.run(["rt", "run"], cwd=EXPRESSIONS.parent.parent, stdout=subprocess.DEVNULL, check=True)
     for work, title in (
         ("parse", "bytes of an expression, read 1,000 times"),
         ("eval", "bytes of an expression, read once and judged 1,000 times"),
     ):
-        table(title, [(n, n, n) for n in (10, 100, 1000, 4000)], lambda n: expression_time(work, n))
+        table(title, [(n, n, n) for n in (10, 100, 1000, 4000)], lambda n: bench("expr_bench", work, n))
+    for kind, line in LINES:
+        table(
+            "bytes of a script, read: %s" % kind,
+            [(n, n, script_of(line, n)) for n in (65_536, 131_072, 262_144, 524_288, 1_048_576)],
+            lambda text: bench("script_bench", text=text),
+        )
+    for work, title in (
+        ("rows", "rows of a lock table, each with a hold"),
+        ("check", "rows, and 100,000 looks at another"),
+        ("bar", "rows, and 100,000 bars that are put on another and taken off"),
+    ):
+        table(title, [(n, n, n) for n in (1, 10, 100, 1000, 10000, 100000)], lambda n: bench("lock_bench", work, n))
 
 
 if __name__ == "__main__":

@@ -32,12 +32,16 @@ with_dot (Some word) = dot ∷ word
 abbrev pub extension_of : List ℕ → List ℕ
 extension_of path = with_dot (extension_word path)
 
--- the SHA256E key of a content, with its size
-abbrev pub made_key : List ℕ → List ℕ → Parts
-made_key path bytes = record {
+-- the SHA256E key of a content of this size and this SHA-256 digest
+abbrev pub key_with : List ℕ → ℕ → List ℕ → Parts
+key_with path size digest = record {
   backend = codes "SHA256E";
-  size = Some (length bytes);
+  size = Some size;
   mtime = None;
   chunk = None;
-  name = encode_lower (sha256 bytes) ++ extension_of path;
+  name = encode_lower digest ++ extension_of path;
 }
+
+-- the SHA256E key of a content
+abbrev pub made_key : List ℕ → List ℕ → Parts
+made_key path bytes = key_with path (length bytes) (sha256 bytes)

@@ -14,6 +14,10 @@ use Rattle.key_verify.specs.Digests.{key_method, digest_of}
 abbrev pub sum_of : List ℕ → List ℕ → Sum
 sum_of key bytes = record { size = length bytes; digest = digest_of (key_method key) bytes }
 
+-- the sum of a content whose key is to be made: its size, and its SHA-256 digest
+abbrev pub made_sum : List ℕ → Sum
+made_sum bytes = record { size = length bytes; digest = digest_of methods.Sha256 bytes }
+
 -- the hasher is of this method, and holds these bytes
 abbrev pub Hashes : Hasher → Method → List ℕ → Type 0
 Hashes hashers.SizeOnly methods.SizeOnly bytes = Unit {0}

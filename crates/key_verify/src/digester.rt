@@ -1,6 +1,6 @@
 //! The sum of a content that comes in pieces.
 ghost use Rattle.std.specs.Prelude.{◌≡◌, ◌+◌, ◌<◌, ◌^◌, ◌++◌, List, [], ℕ, length};
-ghost use Rattle.key_verify.specs.Digests.{digest_bytes, digest_of};
+ghost use Rattle.key_verify.specs.Digests.{digest_bytes, digest_of, key_method};
 ghost use Rattle.key_verify.specs.Sums.{HasTaken, Hashes, bytes_taken, sum_of};
 
 use crate::method::{Method, method_of};
@@ -82,6 +82,17 @@ impl Digester {
         Digester {
             size: 0,
             hasher: hasher_of(method_of(key.backend())),
+        }
+    }
+
+    /// A digester for a content whose SHA256E key is to be made, which has taken nothing.
+    pub fn for_made_key() -> Digester
+        ensures taken { (key : List ℕ) → key_method key ≡ Method.Sha256 → HasTaken result key [] }
+        ensures count { bytes_taken result ≡ 0 }
+    {
+        Digester {
+            size: 0,
+            hasher: hasher_of(Method::Sha256),
         }
     }
 

@@ -10,6 +10,6 @@ mod verdict;
 
 pub use digester::{Digest, Digester, Sum};
 pub use laws::{made_keys_match, verdicts_are_matches};
-pub use making::make_key;
+pub use making::{make_key, make_key_of_sum};
 pub use method::Method;
 pub use verdict::{Verdict, judge_sum, matches};

@@ -24,7 +24,9 @@ mod verify;
 use annex_base::crosses;
 pub use command::{BlockLine, BlockLines, Command, NamedKey};
 pub use fault::{Quantity, ScriptFault};
-pub use laws::{first_faults_are_told, right_lines_say_their_commands};
+pub use laws::{
+    first_faults_are_told, later_lines_change_no_fault, right_lines_say_their_commands,
+};
 pub use script::Script;
 
 /// These types go from thread to thread.

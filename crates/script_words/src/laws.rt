@@ -1,6 +1,7 @@
 //! What holds of every line and every word: each law is the contract of a function that does nothing.
-ghost use Rattle.std.specs.Prelude.{◌≡◌, ◌≢◌, ◌<◌, ◌≤◌, ◌^◌, ◌↔◌, ◌++◌, List, [], Some, ℕ, length, codes};
+ghost use Rattle.std.specs.Prelude.{◌≡◌, ◌≢◌, ◌<◌, ◌≤◌, ◌^◌, ◌↔◌, ◌++◌, List, [], Some, ℕ, true, length, codes};
 ghost use Rattle.std.specs.Fmt.{decimal};
+ghost use Rattle.std.specs.Str.{is_utf8};
 ghost use Rattle.script_words.specs.Contents.{content_of, Describes};
 ghost use Rattle.annex_base.specs.declared.kinds.Call.{Call};
 ghost use Rattle.annex_base.specs.declared.kinds.Level.{Level};
@@ -8,7 +9,7 @@ ghost use Rattle.script_words.specs.Fields.{level_word, level_of, call_word, cal
 ghost use Rattle.script_words.specs.Numbers.{number_up_to};
 ghost use Rattle.script_words.specs.Places.{LineWord};
 ghost use Rattle.script_words.specs.declared.words.NextWord.TheVariants.{NoWord, BadWord, Word};
-ghost use Rattle.script_words.specs.Words.{IsAhead, after_spaces, next_word, rest_word, printed_word};
+ghost use Rattle.script_words.specs.Words.{IsAhead, after_spaces, is_break, next_word, rest_word, printed_word};
 ghost use Rattle.script_words.specs.Spelling.{Spells, IsNext, IsBlank};
 
 /// A word is found behind the place from which it is looked for, and within its line.
@@ -28,6 +29,11 @@ pub fn words_are_as_written()
 /// A word of a line is printed as one that says the same, unless it is empty.
 pub fn printed_words_say_the_same()
     ensures { (spelled text : List ℕ) → Spells spelled text → text ≢ [] → Spells (printed_word text) text }
+{}
+
+/// A word of a line, printed before a space or a line's end, is read back as itself.
+pub fn printed_words_are_read_back()
+    ensures { (spelled text rest : List ℕ) → Spells spelled text → text ≢ [] → is_utf8 text ≡ true → is_break rest ≡ true → next_word (printed_word text ++ rest) 0 ≡ Word (record { place = 0; text = text; after = length (printed_word text) }) }
 {}
 
 /// A number up to a bound is read exactly from its decimal text.

@@ -1,3 +1,4 @@
+-- The lemmas of this crate.
 pub mod BranchLemmas
 pub mod DifferenceLemmas
 pub mod LineLemmas

@@ -59,7 +59,8 @@ pub fn branches_are_told_by_their_files()
     ensures { (xs ys : Files) → IsBranch xs → IsBranch ys → ((path : List ℕ) → file_at xs path ≡ file_at ys path) → xs ≡ ys }
 {}
 
-/// A file that is given lines has these, and the others have theirs. Given back what it had, the branch is as before.
+/// A file that is given lines has these, and the others have theirs. Given back what it had, the branch is as before
+/// (git-annex internals: branch files).
 pub fn files_are_changed_alone()
     ensures set { (files : Files) (path : List ℕ) → IsBranch files → IsLineSet (lines_at files path) }
     ensures there { (files : Files) (path : List ℕ) (lines : List (List ℕ)) → file_at (with_file files path lines) path ≡ Some lines }

@@ -1,3 +1,4 @@
+-- What the proof of `branch::take_off` needs beside the tactics.
 use Rattle.std.proofs.Common.{ap, ◌∙◌}
 use Rattle.union_merge.specs.FileView.{files_of}
 use Rattle.union_merge.proofs.UndoneLemmas.{files_of-remove_entry}

@@ -1,3 +1,4 @@
+-- What the proof of `laws::files_are_changed_alone` needs beside the tactics.
 use Rattle.std.proofs.Common.{Some, ap, ◌∙◌}
 use Rattle.union_merge.proofs.BranchLemmas.{file_at-there, lines_at-is_set, lines_at-with_file_other, lines_at-with_file_same, with_file-new}
 use Rattle.union_merge.proofs.UndoneLemmas.{put_back-whole}

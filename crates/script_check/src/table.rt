@@ -1,0 +1,90 @@
+//! A table of texts, and of what each says as a script.
+
+use crate::spelling::{TableFault, spelled};
+use annex_base::NoMemory;
+use script_lang::{Script, ScriptFault};
+use std::alloc::Global;
+
+/// What the text says, by one word: the number of its commands, the line and the byte of its first fault, or the
+/// quantity of which it has too much.
+fn reading(alloc: Global, text: &[u8]) -> Result<String, NoMemory> {
+    let mut word = String::new(alloc);
+    match Script::parse(alloc, text) {
+        Ok(script) => write!(word, "{}", script.lines().len())?,
+        Err(ScriptFault::BadLine { line, byte }) => write!(word, "{line}:{byte}")?,
+        Err(ScriptFault::TooMuch { quantity }) => word.push_str(quantity.name())?,
+        Err(ScriptFault::NoMemory) => return Err(NoMemory),
+    }
+    Ok(word)
+}
+
+/// What stands in front of each text and behind it, and how many texts there were.
+#[derive(Drop)]
+pub struct Table {
+    front: Vec<u8>,
+    back: Vec<u8>,
+    texts: u64,
+    differing: u64,
+}
+
+impl Table {
+    /// A table without lines.
+    pub fn new(alloc: Global) -> Table {
+        Table {
+            front: Vec::new(alloc),
+            back: Vec::new(alloc),
+            texts: 0,
+            differing: 0,
+        }
+    }
+
+    /// Takes a line: `front TEXT`, `back TEXT`, `READING TEXT`, a comment after `# `, or nothing. Where a text is read
+    /// otherwise, it says how.
+    pub fn take_line(&mut self, alloc: Global, line: &str) -> Result<Option<String>, TableFault> {
+        let (word, text) = match line.split_once(' ') {
+            Some(parts) => parts,
+            None => (line, ""),
+        };
+        match word {
+            "" | "#" => Ok(None),
+            "front" => {
+                self.front = spelled(alloc, text)?;
+                Ok(None)
+            }
+            "back" => {
+                self.back = spelled(alloc, text)?;
+                Ok(None)
+            }
+            _ => self.compare(alloc, word, &spelled(alloc, text)?),
+        }
+    }
+
+    /// Reads the text, between what stands around it.
+    fn compare(
+        &mut self,
+        alloc: Global,
+        wanted: &str,
+        text: &[u8],
+    ) -> Result<Option<String>, TableFault> {
+        let mut whole = self.front.clone()?;
+        whole.extend_from_slice(text)?;
+        whole.extend_from_slice(&self.back)?;
+        let found = reading(alloc, &whole)?;
+        self.texts = self.texts.saturating_add(1);
+        if found.as_str() == wanted {
+            return Ok(None);
+        }
+        self.differing = self.differing.saturating_add(1);
+        Ok(Some(found))
+    }
+
+    /// How many texts it has.
+    pub fn texts(&self) -> u64 {
+        self.texts
+    }
+
+    /// How many of them are read otherwise.
+    pub fn differing(&self) -> u64 {
+        self.differing
+    }
+}
