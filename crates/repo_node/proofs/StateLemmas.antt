@@ -18,11 +18,11 @@ use Rattle.node_model.specs.After.{state_after, states}
 use Rattle.node_model.specs.Ends.{End, server_end}
 use Rattle.node_model.specs.Files.{lines_after}
 use Rattle.node_model.specs.Jobs.{Work, works_after}
-use Rattle.node_model.specs.Owed.{Owed, lost, owed_after}
+use Rattle.node_model.specs.Owed.{Owed, owed_without, owed_after}
 use Rattle.node_model.specs.Rows.{bar_after, content_after, holds_after, present_after}
 use Rattle.node_model.specs.SessionStep.{is_filled, session_fills}
 use Rattle.node_model.specs.Sessions.{is_filling as fills_key}
-use Rattle.node_model.specs.SetUp.{SetUp, served}
+use Rattle.node_model.specs.SetUp.{SetUp, served_connections}
 use Rattle.node_model.specs.State.{State}
 use Rattle.repo_node.specs.declared.setup.Setup.{Setup}
 use Rattle.repo_node.specs.Nodes.{Fits, IsState, state_of}
@@ -37,7 +37,7 @@ made time count r kind lines = record { time = time; count = count; repo = Some 
 
 -- ---- an idle repository stays so
 
-lost_none : (call : Call) → lost call Script [] ≡ []
+lost_none : (call : Call) → owed_without call Script [] ≡ []
 lost_none PutFile = refl
 lost_none _ = refl
 
@@ -64,7 +64,7 @@ none_fills st key i (c ∷ cs) =
 
 pub unfilled : (s : SetUp) (st : State) (key : List ℕ) → IsIdle st → is_filled s st key ≡ false
 unfilled s st key i =
-    ap (λ b. b || list_any (λ w. w.fills && bytes_eq w.what.key key) st.works) (none_fills st key i (served s))
+    ap (λ b. b || list_any (λ w. w.fills && bytes_eq w.what.key key) st.works) (none_fills st key i (served_connections s))
     ∙ ap (λ (ws : List Work). list_any (λ w. w.fills && bytes_eq w.what.key key) ws) i.works
 
 -- ---- rows

@@ -1,3 +1,4 @@
+-- The definitions of this crate.
 pub mod Nodes
 pub mod Stored
 pub mod Idle
