@@ -1,3 +1,4 @@
+-- The lemmas of this crate.
 pub mod Conditions
 pub mod DecimalLemmas
 pub mod Functions
@@ -8,5 +9,7 @@ pub mod Numbers
 pub mod Options
 pub mod RepoLemmas
 pub mod Results
+pub mod Rows
 pub mod StampLemmas
 pub mod TextOrder
+pub mod Words

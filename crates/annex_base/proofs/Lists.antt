@@ -1,7 +1,7 @@
 -- The elements of lists.
 use Rattle.std.proofs.Common.{◌≡◌, ◌⊎◌, inl, inr, ℕ, zero, suc, ◌<◌, Bool, true, false, cond, List, [], ◌∷◌, ◌++◌, length, get_or, take, drop, Some, None, refl, sym, ap, subst, ◌∙◌, arith, true≢false}
 use Rattle.std.specs.Prelude.{if◌then◌else◌, filter, map, reverse, slice_get, All, Contains, flat_map}
-use Rattle.std.specs.List.{find, list_all, list_any}
+use Rattle.std.specs.List.{find, list_all, list_any, prefix_len}
 use Rattle.std.proofs.lemmas.Bool.{and_from, and_parts, or_cases, or_left, or_parts, or_right}
 use Rattle.std.proofs.lemmas.List.{reverse-append}
 use Rattle.std.proofs.lemmas.List.Elements.{All-cons, All-head, All-nil, All-tail, Contains-append_right}
@@ -282,3 +282,30 @@ pub slice_get-left : {X : Type 0} (xs ys : List X) (k : ℕ) (x : X) → slice_g
 slice_get-left [] ys k x h = absurd cc
 slice_get-left (y ∷ xs) ys zero x h = h
 slice_get-left (y ∷ xs) ys (suc k) x h = slice_get-left xs ys k x h
+
+-- ---- how far a test passes
+
+-- the front that passes, where what follows doesn't
+pub prefix_len-stops : {X : Type 0} (p : X → Bool) (front : List X) (x : X) (rest : List X) → list_all p front ≡ true → p x ≡ false → prefix_len p (front ++ x ∷ rest) ≡ length front
+prefix_len-stops p [] x rest all stops = rw stops refl
+prefix_len-stops p (y ∷ ys) x rest all stops =
+    let both = and_parts (p y) (list_all p ys) all in rw (both.0, prefix_len-stops p ys x rest both.1 stops) (omega arith)
+
+pub prefix_len-whole : {X : Type 0} (p : X → Bool) (xs : List X) → list_all p xs ≡ true → prefix_len p xs ≡ length xs
+prefix_len-whole p [] all = refl
+prefix_len-whole p (x ∷ xs) all =
+    let both = and_parts (p x) (list_all p xs) all in rw (both.0, prefix_len-whole p xs both.1) (omega arith)
+
+-- ---- two ways to cut one list
+
+pub two_cuts : {X : Type 0} (xs ys front rest : List X) → xs ++ ys ≡ front ++ rest
+    → ((f : List X) × (front ≡ xs ++ f) × (ys ≡ f ++ rest)) ⊎ ((b : List X) × (xs ≡ front ++ b) × (b ++ ys ≡ rest))
+two_cuts [] ys front rest e = inl (front, refl, e)
+two_cuts (x ∷ xs) ys [] rest e = inr (x ∷ xs, refl, e)
+two_cuts {X} (x ∷ xs) ys (f ∷ front) rest e =
+    let head : x ≡ f = cc in
+    let tail : xs ++ ys ≡ front ++ rest = cc in
+    elim (two_cuts xs ys front rest tail) [
+      | inl short ↦ inl (short.0, ap (λ (z : X). z ∷ front) (sym head) ∙ ap (λ (zs : List X). x ∷ zs) short.1, short.2)
+      | inr long ↦ inr (long.0, ap (λ (z : X). z ∷ xs) head ∙ ap (λ (zs : List X). f ∷ zs) long.1, long.2)
+    ]

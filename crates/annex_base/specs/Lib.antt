@@ -1,3 +1,4 @@
+-- The definitions of this crate.
 pub mod ByteOrder
 pub mod Calls
 pub mod Causes

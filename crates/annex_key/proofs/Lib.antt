@@ -1,3 +1,4 @@
+-- The lemmas of this crate.
 pub mod Steps
 pub mod Utf8Lemmas
 pub mod WordLemmas
@@ -10,7 +11,6 @@ pub mod AnswerLemmas
 pub mod FileLemmas
 pub mod FileKeyLemmas
 pub mod ChunkLemmas
-pub mod TreeLemmas
 pub mod TreeLaws
 pub mod IndexLemmas
 pub mod IndexedLemmas

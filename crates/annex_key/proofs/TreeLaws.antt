@@ -23,7 +23,6 @@ use Rattle.std.proofs.lemmas.Option.{none-some, same_Some}
 use Rattle.annex_key.specs.Tree.{Entries, with_key, key_of, paths_of, each_once, distinct_keys}
 use Rattle.annex_base.specs.ByteOrder.{path_cmp}
 use Rattle.annex_key.specs.TreeView.{seen}
-use Rattle.annex_key.proofs.TreeLemmas.{Row}
 
 -- ---- elements
 
@@ -223,6 +222,9 @@ distinct_keys-each es key sorted = (
 )
 
 -- ---- the order of a map
+
+abbrev Row : Type 0
+Row = Vec ℕ Global × List ℕ
 
 below_seen : (path : Vec ℕ Global) (es : List Row) → AllByRecursion (λ q. path_cmp path q ≡ Less) (keys_of es) → AllByRecursion (λ q. text_cmp path.items q ≡ Less) (keys_of (seen es))
 below_seen path [] all = tt

@@ -8,25 +8,19 @@ use Rattle.std.proofs.lemmas.Fmt.{digits_decimal}
 use Rattle.std.proofs.lemmas.Bool.{eqb-true, cases_Bool, and_parts}
 use Rattle.std.proofs.lemmas.Bool.Decides.{nat_tests}
 use Rattle.std.proofs.lemmas.List.{take-append-drop, take_at, drop_at}
-use Rattle.annex_base.proofs.Lists.{list_all_weaker}
+use Rattle.annex_base.proofs.Lists.{list_all_weaker, prefix_len-stops}
 use Rattle.annex_key.specs.KeyText.{is_backend, is_backend_byte, is_upper, dash}
 use Rattle.annex_key.specs.Reading.{begins, has_dashes, is_dash, word_of, after_word}
 
 abbrev no_dash : ℕ → Bool
 no_dash b = not (is_dash b)
 
--- the front that passes, where what follows doesn't
-prefix_of : (p : ℕ → Bool) (front : List ℕ) (b : ℕ) (rest : List ℕ) → list_all p front ≡ true → p b ≡ false → prefix_len p (front ++ b ∷ rest) ≡ length front
-prefix_of p [] b rest all stops = rw stops refl
-prefix_of p (x ∷ xs) b rest all stops =
-    let both = and_parts (p x) (list_all p xs) all in rw (both.0, prefix_of p xs b rest both.1 stops) (omega arith)
-
 pub word_and_rest : (bytes : List ℕ) → bytes ≡ word_of bytes ++ after_word bytes
 word_and_rest bytes = sym (take-append-drop (prefix_len no_dash bytes) bytes)
 
 word_again' : (front rest : List ℕ) → list_all no_dash front ≡ true → (word_of (front ++ dash ∷ rest) ≡ front) × (after_word (front ++ dash ∷ rest) ≡ dash ∷ rest)
 word_again' front rest all =
-    let n : prefix_len no_dash (front ++ dash ∷ rest) ≡ length front = prefix_of no_dash front dash rest all refl in
+    let n : prefix_len no_dash (front ++ dash ∷ rest) ≡ length front = prefix_len-stops no_dash front dash rest all refl in
     (rw n (take_at front (dash ∷ rest) (length front) refl), rw n (drop_at front (dash ∷ rest) (length front) refl))
 
 -- a front without a dash is the word, where a dash follows

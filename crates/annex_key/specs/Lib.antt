@@ -1,3 +1,4 @@
+-- The definitions of this crate.
 pub mod KeyText
 pub mod Reading
 pub mod View

@@ -13,7 +13,7 @@ use Rattle.branch_bundle.specs.Parts.{IsFree, IsCut, counted_file, file_of, fill
 use Rattle.branch_bundle.proofs.FileLemmas.{Lines, empty-is_set, IsFile, Paths}
 use Rattle.annex_base.proofs.TextOrder.{BeforeAll, order_nil, order_cons, order_head, order_tail, BeforeAll-trans}
 use Rattle.branch_bundle.proofs.NumberLemmas.{IsDigit, number_text-one, number_text-more, number_text-first, number_text-digits, number_text-is}
-use Rattle.annex_base.proofs.Lists.{Each-append, Each-left, Each-right}
+use Rattle.annex_base.proofs.Lists.{Each-append, Each-left, Each-right, two_cuts}
 use Rattle.branch_bundle.proofs.TextLemmas.{word, file_text-file_of, file_of-same, cut_same, number_free, word_same}
 use Rattle.branch_bundle.proofs.FillLemmas.{fill-bytes, fill-free, length-fill, before_fill, before_filled, before_none}
 use Rattle.branch_bundle.proofs.EndLemmas.{free_front, text_of-cons, after_set, begins_lines-large}
@@ -224,15 +224,7 @@ path-large m n before text bytes long room begins = elim (cut_or_free newline te
 
 -- of two fronts of a text, one is a front of the other
 fronts : (xs us ys vs : List ℕ) → xs ++ us ≡ ys ++ vs → ((c : List ℕ) × (xs ≡ ys ++ c)) ⊎ ((c : List ℕ) × (ys ≡ xs ++ c))
-fronts [] us ys vs is = inr (ys, refl)
-fronts (x ∷ xs) us [] vs is = inl (x ∷ xs, refl)
-fronts (x ∷ xs) us (y ∷ ys) vs is =
-    let head : x ≡ y = cc in
-    let tail : xs ++ us ≡ ys ++ vs = cc in
-    elim (fronts xs us ys vs tail) [
-      | inl more ↦ inl (more.0, ap (λ (w : ℕ). w ∷ xs) head ∙ ap (λ (w : List ℕ). y ∷ w) more.1)
-      | inr less ↦ inr (less.0, ap (λ (w : ℕ). w ∷ ys) (sym head) ∙ ap (λ (w : List ℕ). x ∷ w) less.1)
-    ]
+fronts xs us ys vs is = elim (two_cuts xs us ys vs is) [ inl less ↦ inr (less.0, less.1) | inr more ↦ inl (more.0, more.1) ]
 
 pub file_word-told : (before text : List ℕ) → ((rest : List ℕ) → text ≡ word ++ rest → ⊥) → BeginsFile before text → (c : List ℕ) × (word ≡ text ++ c)
 file_word-told before text none begins = elim (fronts text begins.rest word (counted_file (length (text_of begins.lines)) begins.path (text_of begins.lines)) (sym begins.spelled)) [

@@ -1,3 +1,4 @@
+-- The lemmas of this crate.
 pub mod BeginLemmas
 pub mod EndLemmas
 pub mod ExactLemmas

@@ -1,6 +1,8 @@
+-- The lemmas of this crate.
 mod BlockerLemmas
 mod IndexedLemmas
 mod NumberedLemmas
 mod RecoveredLemmas
 mod StoredLemmas
 mod TokenLemmas
+mod TurnLemmas

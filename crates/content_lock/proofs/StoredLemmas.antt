@@ -1,21 +1,21 @@
 -- What a store has of the holds, and what the rows have of bars, as they change.
 use Rattle.std.proofs.Common.{◌≡◌, ℕ, ◌<◌, Bool, true, false, not, List, [], ◌∷◌, Option, Some, None, refl, sym, ap, ◌∙◌, subst, arith, cond}
-use Rattle.std.specs.Prelude.{◌==◌, if◌then◌else◌, All, bytes_eq, filter, map, nat_lt}
+use Rattle.std.specs.Prelude.{◌==◌, ◌&&◌, if◌then◌else◌, All, bytes_eq, filter, is_some, length, map, nat_lt}
 use Rattle.std.specs.Map.{lookup}
-use Rattle.std.specs.Option.{option_map}
+use Rattle.std.specs.Option.{ForSome, option_map}
 use Rattle.std.proofs.lemmas.Option.{same_Some}
 use Rattle.annex_base.specs.Lists.{Each}
 use Rattle.annex_base.proofs.Conditions.{bytes_eq-refl, bytes_eq-true}
-use Rattle.annex_base.proofs.Lists.{Each-from_All}
+use Rattle.annex_base.proofs.Lists.{All-from_Each, Each-from_All}
 use Rattle.drop_proof.specs.declared.rule.Need.{Need}
 use Rattle.run_data.specs.declared.entry.By.{By}
 use Rattle.run_data.specs.declared.entry.EntryKind.TheVariants as kinds
 use Rattle.run_data.specs.declared.row.Hold.{Hold}
 use Rattle.node_model.specs.Rows.{restart, same_owner}
 use Rattle.object_store.specs.declared.keeper.HoldRecord.{HoldRecord}
-use Rattle.object_store.specs.Stores.{with_record, without_record}
+use Rattle.object_store.specs.Stores.{Contents, with_at, with_record, without_record}
 use Rattle.content_lock.specs.Rows.{AreAfter, Rows, bar_at}
-use Rattle.content_lock.specs.Stored.{Agrees, AgreesInEnds, AreRecordsOf, Label, label_in, label_of, record_of, with_new}
+use Rattle.content_lock.specs.Stored.{Agrees, AgreesInEnds, AreContentsAfter, AreRecordsOf, Label, label_in, label_of, record_of, with_new, without_content}
 use Rattle.content_lock.specs.Tokens.{BarView, HasBar, HasShare, Owns, ShareView, keep_numbered, others_of}
 use Rattle.content_lock.proofs.TokenLemmas.{given_new, others_own_new, owns_new}
 
@@ -23,6 +23,9 @@ use Rattle.content_lock.proofs.TokenLemmas.{given_new, others_own_new, owns_new}
 
 cons_label : (x y : Label) (xs ys : List Label) → x ∷ xs ≡ y ∷ ys → x ≡ y
 cons_label x y xs ys e = cc
+
+cons_labels : (x y : Label) (xs ys : List Label) → x ∷ xs ≡ y ∷ ys → xs ≡ ys
+cons_labels x y xs ys e = cc
 
 -- a greater number's record stands first
 stands_first : (rs : List HoldRecord) (hs : List Hold) (r : HoldRecord) → AreRecordsOf hs rs → Each (λ h. h.number < r.number) hs → with_record rs r ≡ r ∷ rs
@@ -37,6 +40,17 @@ stands_first (x ∷ xs) (h ∷ hs) r same less =
 pub recorded_new : (known : Option (List HoldRecord)) (hs : List Hold) (r : HoldRecord) → Agrees known hs → All (λ h. h.number < r.number) hs → option_map (λ rs. with_record rs r) known ≡ with_new r known
 recorded_new None hs r agrees less = refl
 recorded_new (Some rs) hs r agrees less = ap (λ (l : List HoldRecord). Some l) (stands_first rs hs r (agrees rs refl) (Each-from_All (λ h. h.number < r.number) hs less))
+
+-- each hold has the number of its record
+numbers_each : (rs : List HoldRecord) (hs : List Hold) (n : ℕ) → AreRecordsOf hs rs → Each (λ r. r.number < n) rs → Each (λ h. h.number < n) hs
+numbers_each rs [] n same less = tt
+numbers_each [] (h ∷ hs) n same less = absurd cc
+numbers_each (x ∷ xs) (h ∷ hs) n same less =
+    let number : x.number ≡ h.number = ap (λ (l : Label). l.0) (cons_label (label_in x) (label_of h) (map label_in xs) (map label_of hs) same) in
+    (subst (λ (m : ℕ). m < n) number less.0, numbers_each xs hs n (cons_labels (label_in x) (label_of h) (map label_in xs) (map label_of hs) same) less.1)
+
+pub numbers_told : (rs : List HoldRecord) (hs : List Hold) (n : ℕ) → AreRecordsOf hs rs → All (λ r. r.number < n) rs → All (λ h. h.number < n) hs
+numbers_told rs hs n same less = All-from_Each (λ h. h.number < n) hs (numbers_each rs hs n same (Each-from_All (λ r. r.number < n) rs less))
 
 filter_over : {X Y : Type 0} (f : X → Y) (p : Y → Bool) (xs : List X) → filter p (map f xs) ≡ map f (filter (λ x. p (f x)) xs)
 filter_over f p [] = refl
@@ -126,3 +140,25 @@ unbar_others old new key job off given other differ has = off other.key ∙ go (
       where
         apart : (a b : ℕ) → a ≡ b → (b == a) ≡ false → ⊥
         apart a b same differs = grind arith
+
+-- ---- contents
+
+pub removed_contents : (known : Option Contents) (key : List ℕ) (by : By) → ForSome known (λ was. ForSome (without_content known key) (AreContentsAfter (kinds.Gone by key) was))
+removed_contents None key by was is now left = absurd cc
+removed_contents (Some contents) key by was is now left =
+    subst (λ (c : Contents). AreContentsAfter (kinds.Gone by key) c now) (same_Some contents was is)
+    (subst (AreContentsAfter (kinds.Gone by key) contents) (same_Some (with_at contents key None) now left)
+    (record {
+      present = λ k. there (bytes_eq key k) (contents k);
+      sizes = λ k. long (bytes_eq key k) (contents k);
+    }))
+  where
+    there : (b : Bool) (c : Option (List ℕ)) → is_some (if b then None else c) ≡ (is_some c && not b)
+    there true None = refl
+    there true (Some bytes) = refl
+    there false None = refl
+    there false (Some bytes) = refl
+
+    long : (b : Bool) (c : Option (List ℕ)) → option_map length (if b then None else c) ≡ (if b then None else option_map length c)
+    long true c = refl
+    long false c = refl

@@ -1,6 +1,8 @@
+-- The definitions of this crate.
 pub mod Blocking
 pub mod Indexed
 pub mod Looks
 pub mod Rows
 pub mod Stored
 pub mod Tokens
+pub mod Turns

@@ -1,9 +1,11 @@
 -- What a store has of a table's rows, where it tells (the project's own).
-use Rattle.std.specs.Prelude.{◌≡◌, ℕ, ◌+◌, Bool, true, List, ◌∷◌, map, Option, None, is_some}
+use Rattle.std.specs.Prelude.{◌≡◌, ℕ, ◌+◌, Bool, true, List, ◌∷◌, length, map, Option, None, is_some}
 use Rattle.std.specs.Option.{ForSome, option_map}
 use Rattle.run_data.specs.declared.entry.By.TheVariants.{Script}
+use Rattle.run_data.specs.declared.entry.EntryKind.{EntryKind}
 use Rattle.run_data.specs.declared.row.Hold.{Hold}
 use Rattle.node_model.specs.Clocks.{hold_time}
+use Rattle.node_model.specs.Rows.{content_after, present_after}
 use Rattle.object_store.specs.declared.keeper.HoldRecord.{HoldRecord}
 use Rattle.object_store.specs.Stores.{Contents, with_at}
 
@@ -14,6 +16,11 @@ HasContent known key here = ForSome known (λ contents. is_some (contents key) �
 -- the contents without that of the key
 abbrev pub without_content : Option Contents → List ℕ → Option Contents
 without_content known key = option_map (λ contents. with_at contents key None) known
+
+-- the contents that are there, and their sizes, are those that an entry of this kind leaves
+pub record AreContentsAfter (kind : EntryKind) (was now : Contents) : Type 0 where
+  pub present : (key : List ℕ) → is_some (now key) ≡ present_after key (is_some (was key)) kind
+  pub sizes : (key : List ℕ) → option_map length (now key) ≡ content_after key (option_map length (was key)) kind
 
 -- the records with a new one, which stands first
 abbrev pub with_new : HoldRecord → Option (List HoldRecord) → Option (List HoldRecord)

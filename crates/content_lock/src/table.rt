@@ -1,8 +1,9 @@
 //! The lock table of a repository.
-ghost use Rattle.std.specs.Prelude.{◌≡◌, ◌≤◌, ◌==◌, ◌+◌, ◌<◌, ◌^◌, ◌||◌, ◌&&◌, not, true, false, None, Some, ℕ, List, [], All, filter, map, if◌then◌else◌, IfOk, IfErr, OnOk, OnErr, IsErrOf, bytes_eq};
+ghost use Rattle.std.specs.Prelude.{◌≡◌, ◌≤◌, ◌==◌, ◌+◌, ◌<◌, ◌^◌, ◌||◌, ◌&&◌, not, true, false, None, Some, ℕ, List, [], All, filter, map, is_err, if◌then◌else◌, IfOk, IfErr, OnOk, OnErr, IsErrOf, bytes_eq};
 ghost use Rattle.std.specs.declared.option.Option.{Option};
 ghost use Rattle.std.specs.Option.{ForSome, option_map};
 ghost use Rattle.annex_base.specs.Causes.{Rose};
+ghost use Rattle.annex_base.specs.declared.kinds.Call.TheVariants as calls;
 ghost use Rattle.annex_base.specs.declared.kinds.Call.TheVariants.{Unhold};
 ghost use Rattle.drop_proof.specs.declared.rule.Need.{Need};
 ghost use Rattle.run_data.specs.declared.entry.By.{By};
@@ -10,11 +11,13 @@ ghost use Rattle.run_data.specs.declared.entry.EntryKind.TheVariants as kinds;
 ghost use Rattle.run_data.specs.declared.row.Hold.{Hold};
 ghost use Rattle.node_model.specs.Clocks.{hold_time};
 ghost use Rattle.node_model.specs.Rows.{blocks, holds_after, is_blocked, same_owner};
+ghost use Rattle.object_store.specs.Calls.{FailsAsTold};
 ghost use Rattle.object_store.specs.Stores.{without_record};
 ghost use Rattle.content_lock.specs.Rows.{AreAfter, bar_at, is_filling};
 ghost use Rattle.content_lock.specs.Stored.{Agrees, AgreesInEnds, AreRecordsOf, HasContent, kept_hold, label_of, ownerless, record_of, with_new, without_content};
 ghost use Rattle.content_lock.specs.Looks.{IsFree, IsOfHold, LooksSo, NotBarred, NotShared, RemovesSo, NotRemoved, IsShareFault, IsRemoveFault};
 ghost use Rattle.content_lock.specs.Tokens.{BarView, HasBar, HasShare, Owns, ShareView, keep_numbered};
+ghost use Rattle.content_lock.specs.Turns.{FailInTurn, bar_failed, hold_turns, recover_failed, removal_turns, share_turns};
 
 use crate::hold::HOLD_TIME;
 use crate::holds::Holds;
@@ -94,6 +97,7 @@ impl LockTable {
         ensures files { K.files keeper.new ≡ K.files keeper.old }
         ensures later { K.faults keeper.old ≤ K.faults keeper.new }
         ensures cause { IsErrOf result RecoverRefused.StoreFault → Rose (K.faults keeper.old) (K.faults keeper.new) }
+        ensures failing { FailsAsTold calls.Holds (K.failing keeper.old) (K.failing keeper.new) (recover_failed result) }
     {
         let records = match keeper.holds() {
             Ok(records) => records,
@@ -128,6 +132,13 @@ impl LockTable {
         }
     }
 
+    /// Whether the key is being filled.
+    pub fn is_filling(&self, key: &Key) -> bool
+        ensures { result ≡ is_filling self.now key.now }
+    {
+        self.fills.contains(key)
+    }
+
     /// Gives the fill back.
     pub fn unfill(&mut self, fill: Fill)
         requires given { is_filling self.old fill ≡ true }
@@ -155,6 +166,7 @@ impl LockTable {
         ensures files { K.files keeper.new ≡ K.files keeper.old }
         ensures later { K.faults keeper.old ≤ K.faults keeper.new }
         ensures cause { OnErr result (Rose (K.faults keeper.old) (K.faults keeper.new)) }
+        ensures failing { FailsAsTold calls.Has (K.failing keeper.old) (K.failing keeper.new) (is_err result) }
     {
         if !keeper.has(key)? {
             return Ok(Look::Absent);
@@ -195,6 +207,7 @@ impl LockTable {
         ensures files { K.files keeper.new ≡ K.files keeper.old }
         ensures later { K.faults keeper.old ≤ K.faults keeper.new }
         ensures cause { IfErr result (λ e. IsShareFault e → Rose (K.faults keeper.old) (K.faults keeper.new)) }
+        ensures failing { FailInTurn (share_turns result) (K.failing keeper.old) (K.failing keeper.new) }
     {
         match self.check(keeper, key) {
             Err(Failed) => return Err(ShareRefused::StoreFault { call: Call::Has }),
@@ -231,6 +244,7 @@ impl LockTable {
         ensures files { K.files keeper.new ≡ K.files keeper.old }
         ensures later { K.faults keeper.old ≤ K.faults keeper.new }
         ensures cause { IfErr result (λ e. IsShareFault e → Rose (K.faults keeper.old) (K.faults keeper.new)) }
+        ensures failing { FailInTurn (hold_turns result) (K.failing keeper.old) (K.failing keeper.new) }
     {
         let hold = Hold {
             number: stored.number,
@@ -270,6 +284,7 @@ impl LockTable {
         ensures files { K.files keeper.new ≡ K.files keeper.old }
         ensures later { K.faults keeper.old ≤ K.faults keeper.new }
         ensures cause { OnErr result (Rose (K.faults keeper.old) (K.faults keeper.new)) }
+        ensures failing { FailsAsTold calls.Unhold (K.failing keeper.old) (K.failing keeper.new) (is_err result) }
     {
         match keeper.remove_hold(share.number) {
             Ok(()) => {
@@ -325,6 +340,7 @@ impl LockTable {
         ensures files { K.files keeper.new ≡ K.files keeper.old }
         ensures later { K.faults keeper.old ≤ K.faults keeper.new }
         ensures cause { IsErrOf result BarRefused.StoreFault → Rose (K.faults keeper.old) (K.faults keeper.new) }
+        ensures failing { FailsAsTold calls.Has (K.failing keeper.old) (K.failing keeper.new) (bar_failed result) }
     {
         match self.check(keeper, key) {
             Err(Failed) => return Err(BarRefused::StoreFault),
@@ -378,6 +394,7 @@ impl LockTable {
         ensures files { K.files keeper.new ≡ K.files keeper.old }
         ensures later { K.faults keeper.old ≤ K.faults keeper.new }
         ensures cause { OnErr result (Rose (K.faults keeper.old) (K.faults keeper.new)) }
+        ensures failing { FailsAsTold calls.Remove (K.failing keeper.old) (K.failing keeper.new) (is_err result) }
     {
         match keeper.remove(&bar.key) {
             Ok(()) => {
@@ -405,6 +422,7 @@ impl LockTable {
         ensures files { K.files keeper.new ≡ K.files keeper.old }
         ensures later { K.faults keeper.old ≤ K.faults keeper.new }
         ensures cause { IfErr result (λ e. IsRemoveFault e → Rose (K.faults keeper.old) (K.faults keeper.new)) }
+        ensures failing { FailInTurn (removal_turns result) (K.failing keeper.old) (K.failing keeper.new) }
     {
         match self.check(keeper, key) {
             Err(Failed) => return Err(RemoveRefused::StoreFault { call: Call::Has }),

@@ -60,8 +60,8 @@ abbrev pub IsFirstEnd : List Evidence → ℕ → Type 0
 IsFirstEnd items end = Contains (ends items) end × All (λ later. end ≤ later) (ends items)
 
 -- what the items come to
-abbrev pub judged : Side → Need → List Evidence → Judged
-judged side need items =
+abbrev pub judgement : Side → Need → List Evidence → Judged
+judgement side need items =
     if is_enough side need items
     then Enough (least_end items)
     else Lacking (length items) (max need.n need.m) (count_by is_full items) (full_needed side need)

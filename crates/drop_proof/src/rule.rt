@@ -1,6 +1,6 @@
 //! Whether what was said is enough to drop a copy.
 ghost use Rattle.std.specs.Prelude.{◌≡◌, ◌<◌, ◌^◌, ◌↔◌, ℕ, List, [], Option, true, false, max, length, count_by};
-ghost use Rattle.drop_proof.specs.Judging.{is_full, is_enough, full_needed, MeetsRule, ends, least_end, IsFirstEnd, judged};
+ghost use Rattle.drop_proof.specs.Judging.{is_full, is_enough, full_needed, MeetsRule, ends, least_end, IsFirstEnd, judgement};
 
 use crate::evidence::Evidence;
 
@@ -41,7 +41,7 @@ pub enum Judged {
 /// project's own). The caller sees to it that it has at most one item for each repository.
 pub fn judge(evidence: &[Evidence], need: Need, side: Side) -> Judged
     requires { length evidence.now < 2 ^ 32 }
-    ensures exact { result ≡ judged side need evidence.now }
+    ensures exact { result ≡ judgement side need evidence.now }
 
     // there is enough exactly where the rule is met
     ensures rule { (result ≡ Judged.Enough (least_end evidence.now)) ↔ MeetsRule side need evidence.now }

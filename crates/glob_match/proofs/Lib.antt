@@ -1,3 +1,4 @@
+-- The lemmas of this crate.
 pub mod MatchLemmas
 pub mod ReadingLemmas
 pub mod SetLemmas

@@ -1,3 +1,4 @@
+-- The definitions of this crate.
 pub mod Digests
 pub mod Sums
 pub mod Matching

@@ -1,3 +1,4 @@
+-- The lemmas of this crate.
 pub mod Taking
 pub mod Order
 pub mod Pairs

@@ -1,3 +1,4 @@
+-- The definitions of this crate.
 pub mod Frames
 pub mod Ends
 pub mod Invariant

@@ -13,8 +13,9 @@ use Rattle.annex_base.proofs.Options.{first_some, where_some}
 use Rattle.annex_base.specs.declared.kinds.Level.TheVariants as levels
 use Rattle.log_lines.specs.declared.entry.Value.{Value}
 use Rattle.log_lines.specs.declared.entry.Value.TheVariants as values
-use Rattle.log_lines.specs.LineText.{space, is_not_space, IsWord, is_group_byte, is_group, IsStatus, level_letter, IsLevelBody, IsTextBody, IsGroupBody, IsNumber}
-use Rattle.log_lines.specs.Reading.{is_space, letter_status, status_of, number_of, letter_level, level_body, text_body, all_groups, groups_after, group_body, group_front}
+use Rattle.annex_base.specs.Lines.{space, is_not_space, is_space}
+use Rattle.log_lines.specs.LineText.{IsWord, is_group_byte, is_group, IsStatus, level_letter, IsLevelBody, IsTextBody, IsGroupBody, IsNumber}
+use Rattle.log_lines.specs.Reading.{letter_status, status_of, number_of, letter_level, level_body, text_body, all_groups, groups_after, group_body, group_front}
 use Rattle.log_lines.proofs.WordLemmas.{word_len, word_len-whole}
 
 -- ---- letters of a location log

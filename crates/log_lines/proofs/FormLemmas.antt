@@ -17,8 +17,9 @@ use Rattle.log_lines.specs.declared.entry.Topic.TheVariants as topics
 use Rattle.log_lines.specs.declared.entry.Value.{Value}
 use Rattle.log_lines.specs.declared.entry.Value.TheVariants as values
 use Rattle.log_lines.specs.declared.entry.Entry.{Entry}
-use Rattle.log_lines.specs.LineText.{space, newline, IsWord, BeginsStamped, IsLineText, IsLocationLine, IsRepoLine, IsLevelBody, IsTextBody, IsGroupLine, Ends, IsGroupTextLine, IsNumberLine, IsStatus, HasForm, IsLine}
-use Rattle.log_lines.specs.Reading.{is_not_newline, first_word, stamp_front, repo_line, status_of, location_of, number_of, copies_of, level_body, trust_of, text_body, text_of, group_body, groups_of, group_front, group_text_of, form_of, is_line_text, entry_of}
+use Rattle.annex_base.specs.Lines.{space, newline, is_not_newline}
+use Rattle.log_lines.specs.LineText.{IsWord, BeginsStamped, IsLineText, IsLocationLine, IsRepoLine, IsLevelBody, IsTextBody, IsGroupLine, Ends, IsGroupTextLine, IsNumberLine, IsStatus, HasForm, IsLine}
+use Rattle.log_lines.specs.Reading.{first_word, stamp_front, repo_line, status_of, location_of, number_of, copies_of, level_body, trust_of, text_body, text_of, group_body, groups_of, group_front, group_text_of, form_of, is_line_text, entry_of}
 use Rattle.log_lines.proofs.WordLemmas.{first_again, first_takes}
 use Rattle.log_lines.proofs.StampLemmas.{front_takes, front_again}
 use Rattle.log_lines.proofs.RepoLemmas.{line_takes, line_again}

@@ -1,3 +1,4 @@
+-- The lemmas of this crate.
 pub mod EqualLemmas
 pub mod StatementLemmas
 pub mod CompactLemmas

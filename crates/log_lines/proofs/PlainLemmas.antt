@@ -11,8 +11,7 @@ use Rattle.std.proofs.lemmas.Str.{IsUtf8-append, IsUtf8-nil, IsUtf8-from_ascii, 
 use Rattle.std.proofs.lemmas.Str.Ascii.{IsAscii-from_all}
 use Rattle.annex_base.specs.StampText.{IsStamp}
 use Rattle.annex_base.proofs.Lists.{list_all_append, list_all_parts}
-use Rattle.log_lines.specs.LineText.{space}
-use Rattle.log_lines.specs.Reading.{is_not_newline}
+use Rattle.annex_base.specs.Lines.{space, is_not_newline}
 use Rattle.log_lines.proofs.StampLemmas.{stamp_all, digits_pass}
 
 pub record Plain (text : List ℕ) : Type 0 where

@@ -16,7 +16,8 @@ use Rattle.annex_base.proofs.StampLemmas.{stamp_takes, stamp_again, digits_below
 use Rattle.annex_base.proofs.Options.{bind_some, map_some, none_by, none_and_some}
 use Rattle.annex_base.proofs.Lists.{list_all_append, list_all_parts}
 use Rattle.annex_base.proofs.Numbers.{fraction_all}
-use Rattle.log_lines.specs.LineText.{space, is_not_space, IsWord, stamp_mark, EndsMarked, BeginsStamped, Ends}
+use Rattle.annex_base.specs.Lines.{space, is_not_space}
+use Rattle.log_lines.specs.LineText.{IsWord, stamp_mark, EndsMarked, BeginsStamped, Ends}
 use Rattle.log_lines.specs.Reading.{first_word, last_word, after_mark, mark_at, end_of, stamp_end, stamp_front}
 use Rattle.log_lines.proofs.WordLemmas.{first_again, first_takes, last_again, last_takes}
 

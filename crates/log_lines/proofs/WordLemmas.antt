@@ -6,29 +6,19 @@ use Rattle.std.proofs.lemmas.Bool.{ltb-true, lt-ltb, le-ltb, eqb-true, cases_Boo
 use Rattle.std.proofs.lemmas.List.{reverse-append, length-reverse, take_at}
 use Rattle.std.proofs.lemmas.List.Sums.{split_at_first, passes_at_first}
 use Rattle.std.proofs.lemmas.Option.{cond_some, same_Some}
-use Rattle.annex_base.proofs.Lists.{list_all_reverse}
+use Rattle.annex_base.proofs.Lists.{list_all_reverse, prefix_len-stops, prefix_len-whole}
 use Rattle.annex_base.proofs.Options.{none_and_some}
-use Rattle.log_lines.specs.LineText.{space, is_not_space, IsWord}
-use Rattle.log_lines.specs.Reading.{is_space, first_word, last_word}
-
--- the front that passes, where what follows doesn't
-prefix_of : (p : ℕ → Bool) (front : List ℕ) (b : ℕ) (rest : List ℕ) → list_all p front ≡ true → p b ≡ false → prefix_len p (front ++ b ∷ rest) ≡ length front
-prefix_of p [] b rest all stops = rw stops refl
-prefix_of p (x ∷ xs) b rest all stops =
-    let both = and_parts (p x) (list_all p xs) all in rw (both.0, prefix_of p xs b rest both.1 stops) (omega arith)
-
-prefix_whole : (p : ℕ → Bool) (front : List ℕ) → list_all p front ≡ true → prefix_len p front ≡ length front
-prefix_whole p [] all = refl
-prefix_whole p (x ∷ xs) all =
-    let both = and_parts (p x) (list_all p xs) all in rw (both.0, prefix_whole p xs both.1) (omega arith)
+use Rattle.annex_base.specs.Lines.{space, is_not_space, is_space}
+use Rattle.log_lines.specs.LineText.{IsWord}
+use Rattle.log_lines.specs.Reading.{first_word, last_word}
 
 -- ---- the first word
 
 pub word_len : (word rest : List ℕ) → IsWord word → position_or_len is_space (word ++ space ∷ rest) ≡ length word
-word_len word rest is = prefix_of is_not_space word space rest is refl
+word_len word rest is = prefix_len-stops is_not_space word space rest is refl
 
 pub word_len-whole : (word : List ℕ) → IsWord word → position_or_len is_space word ≡ length word
-word_len-whole word is = prefix_whole is_not_space word is
+word_len-whole word is = prefix_len-whole is_not_space word is
 
 pub first_again : (word rest : List ℕ) → IsWord word → first_word (word ++ space ∷ rest) ≡ Some (word, rest)
 unfolding first_word
@@ -53,7 +43,7 @@ last_len : (front word : List ℕ) → IsWord word → suffix_len is_not_space (
 last_len front word is =
     let turned : reverse (front ++ space ∷ word) ≡ reverse word ++ space ∷ reverse front =
     reverse-append front (space ∷ word) ∙ ap (λ (l : List ℕ). l ++ reverse front) (reverse-append (space ∷ []) word) ∙ append_one (reverse word) space (reverse front) in
-    rw turned (prefix_of is_not_space (reverse word) space (reverse front) (list_all_reverse is_not_space word is) refl ∙ length-reverse word) where
+    rw turned (prefix_len-stops is_not_space (reverse word) space (reverse front) (list_all_reverse is_not_space word is) refl ∙ length-reverse word) where
       append_one : (xs : List ℕ) (b : ℕ) (ys : List ℕ) → (xs ++ b ∷ []) ++ ys ≡ xs ++ b ∷ ys
       append_one [] b ys = refl
       append_one (x ∷ xs) b ys = ap (λ l. x ∷ l) (append_one xs b ys)
@@ -89,7 +79,7 @@ last_or_none (b ∷ bs) =
 last_none : (line : List ℕ) → IsWord line → last_word line ≡ None
 unfolding last_word
 last_none line is =
-    let whole : suffix_len is_not_space line ≡ length line = prefix_whole is_not_space (reverse line) (list_all_reverse is_not_space line is) ∙ length-reverse line in
+    let whole : suffix_len is_not_space line ≡ length line = prefix_len-whole is_not_space (reverse line) (list_all_reverse is_not_space line is) ∙ length-reverse line in
     rw (whole, le-ltb (length line) (length line) (omega arith)) refl
 
 pub last_takes : (line : List ℕ) (x : List ℕ × List ℕ) → last_word line ≡ Some x → IsWord x.1 × (line ≡ x.0 ++ space ∷ x.1)

@@ -19,7 +19,8 @@ use Rattle.log_lines.specs.declared.entry.Topic.{Topic}
 use Rattle.log_lines.specs.declared.entry.Value.{Value}
 use Rattle.log_lines.specs.declared.entry.Value.TheVariants as values
 use Rattle.log_lines.specs.declared.entry.Entry.{Entry}
-use Rattle.log_lines.specs.LineText.{space, is_not_space, stamp_mark, EndsMarked, BeginsStamped, Ends, IsLocationLine, IsRepoLine, IsLevelBody, IsTextBody, IsGroupBody, IsUngroupedLine, IsGroupLine, IsGroupTextLine, IsNumber, IsNumberLine, IsStatus, HasForm, IsLine, HasLine, topic_text, value_text, spaced_value, stamp_first, stamp_last, location_text, repo_line_text, group_line_text, number_line_text, line_text}
+use Rattle.annex_base.specs.Lines.{space, is_not_space}
+use Rattle.log_lines.specs.LineText.{stamp_mark, EndsMarked, BeginsStamped, Ends, IsLocationLine, IsRepoLine, IsLevelBody, IsTextBody, IsGroupBody, IsUngroupedLine, IsGroupLine, IsGroupTextLine, IsNumber, IsNumberLine, IsStatus, HasForm, IsLine, HasLine, topic_text, value_text, spaced_value, stamp_first, stamp_last, location_text, repo_line_text, group_line_text, number_line_text, line_text}
 use Rattle.log_lines.specs.Reading.{last_word}
 use Rattle.log_lines.proofs.NumberLemmas.{nine_digits_below}
 use Rattle.log_lines.proofs.WordLemmas.{last_again}

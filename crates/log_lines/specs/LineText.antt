@@ -7,6 +7,7 @@ use Rattle.std.specs.List.{AllPass, list_all}
 use Rattle.std.specs.Fmt.{decimal}
 use Rattle.std.specs.Str.{IsUtf8}
 use Rattle.std.specs.Str.Parse.{digits_value}
+use Rattle.annex_base.specs.Lines.{newline, space, is_not_space}
 use Rattle.annex_base.specs.RepoText.{IsId, repo_text}
 use Rattle.annex_base.specs.StampText.{IsStamp, stamp_text}
 use Rattle.annex_base.specs.declared.kinds.Level.{Level}
@@ -19,20 +20,11 @@ use Rattle.log_lines.specs.declared.entry.Value.{Value}
 use Rattle.log_lines.specs.declared.entry.Value.TheVariants as values
 use Rattle.log_lines.specs.declared.entry.Entry.{Entry}
 
-abbrev pub space : ℕ
-space = 32
-
-abbrev pub newline : ℕ
-newline = 10
-
 -- UTF-8 without a newline, of at most 8,192 bytes
 pub record IsLineText (line : List ℕ) : Type 0 where
   pub short : length line ≤ 8192
   pub utf8 : IsUtf8 line
   pub single : ¬ Contains line newline
-
-abbrev pub is_not_space : ℕ → Bool
-is_not_space b = not (b == space)
 
 -- no byte is a space
 abbrev pub IsWord : List ℕ → Type 0

@@ -5,6 +5,7 @@ use Rattle.std.specs.List.{list_all, position_or_len, suffix_len, starts_with, s
 use Rattle.std.specs.Option.{is_some, option_map}
 use Rattle.std.specs.Str.{is_utf8}
 use Rattle.std.specs.Str.Parse.{digits_value}
+use Rattle.annex_base.specs.Lines.{space, is_space, is_not_space, is_not_newline}
 use Rattle.annex_base.specs.OptionSteps.{◌>>=◌}
 use Rattle.annex_base.specs.RepoText.{repo_of}
 use Rattle.annex_base.specs.StampReading.{stamp_of}
@@ -16,13 +17,7 @@ use Rattle.log_lines.specs.declared.entry.Topic.TheVariants as topics
 use Rattle.log_lines.specs.declared.entry.Value.{Value}
 use Rattle.log_lines.specs.declared.entry.Value.TheVariants as values
 use Rattle.log_lines.specs.declared.entry.Entry.{Entry}
-use Rattle.log_lines.specs.LineText.{space, newline, is_not_space, is_group, stamp_mark}
-
-abbrev pub is_space : ℕ → Bool
-is_space b = b == space
-
-abbrev pub is_not_newline : ℕ → Bool
-is_not_newline b = not (b == newline)
+use Rattle.log_lines.specs.LineText.{is_group, stamp_mark}
 
 -- what stands before the first space, and after it
 unfoldable pub first_word : List ℕ → Option (List ℕ × List ℕ)

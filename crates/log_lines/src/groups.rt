@@ -3,7 +3,8 @@
 ghost use Rattle.std.specs.Prelude.{◌≡◌, length, map, IfOk};
 ghost use Rattle.std.specs.List.{list_all, slice_split};
 ghost use Rattle.log_lines.specs.LineText.{is_group_byte, is_group};
-ghost use Rattle.log_lines.specs.Reading.{is_space, all_groups, groups_after, group_body, groups_of};
+ghost use Rattle.annex_base.specs.Lines.{is_space};
+ghost use Rattle.log_lines.specs.Reading.{all_groups, groups_after, group_body, groups_of};
 
 use crate::entry::{Entry, Topic, Value};
 use crate::group_list::GroupList;

@@ -5,7 +5,8 @@ ghost use Rattle.std.specs.List.{list_all};
 ghost use Rattle.std.specs.Str.{is_utf8};
 ghost use Rattle.log_lines.specs.LineText.{IsLine, OneEntry};
 ghost use Rattle.log_lines.specs.declared.entry.Entry.{Entry};
-ghost use Rattle.log_lines.specs.Reading.{is_not_newline, is_line_text, form_of, entry_of};
+ghost use Rattle.annex_base.specs.Lines.{is_not_newline};
+ghost use Rattle.log_lines.specs.Reading.{is_line_text, form_of, entry_of};
 
 use crate::entry::{Entry, LogKind};
 use crate::groups::read_groups;

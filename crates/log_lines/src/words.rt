@@ -3,8 +3,8 @@
 ghost use Rattle.std.specs.Prelude.{◌≡◌, length};
 ghost use Rattle.std.specs.List.{position_or_len, suffix_len};
 ghost use Rattle.std.specs.Option.{option_map};
-ghost use Rattle.log_lines.specs.LineText.{is_not_space};
-ghost use Rattle.log_lines.specs.Reading.{is_space, first_word, last_word};
+ghost use Rattle.annex_base.specs.Lines.{is_not_space, is_space};
+ghost use Rattle.log_lines.specs.Reading.{first_word, last_word};
 
 pub(crate) fn first_len(line: &[u8]) -> usize
     ensures { result ≡ position_or_len is_space line.now }

@@ -2,7 +2,8 @@
 
 ghost use Rattle.std.specs.Prelude.{◌≡◌, ◌≤◌, [], ◌++◌, ◌∷◌, length, flat_map, IfOk, IfSome, IsTrue, OnOk, Some, ◌↔◌};
 ghost use Rattle.annex_base.specs.StampText.{stamp_text};
-ghost use Rattle.log_lines.specs.LineText.{space, IsLine, HasLine, level_letter, topic_text, value_text, is_groups, spaced_value, stamp_first, stamp_last, location_text, repo_line_text, group_line_text, number_line_text, line_text};
+ghost use Rattle.annex_base.specs.Lines.{space};
+ghost use Rattle.log_lines.specs.LineText.{IsLine, HasLine, level_letter, topic_text, value_text, is_groups, spaced_value, stamp_first, stamp_last, location_text, repo_line_text, group_line_text, number_line_text, line_text};
 
 use crate::entry::{Entry, LogKind, Topic, Value};
 use crate::read::read;

@@ -24,7 +24,7 @@ use Rattle.node_model.specs.Jobs.{side_of, Phase, AsksLock, AsksLook, AsksTime, 
 use Rattle.node_model.specs.Look.{Made}
 use Rattle.node_model.specs.Calls.{to_hold}
 use Rattle.node_model.specs.Wanted.{required}
-use Rattle.node_model.specs.Knows.{denial_of, obeyed, causes_by, proof_by, known_by}
+use Rattle.node_model.specs.Knows.{denial_of, obeyed_outcome, causes_by, proof_by, known_by}
 use Rattle.node_model.specs.JobStep.{Turn, hears, wrong, attempts, bar_there, by_me, clock_of, ends, is_there, key_of, me, quietly, says_to, talk}
 use Rattle.node_model.specs.Clocks.{hold_time}
 
@@ -125,23 +125,23 @@ abbrev pub in_time : ℕ → Option ℕ → Bool
 in_time clock None = true
 in_time clock (Some end) = nat_lt clock end
 
-abbrev pub expired : ℕ → Option ℕ → Outcome
-expired clock None = Refused (refusals.Expired 0 clock)
-expired clock (Some end) = Refused (refusals.Expired end clock)
+abbrev pub expiry : ℕ → Option ℕ → Outcome
+expiry clock None = Refused (refusals.Expired 0 clock)
+expiry clock (Some end) = Refused (refusals.Expired end clock)
 
 -- a local drop that knows enough removes the content
 abbrev pub removes : Turn → Made
 removes t = if in_time (clock_of t) (first_end t) then attempts t (calls.Remove ∷ []) None (quietly (Gone (by_me t) (key_of t)) None)
-    else ends t None (expired (clock_of t) (first_end t))
+    else ends t None (expiry (clock_of t) (first_end t))
 
 -- ---- its outcome
 
-abbrev pub removed : Side → Turn → Outcome
-removed Local t = obeyed None (proof_by t.read t.w)
-removed Remote t = obeyed (t.look.words (target t)) (proof_by t.read t.w)
+abbrev pub removal_outcome : Side → Turn → Outcome
+removal_outcome Local t = obeyed_outcome None (proof_by t.read t.w)
+removal_outcome Remote t = obeyed_outcome (t.look.words (target t)) (proof_by t.read t.w)
 
-abbrev pub denied : Turn → Outcome
-denied t = Refused (refusals.Denied (denial_of (t.look.words (target t))))
+abbrev pub denial_outcome : Turn → Outcome
+denial_outcome t = Refused (refusals.Denied (denial_of (t.look.words (target t))))
 
 -- ---- the answers that it takes
 

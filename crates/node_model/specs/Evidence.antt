@@ -25,16 +25,16 @@ pub data Standing : Type 0 where
   Ignored : (cause : Cause) → Standing  -- untrusted or dead
   Asked : Standing
 
-abbrev pub seen : Level → Bool → Standing
-seen levels.Trusted true = Claimed
-seen levels.Trusted false = Asked
-seen levels.Semitrusted claimed = Asked
-seen levels.Untrusted claimed = Ignored cause_untrusted
-seen levels.Dead claimed = Ignored cause_dead
+abbrev pub standing_seen : Level → Bool → Standing
+standing_seen levels.Trusted true = Claimed
+standing_seen levels.Trusted false = Asked
+standing_seen levels.Semitrusted claimed = Asked
+standing_seen levels.Untrusted claimed = Ignored cause_untrusted
+standing_seen levels.Dead claimed = Ignored cause_dead
 
 -- how settings see a repository, for a job on this key
 abbrev pub standing_by : Settings → List ℕ → List ℕ → Standing
-standing_by s key repo = seen (s.level repo) (list_any (λ claimed. bytes_eq claimed repo) (s.claims key))
+standing_by s key repo = standing_seen (s.level repo) (list_any (λ claimed. bytes_eq claimed repo) (s.claims key))
 
 pub data Offer : Type 0 where
   Gives : Kind → Offer
@@ -60,9 +60,9 @@ candidates Local n a target = but a (range_with_len 0 n)
 candidates Remote n a target = a ∷ but target (but a (range_with_len 0 n))
 
 -- the candidates before the first for which the job waits
-abbrev pub reached : (ℕ → Bool) → List ℕ → List ℕ
-reached waits [] = []
-reached waits (c ∷ cs) = if waits c then [] else c ∷ reached waits cs
+abbrev pub reached_candidates : (ℕ → Bool) → List ℕ → List ℕ
+reached_candidates waits [] = []
+reached_candidates waits (c ∷ cs) = if waits c then [] else c ∷ reached_candidates waits cs
 
 -- ---- what a drop's outcome says
 

@@ -21,7 +21,7 @@ use Rattle.run_data.specs.declared.job.TransferRefusal.TheVariants as failures
 use Rattle.run_data.specs.declared.job.DropRefusal.TheVariants as refusals
 use Rattle.node_model.specs.Rows.{is_lost_ordered}
 use Rattle.node_model.specs.Evidence.{Asked}
-use Rattle.node_model.specs.SetUp.{SetUp, served}
+use Rattle.node_model.specs.SetUp.{SetUp, served_connections}
 use Rattle.p2p_wire.specs.declared.message.Message.{Message}
 use Rattle.p2p_wire.specs.declared.message.Message.TheVariants.{AuthSuccess, Version, CheckPresent, LockContent, UnlockContent, RemoveBefore, GetTimestamp, Timestamp, Get, Put, PutFrom, AlreadyHave, Data, Valid, Invalid, Success, Failure, Error}
 use Rattle.p2p_wire.specs.Messages.{order_of, text_of}
@@ -174,7 +174,7 @@ pub record GivesAt (s : SetUp) (st : State) (a : EndName) (asked : Option Messag
 pub record BySession (s : SetUp) (st : State) (k : Look) (m : Made) : Type 0 where
   pub peer : ℕ
   pub slot : ℕ
-  pub serves : Member (peer, slot) (served s)
+  pub serves : Member (peer, slot) (served_connections s)
   pub asked : Option Message
   pub says : List FrameText
   pub frame : TakesAt s st (server_end peer slot) asked says m ⊎ GivesAt s st (server_end peer slot) asked says m

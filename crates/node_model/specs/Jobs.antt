@@ -131,8 +131,8 @@ abbrev pub fails_with : Work → ℕ → SourceCause → Work
 fails_with w peer cause = record w { phase = Next; causes = w.causes ++ record { repo = peer; cause = cause } ∷ [] }
 
 -- the transfer is done: a move begins its drop, any other job ends so
-abbrev pub transferred : Work → Outcome → Work
-transferred w outcome =
+abbrev pub after_transfer : Work → Outcome → Work
+after_transfer w outcome =
     if is_move w.what.kind then record w { part = Drops; phase = Fresh; fills = false }
     else record w { phase = Ends outcome; fills = false }
 
@@ -209,10 +209,10 @@ listens w Orders Success = to_phase w Removed
 listens w Orders Failure = to_phase w Denied
 listens w (Greets peer) (Version n) = to_phase w (Ends (Refused (refusals.OldProtocol n)))
 listens w (GetsData peer start) (Data n) = to_phase w (gets_more peer start start n)
-listens w (PutsOffer peer) AlreadyHave = transferred w (Copied None)
+listens w (PutsOffer peer) AlreadyHave = after_transfer w (Copied None)
 listens w (PutsOffer peer) (Error text) = to_phase w (Ends (TransferRefused failures.Busy))
 listens w (PutsOffer peer) Failure = to_phase w (Ends (TransferRefused failures.Rejected))
-listens w (PutsAnswer peer start) Success = transferred w (Copied (Some start))
+listens w (PutsAnswer peer start) Success = after_transfer w (Copied (Some start))
 listens w (PutsAnswer peer start) Failure = to_phase w (Ends (TransferRefused failures.Rejected))
 listens w phase m = w
 
@@ -237,7 +237,7 @@ pub record Rows : Type 0 where
 
 -- its first step, without a frame: a get found the content, or no peer to ask; a drop has no share of its own
 abbrev pub first_look : ℕ → Work → Part → Bool → Option ℕ → Work
-first_look r w Gets true barred = transferred w (Got None None)
+first_look r w Gets true barred = after_transfer w (Got None None)
 first_look r w Drops false barred = hears w r (Lacks causes.Absent)
 first_look r w Drops true (Some i) = hears w r (Lacks causes.Barred)
 first_look r w part here barred = to_phase w Next
@@ -280,13 +280,13 @@ fault_phase r w Drops Remote Fresh = hears w r (Lacks causes.Fault)
 fault_phase r w part side phase = to_phase w (Ends (stores_fault w.part))
 
 -- the own share couldn't be released: the job ends next, as it would have
-abbrev pub unreleased : Work → ℕ → Phase → Work
-unreleased w time AsksTime = to_phase w (Late time)
-unreleased w time phase = w
+abbrev pub after_failed_release : Work → ℕ → Phase → Work
+after_failed_release w time AsksTime = to_phase w (Late time)
+after_failed_release w time phase = w
 
 abbrev pub fault_of : ℕ → Work → ℕ → Call → Work
 fault_of r w time PutFile = w
-fault_of r w time Unhold = unreleased w time w.phase
+fault_of r w time Unhold = after_failed_release w time w.phase
 fault_of r w time call = fault_phase r w w.part (side_of w) w.phase
 
 -- a get that asks a peer, or finds none to ask, fills the key
@@ -303,16 +303,16 @@ abbrev pub learns : Work → Phase → Option FrameView → Work
 learns w (Greets peer) (Some f) = if option_is w.what.peer peer then record w { version = version_said w.version (line_in f.body) } else w
 learns w phase taken = w
 
-abbrev pub gained : Work → Phase → Work
-gained w (GetsWord peer start size) = transferred w (Got (Some peer) (Some start))
-gained w phase = w
+abbrev pub after_gain : Work → Phase → Work
+after_gain w (GetsWord peer start size) = after_transfer w (Got (Some peer) (Some start))
+after_gain w phase = w
 
 abbrev pub work_kind : Rows → ℕ → Work → Entry → EntryKind → Work
 work_kind rows r w e (Fault call owner) = fault_of r w e.time call
 work_kind rows r w e (Bar job need key) = to_phase w Next
 work_kind rows r w e (Share hold end owner key) = hears w r (Held e.time)
 work_kind rows r w e (Gone source key) = to_phase w Removed
-work_kind rows r w e (Gain source size key) = gained w w.phase
+work_kind rows r w e (Gain source size key) = after_gain w w.phase
 work_kind rows r w e kind = talks_on rows r (learns (claims w w.part w.phase) w.phase e.taken) e (partner w.what.peer w.phase)
 
 -- the entry, if it is one of this job, moves it

@@ -16,7 +16,7 @@ use Rattle.run_data.specs.declared.job.Outcome.{Outcome}
 use Rattle.run_data.specs.declared.job.Outcome.TheVariants.{Dropped, DroppedAbsent}
 use Rattle.run_data.specs.declared.job.Proof.{Proof}
 use Rattle.run_data.specs.Repos.{id_of}
-use Rattle.node_model.specs.Evidence.{Standing, Claimed, Ignored, Asked, Offer, Gives, Fails, candidates, failures, gather, proof_of, reached, standing_by}
+use Rattle.node_model.specs.Evidence.{Standing, Claimed, Ignored, Asked, Offer, Gives, Fails, candidates, failures, gather, proof_of, reached_candidates, standing_by}
 use Rattle.node_model.specs.SetUp.{SetUp}
 use Rattle.node_model.specs.Jobs.{Heard, Held, Seen, Lacks, Work, heard_of, side_of, target_of}
 use Rattle.node_model.specs.State.{State}
@@ -72,7 +72,7 @@ abbrev pub candidates_by : Reading → Work → List ℕ
 candidates_by r w = candidates (side_of w) r.count r.repo (target_of r.repo w)
 
 abbrev pub known_by : Reading → Work → List Evidence
-known_by r w = gather (side_of w) r.need (knows_by r w) (reached (asks_by r w) (candidates_by r w)) []
+known_by r w = gather (side_of w) r.need (knows_by r w) (reached_candidates (asks_by r w) (candidates_by r w)) []
 
 abbrev pub enough_by : Reading → Work → Bool
 enough_by r w = is_enough (side_of w) r.need (known_by r w)
@@ -110,6 +110,6 @@ denial_of (Some words.Held) = denials.Held
 denial_of _ = denials.Fault
 
 -- the word beside an obeyed order
-abbrev pub obeyed : Option Word → Proof → Outcome
-obeyed (Some words.Absent) proof = DroppedAbsent proof
-obeyed _ proof = Dropped proof
+abbrev pub obeyed_outcome : Option Word → Proof → Outcome
+obeyed_outcome (Some words.Absent) proof = DroppedAbsent proof
+obeyed_outcome _ proof = Dropped proof

@@ -1,3 +1,4 @@
+-- The definitions of this crate.
 pub mod Clocks
 pub mod Rows
 pub mod Slots

@@ -33,8 +33,8 @@ pub record Owed : Type 0 where
   pub there : Bool
   pub key : List ℕ
 
-abbrev pub owed : By → ℕ → Bool → List ℕ → Owed
-owed by repo there key = record { by = by; repo = repo; there = there; key = key }
+abbrev pub owed_line : By → ℕ → Bool → List ℕ → Owed
+owed_line by repo there key = record { by = by; repo = repo; there = there; key = key }
 
 -- ---- the entry that writes it
 
@@ -76,9 +76,9 @@ pays repos lines clock e file (o ∷ os) =
 
 -- a job's peer answered it that it has the copy, or has removed it
 abbrev pub told_to : Work → Phase → Message → List Owed
-told_to w (PutsOffer peer) AlreadyHave = owed (by_job w.number) peer true w.what.key ∷ []
-told_to w (PutsAnswer peer start) Success = owed (by_job w.number) peer true w.what.key ∷ []
-told_to w Orders Success = map (λ peer. owed (by_job w.number) peer false w.what.key) (option_to_list w.what.peer)
+told_to w (PutsOffer peer) AlreadyHave = owed_line (by_job w.number) peer true w.what.key ∷ []
+told_to w (PutsAnswer peer start) Success = owed_line (by_job w.number) peer true w.what.key ∷ []
+told_to w Orders Success = map (λ peer. owed_line (by_job w.number) peer false w.what.key) (option_to_list w.what.peer)
 told_to w phase m = []
 
 abbrev pub told_line : Work → Option Message → List Owed
@@ -90,21 +90,21 @@ told_frame (Some w) (Some f) = told_line w (line_in f.body)
 told_frame w f = []
 
 -- the copy of r came or went by this
-abbrev pub changed : ℕ → By → Bool → List ℕ → List Owed
-changed r Script there key = []
-changed r by there key = owed by r there key ∷ []
+abbrev pub owed_for : ℕ → By → Bool → List ℕ → List Owed
+owed_for r Script there key = []
+owed_for r by there key = owed_line by r there key ∷ []
 
-abbrev pub lost : Call → By → List Owed → List Owed
-lost PutFile Script os = os
-lost PutFile by os = drop 1 os
-lost call by os = os
+abbrev pub owed_without : Call → By → List Owed → List Owed
+owed_without PutFile Script os = os
+owed_without PutFile by os = drop 1 os
+owed_without call by os = os
 
 -- with the lines of its files, its wall clock at the entry, and its jobs
 abbrev pub owed_after : List RepoView → (List ℕ → List (List ℕ)) → ℕ → List Work → ℕ → List Owed → Entry → EntryKind → List Owed
-owed_after repos lines clock ws r was e (Gain by size key) = was ++ changed r by true key
-owed_after repos lines clock ws r was e (Gone by key) = was ++ changed r by false key
+owed_after repos lines clock ws r was e (Gain by size key) = was ++ owed_for r by true key
+owed_after repos lines clock ws r was e (Gone by key) = was ++ owed_for r by false key
 owed_after repos lines clock ws r was e (Log file) = pays repos lines clock e file was
 owed_after repos lines clock ws r was e (Talk (Some job)) = was ++ told_frame (find (λ w. w.number == job) ws) e.taken
-owed_after repos lines clock ws r was e (Fault call by) = lost call by was
+owed_after repos lines clock ws r was e (Fault call by) = owed_without call by was
 owed_after repos lines clock ws r was e (Crash to) = []
 owed_after repos lines clock ws r was e kind = was

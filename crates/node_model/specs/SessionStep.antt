@@ -15,7 +15,7 @@ use Rattle.run_data.specs.declared.entry.FrameText.TheVariants.{Opening, Closing
 use Rattle.run_data.specs.Repos.{id_of}
 use Rattle.run_data.specs.declared.row.Hold.{Hold}
 use Rattle.node_model.specs.Rows.{is_blocked}
-use Rattle.node_model.specs.SetUp.{SetUp, version_of, gives_locks, served}
+use Rattle.node_model.specs.SetUp.{SetUp, version_of, gives_locks, served_connections}
 use Rattle.p2p_wire.specs.declared.message.Message.{Message}
 use Rattle.p2p_wire.specs.declared.message.Message.TheVariants.{AuthSuccess, Version, CheckPresent, LockContent, UnlockContent, Remove, RemoveBefore, GetTimestamp, Timestamp, Get, Put, PutFrom, AlreadyHave, Data, Valid, Invalid, Success, Failure, Error}
 use Rattle.p2p_wire.specs.Messages.{message_of, text_of}
@@ -34,8 +34,8 @@ pub record Reply : Type 0 where
 abbrev pub reply : EntryKind → Message → Reply
 reply kind m = record { kind = kind; says = Line (text_of m) ∷ [] }
 
-abbrev pub silent : EntryKind → Reply
-silent kind = record { kind = kind; says = [] }
+abbrev pub silent_reply : EntryKind → Reply
+silent_reply kind = record { kind = kind; says = [] }
 
 -- the connection is closed
 abbrev pub shuts : EntryKind → Reply
@@ -118,7 +118,7 @@ session_fills st key a = (st.ends a).opened && is_filling key (st.sessions a).do
 -- a session or a get takes the bytes of the key
 abbrev pub is_filled : SetUp → State → List ℕ → Bool
 is_filled s st key =
-    list_any (λ c. session_fills st key (server_end c.0 c.1)) (served s) || list_any (λ w. w.fills && bytes_eq w.what.key key) st.works
+    list_any (λ c. session_fills st key (server_end c.0 c.1)) (served_connections s) || list_any (λ w. w.fills && bytes_eq w.what.key key) st.works
 
 -- a session of s at an end
 abbrev pub here : SetUp → State → Look → EndName → Here
@@ -144,8 +144,8 @@ abbrev pub close_kind : Here → EntryKind
 close_kind h = Close h.at.peer h.at.slot false
 
 -- anything that isn't expected
-abbrev pub unexpected : Here → Reply
-unexpected h = record { kind = close_kind h; says = Line (text_of (Error (codes "unexpected"))) ∷ Closing ∷ [] }
+abbrev pub unexpected_reply : Here → Reply
+unexpected_reply h = record { kind = close_kind h; says = Line (text_of (Error (codes "unexpected_reply"))) ∷ Closing ∷ [] }
 
 -- one of these calls fails, and this is said; else the reply stands
 abbrev pub tries : Here → List Call → List FrameText → Reply → Reply
@@ -179,17 +179,17 @@ on_request h v (Version n) = reply (Talk None) (Version (min n h.version))
 on_request h v (CheckPresent key) = tries h (calls.Has ∷ []) refuses (check_answer key (is_here h key) (bar_on h key))
 on_request h v (LockContent key) = on_lock h key
 on_request h v (Remove key) = on_remove h key
-on_request h v (RemoveBefore n key) = if nat_le 3 v then on_remove_before h n key else unexpected h
-on_request h v GetTimestamp = if nat_le 3 v then reply (Talk None) (Timestamp (now_of h / 1000)) else unexpected h
+on_request h v (RemoveBefore n key) = if nat_le 3 v then on_remove_before h n key else unexpected_reply h
+on_request h v GetTimestamp = if nat_le 3 v then reply (Talk None) (Timestamp (now_of h / 1000)) else unexpected_reply h
 on_request h v (Get n file key) =
-    if nat_le 1 v then tries h (calls.Size ∷ []) (Closing ∷ []) (reply (Talk None) (Data (bytes_left (content_of h key) n))) else unexpected h
-on_request h v (Put file key) = if nat_le 1 v then on_put h key else unexpected h
-on_request h v m = unexpected h
+    if nat_le 1 v then tries h (calls.Size ∷ []) (Closing ∷ []) (reply (Talk None) (Data (bytes_left (content_of h key) n))) else unexpected_reply h
+on_request h v (Put file key) = if nat_le 1 v then on_put h key else unexpected_reply h
+on_request h v m = unexpected_reply h
 
 -- a locked key is given back
 abbrev pub on_unlock : Here → ℕ → List ℕ → List ℕ → Reply
 on_unlock h hold key k =
-    if bytes_eq k key then tries h (calls.Unhold ∷ []) [] (silent (Release hold key)) else unexpected h
+    if bytes_eq k key then tries h (calls.Unhold ∷ []) [] (silent_reply (Release hold key)) else unexpected_reply h
 
 abbrev pub on_valid : Here → List ℕ → ℕ → Reply
 on_valid h key size = tries h (to_commit h.right) refuses (valid_answer (by_of h) size key h.right)
@@ -198,26 +198,26 @@ abbrev pub on_message : Here → ℕ → Doing → Message → Reply
 on_message h v doing (Error text) = shuts (close_kind h)
 on_message h v Waits m = on_request h v m
 on_message h v (Guards hold key) (UnlockContent k) = on_unlock h hold key k
-on_message h v Gave Success = silent (Talk None)
-on_message h v Gave Failure = silent (Talk None)
-on_message h v (Wants key size) (Data n) = silent (Talk None)
+on_message h v Gave Success = silent_reply (Talk None)
+on_message h v Gave Failure = silent_reply (Talk None)
+on_message h v (Wants key size) (Data n) = silent_reply (Talk None)
 on_message h v (Took key size) Valid = on_valid h key size
 on_message h v (Took key size) Invalid = reply (Talk None) Failure
-on_message h v doing m = unexpected h
+on_message h v doing m = unexpected_reply h
 
 -- a piece of a content, no longer than what is left
 abbrev pub on_bytes : Here → ℕ → Doing → Reply
 on_bytes h n (Takes key size left) =
-    if nat_lt 0 n && nat_le n left then tries h (calls.Append ∷ []) (Closing ∷ []) (silent (Talk None)) else unexpected h
-on_bytes h n doing = unexpected h
+    if nat_lt 0 n && nat_le n left then tries h (calls.Append ∷ []) (Closing ∷ []) (silent_reply (Talk None)) else unexpected_reply h
+on_bytes h n doing = unexpected_reply h
 
 abbrev pub on_text : Here → Session → Option Message → Reply
-on_text h was None = unexpected h
+on_text h was None = unexpected_reply h
 on_text h was (Some m) = on_message h was.version was.doing m
 
 abbrev pub on_frame : Here → Session → FrameText → Reply
 on_frame h was Opening = reply (Talk None) (AuthSuccess h.id)
-on_frame h was Closing = silent (close_kind h)
+on_frame h was Closing = silent_reply (close_kind h)
 on_frame h was (Bytes n) = on_bytes h n was.doing
 on_frame h was (Line text) = on_text h was (message_of text)
 
@@ -253,4 +253,4 @@ session_at s st k a =
 
 -- the first session, in order of client and slot, that has a step
 abbrev pub session_step : SetUp → State → Look → Option Made
-session_step s st k = first_some (λ c. session_at s st k (server_end c.0 c.1)) (served s)
+session_step s st k = first_some (λ c. session_at s st k (server_end c.0 c.1)) (served_connections s)

@@ -34,9 +34,9 @@ abbrev pub line_in : FrameText → Option Message
 line_in (Line text) = message_of text
 line_in _ = None
 
-abbrev pub said : List FrameView → Option Message
-said [] = None
-said (f ∷ fs) = line_in f.body
+abbrev pub message_said : List FrameView → Option Message
+message_said [] = None
+message_said (f ∷ fs) = line_in f.body
 
 -- the content has a byte at this place, or ends there
 abbrev pub reaches : Option ℕ → ℕ → Bool
@@ -59,9 +59,9 @@ abbrev pub wants : List ℕ → Option Message → Doing
 wants key (Some (PutFrom size)) = Wants key size
 wants key _ = Waits
 
-abbrev pub wanted : ℕ → Doing → Doing
-wanted n (Wants key size) = takes_more key size n
-wanted n was = was
+abbrev pub takes_from : ℕ → Doing → Doing
+takes_from n (Wants key size) = takes_more key size n
+takes_from n was = was
 
 -- what it does after it took a message and said another, by an entry of this kind
 abbrev pub doing_after : (List ℕ → Option ℕ) → EntryKind → Doing → Option Message → Message → Doing
@@ -69,7 +69,7 @@ doing_after size kind was told (LockContent key) = guards kind
 doing_after size kind was told (UnlockContent key) = Waits
 doing_after size kind was told (Get n file key) = gives key n (reaches (size key) n) told
 doing_after size kind was told (Put file key) = wants key told
-doing_after size kind was told (Data n) = wanted n was
+doing_after size kind was told (Data n) = takes_from n was
 doing_after size kind was told Valid = Waits
 doing_after size kind was told Invalid = Waits
 doing_after size kind was told Success = Waits
@@ -106,7 +106,7 @@ abbrev pub session_took : (List ℕ → Option ℕ) → EntryKind → Session �
 session_took size kind was sent Opening = was
 session_took size kind was sent Closing = new_session
 session_took size kind was sent (Bytes n) = record was { doing = took_bytes n was.doing }
-session_took size kind was sent (Line text) = took_message size kind was (said sent) (message_of text)
+session_took size kind was sent (Line text) = took_message size kind was (message_said sent) (message_of text)
 
 abbrev pub session_goes : (List ℕ → Option ℕ) → EntryKind → Session → List FrameView → Option FrameView → Session
 session_goes size kind was sent None = sent_more was sent

@@ -35,5 +35,5 @@ abbrev pub slots : List ℕ
 slots = 0 ∷ 1 ∷ 2 ∷ 3 ∷ []
 
 -- the connections of which it is the server, by client and slot
-abbrev pub served : SetUp → List (ℕ × ℕ)
-served s = flat_map (λ peer. map (λ slot. (peer, slot)) slots) (others s)
+abbrev pub served_connections : SetUp → List (ℕ × ℕ)
+served_connections s = flat_map (λ peer. map (λ slot. (peer, slot)) slots) (others s)

@@ -20,7 +20,7 @@ use Rattle.node_model.specs.Jobs.{Work, Part, Gets, Puts, Drops, Phase, Fresh, N
 use Rattle.node_model.specs.Look.{Look, Made, first_some, waiting}
 use Rattle.node_model.specs.Knows.{enough_by, next_by}
 use Rattle.node_model.specs.JobStep.{Turn, hears, attempts, clock_of, end_needs, end_with, ends, is_there, key_of, locked_peers, quietly, says_to, talk, turn_of, wrong}
-use Rattle.node_model.specs.DropStep.{takes_drop, denied, expired, first_drop, first_end, in_time, lacking, removed, removes, target}
+use Rattle.node_model.specs.DropStep.{takes_drop, denial_outcome, expiry, first_drop, first_end, in_time, lacking, removal_outcome, removes, target}
 use Rattle.node_model.specs.Requests.{asks, goes_to}
 use Rattle.node_model.specs.TransferStep.{takes_get, takes_put, first_get, first_put, next_get, next_source, puts_piece, takes_bytes}
 
@@ -44,9 +44,9 @@ next_step t part = next_get t (next_source t)
 
 -- the outcome of a job that is to end
 abbrev pub outcome_of : Turn → Phase → Outcome
-outcome_of t Removed = removed (side_of t.w) t
-outcome_of t Denied = denied t
-outcome_of t (Late time) = expired (t.clock time) (first_end t)
+outcome_of t Removed = removal_outcome (side_of t.w) t
+outcome_of t Denied = denial_outcome t
+outcome_of t (Late time) = expiry (t.clock time) (first_end t)
 outcome_of t (Ends outcome) = outcome
 outcome_of t phase = TransferRefused failures.Closed
 

@@ -1,3 +1,4 @@
+-- The lemmas of this crate.
 mod BlockLemmas
 mod ByKeyLemmas
 mod RecordLemmas

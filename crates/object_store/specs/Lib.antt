@@ -1,3 +1,4 @@
+-- The definitions of this crate.
 pub mod BlockLists
 pub mod ByKey
 pub mod CallCounts

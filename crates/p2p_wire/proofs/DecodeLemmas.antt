@@ -8,24 +8,10 @@ use Rattle.std.proofs.lemmas.List.{append_assoc, length-append, map-append, take
 use Rattle.annex_base.specs.Lines.{is_newline, newline, IsOneLine}
 use Rattle.annex_base.specs.Lists.{Each, Member}
 use Rattle.annex_base.proofs.Conditions.{if_is}
-use Rattle.annex_base.proofs.Lists.{Each-from_members, Contains-from_Member}
+use Rattle.annex_base.proofs.Lists.{Each-from_members, Contains-from_Member, two_cuts}
 use Rattle.p2p_wire.specs.declared.message.Message.{Message}
 use Rattle.p2p_wire.specs.Messages.{message_of, text_of}
 use Rattle.p2p_wire.specs.Streams.{Decodes, Unread, Says, Gives, Waits, Item, IsItem, Sign, Raw, Event, Fed, Asked, start, told, after, after_told, after_all, answers, past, fed, fed_by, fed_bytes, unread_told, line_told, raw_told, whole_line, line_len, line_of, raw_after, stream_of, signs_of, signs_in}
-
--- ---- two ways to cut one list
-
-seam : (xs ys front rest : List ℕ) → xs ++ ys ≡ front ++ rest
-    → ((f : List ℕ) × (front ≡ xs ++ f) × (ys ≡ f ++ rest)) ⊎ ((b : List ℕ) × (xs ≡ front ++ b) × (b ++ ys ≡ rest))
-seam [] ys front rest e = inl (front, refl, e)
-seam (x ∷ xs) ys [] rest e = inr (x ∷ xs, refl, e)
-seam (x ∷ xs) ys (f ∷ front) rest e =
-    let head : x ≡ f = cc in
-    let tail : xs ++ ys ≡ front ++ rest = cc in
-    elim (seam xs ys front rest tail) [
-      | inl short ↦ inl (short.0, ap (λ (z : ℕ). z ∷ front) (sym head) ∙ ap (λ (zs : List ℕ). x ∷ zs) short.1, short.2)
-      | inr long ↦ inr (long.0, ap (λ (z : ℕ). z ∷ xs) head ∙ ap (λ (zs : List ℕ). f ∷ zs) long.1, long.2)
-    ]
 
 -- ---- the next line
 
@@ -168,7 +154,7 @@ not_nil (x ∷ f) b rest e = cc
 
 at_item : (u : Unread) (i : Item) (rest : List Item) (ys : List ℕ) → Stands u [] (i ∷ rest) ys → Goes u [] (i ∷ rest) ys
 at_item u i rest ys st =
-    elim (seam u.bytes ys (text_of i.message) (newline ∷ (i.raw ++ stream_of rest)) (st.bytes ∙ regroup i rest)) [
+    elim (two_cuts u.bytes ys (text_of i.message) (newline ∷ (i.raw ++ stream_of rest)) (st.bytes ∙ regroup i rest)) [
       | inl short ↦ at_open u i rest ys short.0 st short.1 (λ none. not_nil short.0 newline (i.raw ++ stream_of rest) (sym short.2 ∙ none))
       | inr long ↦ go long.0 long.1 long.2
     ]
@@ -235,7 +221,7 @@ at_raw u r raw items ys st =
     let count : u.left ≡ length (r ∷ raw) = st.left in
     let some : (u.left == 0) ≡ false = rw count (grind (arith, nat_tests)) in
     let is = told_at_raw u st.sound some in
-    elim (seam u.bytes ys (r ∷ raw) (stream_of items) st.bytes) [
+    elim (two_cuts u.bytes ys (r ∷ raw) (stream_of items) st.bytes) [
       | inl short ↦
           let both : length (u.bytes ++ short.0) ≡ length u.bytes + length short.0 = length-append u.bytes short.0 in
           let same : length (r ∷ raw) ≡ length (u.bytes ++ short.0) = ap length short.1 in

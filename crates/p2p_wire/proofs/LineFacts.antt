@@ -15,7 +15,8 @@ use Rattle.annex_base.proofs.RepoLemmas.{repo_takes}
 use Rattle.annex_base.proofs.Options.{map_some, bind_some, where_some}
 use Rattle.p2p_wire.specs.declared.message.Message.{Message}
 use Rattle.p2p_wire.specs.declared.message.Message.TheVariants.{AuthSuccess, Version, CheckPresent, LockContent, UnlockContent, Remove, RemoveBefore, GetTimestamp, Timestamp, Get, Put, PutFrom, AlreadyHave, Data, Valid, Invalid, Success, Failure, Error}
-use Rattle.p2p_wire.specs.Messages.{◌⊳◌, alone, is_space, key_in, message_by, message_of, number_in, rest_in, text_in, text_of, then_in, with_file, with_key, with_number, with_one, word_in}
+use Rattle.annex_base.specs.Lines.{is_space}
+use Rattle.p2p_wire.specs.Messages.{◌⊳◌, alone, key_in, message_by, message_of, number_in, rest_in, text_in, text_of, then_in, with_file, with_key, with_number, with_one, word_in}
 
 -- ---- steps that may fail
 

@@ -3,7 +3,8 @@ ghost use Rattle.std.specs.Prelude.{◌≡◌, ℕ, List, IfOk, bytes_eq};
 ghost use Rattle.std.specs.List.{position_or_len};
 ghost use Rattle.std.specs.Option.{option_map};
 ghost use Rattle.std.specs.Str.{is_utf8};
-ghost use Rattle.p2p_wire.specs.Messages.{is_space, word_in, rest_in, number_in, key_in, text_in, with_number, with_file, then_in, alone, with_one, with_key, message_by, message_of};
+ghost use Rattle.annex_base.specs.Lines.{is_space};
+ghost use Rattle.p2p_wire.specs.Messages.{word_in, rest_in, number_in, key_in, text_in, with_number, with_file, then_in, alone, with_one, with_key, message_by, message_of};
 ghost use Rattle.p2p_wire.specs.declared.message.Message.{Message};
 ghost use Rattle.p2p_wire.specs.declared.message.Message.TheVariants.{Get};
 

@@ -22,7 +22,7 @@ use Rattle.p2p_wire.specs.declared.message.Message.TheVariants.{AlreadyHave, Dat
 use Rattle.p2p_wire.specs.Messages.{message_of}
 use Rattle.node_model.specs.Ends.{end_after}
 use Rattle.node_model.specs.Jobs
-use Rattle.node_model.specs.Jobs.{AsksLock, AsksLook, Drops, Fresh, GetsData, GetsWord, Gets, Greets, Orders, Part, Phase, Puts, PutsAnswer, PutsOffer, Rows, Work, claims, closed_part, fault_of, fault_phase, first_look, gained, hears_frame, job_end, learns, listens, quiet, running, says, says_some, sends, talks, talks_on, target_of, took, took_line, transferred, unreleased, word_taken, work_kind, is_move, side_of, first_part}
+use Rattle.node_model.specs.Jobs.{AsksLock, AsksLook, Drops, Fresh, GetsData, GetsWord, Gets, Greets, Orders, Part, Phase, Puts, PutsAnswer, PutsOffer, Rows, Work, claims, closed_part, fault_of, fault_phase, first_look, after_gain, hears_frame, job_end, learns, listens, quiet, running, says, says_some, sends, talks, talks_on, target_of, took, took_line, after_transfer, after_failed_release, word_taken, work_kind, is_move, side_of, first_part}
 use Rattle.run_model.specs.States.{rows_at, works, state_of}
 use Rattle.annex_base.specs.Lists.{Member}
 use Rattle.annex_base.specs.declared.kinds.Word.{Word}
@@ -43,7 +43,7 @@ use Rattle.race_core.proofs.WorkFits.{step_runs}
 abbrev Turns : Work → Work → Type 0
 Turns w x = (x.part ≡ w.part) ⊎ (is_move w.what.kind ≡ true)
 
-transferred_turns : (w : Work) (o : Outcome) → Turns w (transferred w o)
+transferred_turns : (w : Work) (o : Outcome) → Turns w (after_transfer w o)
 transferred_turns w o = if_either (Turns w) (Jobs.is_move w.what.kind) (record w { part = Drops; phase = Fresh; fills = false }) (record w { phase = Jobs.Ends o; fills = false }) (λ e. inr e) (λ e. inl refl)
 
 closed_turns : (r : ℕ) (w : Work) (peer : ℕ) (part : Part) → Turns w (closed_part r w peer part)
@@ -118,7 +118,7 @@ fault_turns : (r : ℕ) (w : Work) (part : Part) (side : Side) (phase : Phase) �
 fault_turns r w Drops Remote Fresh = inl refl
 fault_turns r w part side phase = inl refl
 
-unreleased_turns : (w : Work) (time : ℕ) (phase : Phase) → Turns w (unreleased w time phase)
+unreleased_turns : (w : Work) (time : ℕ) (phase : Phase) → Turns w (after_failed_release w time phase)
 unreleased_turns w time Jobs.AsksTime = inl refl
 unreleased_turns w time phase = inl refl
 
@@ -127,7 +127,7 @@ call_turns r w time PutFile = inl refl
 call_turns r w time Unhold = unreleased_turns w time w.phase
 call_turns r w time call = fault_turns r w w.part (Jobs.side_of w) w.phase
 
-gained_turns : (w : Work) (phase : Phase) → Turns w (gained w phase)
+gained_turns : (w : Work) (phase : Phase) → Turns w (after_gain w phase)
 gained_turns w (GetsWord peer start size) = transferred_turns w (outcomes.Got (Some peer) (Some start))
 gained_turns w phase = inl refl
 

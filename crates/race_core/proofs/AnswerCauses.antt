@@ -5,6 +5,7 @@ use Rattle.std.specs.List.{list_any}
 use Rattle.std.proofs.lemmas.Bool.{and_parts}
 use Rattle.annex_base.specs.declared.kinds.Found.TheVariants as found
 use Rattle.annex_base.specs.declared.kinds.Word.{Word}
+use Rattle.race_core.proofs.Below.{SentAreRead}
 use Rattle.run_data.specs.declared.entry.Entry.{Entry}
 use Rattle.run_data.specs.declared.entry.EntryKind.{EntryKind}
 use Rattle.run_data.specs.declared.entry.EntryKind.TheVariants.{Check, Fault, End as ends_job}
@@ -17,9 +18,9 @@ use Rattle.run_model.specs.Past.{Occurs, is_of}
 use Rattle.p2p_wire.specs.declared.message.Message.TheVariants.{Failure, Put, Remove, RemoveBefore, Valid}
 use Rattle.p2p_wire.specs.Messages.{order_of}
 use Rattle.run_model.specs.Said.{Said, Says, message_in}
-use Rattle.run_model.specs.Frames.{Flying, is_job, last_request, said_of, sent, sent_of, taken, up_of, way_of}
+use Rattle.run_model.specs.Frames.{Flying, is_job, last_request, said_of, frames_sent, sent_of, taken_count, up_of, way_of}
 use Rattle.run_model.specs.Causes.{Answers, FillsByPut, FoundFilled, Hears, SentBy, WasBusy, WasDenied, WasRejected, denied_by, rejects}
-use Rattle.node_model.specs.SetUp.{SetUp, served}
+use Rattle.node_model.specs.SetUp.{SetUp, served_connections}
 use Rattle.run_model.specs.States.{state_of, works}
 use Rattle.node_model.specs.Ends.{server_end}
 use Rattle.run_model.specs.Words.{word_of, word_of_kind, word_told}
@@ -52,7 +53,7 @@ FailsFor asked kind = Unit {0}
 
 abbrev pub FailuresFit : List Entry → Type 0
 FailuresFit past = (r : ℕ) (x : Entry) (before : List Entry) → Occurs past x before → is_of r x ≡ true → (f : FrameView) → x.taken ≡ Some f → f.up ≡ false → message_in f.body ≡ Says Failure
-    → (asked it : Flying) → last_request before (up_of (way_of r f)) ≡ Some asked → slice_get (sent before (way_of r f)) (taken before (way_of r f)) ≡ Some it → FailsFor (said_of asked) it.entry.kind
+    → (asked it : Flying) → last_request before (up_of (way_of r f)) ≡ Some asked → slice_get (frames_sent before (way_of r f)) (taken_count before (way_of r f)) ≡ Some it → FailsFor (said_of asked) it.entry.kind
 
 -- **what is left of a get's Busy**: a session that takes the bytes of a key has taken PUT of it, and nothing that wants an answer since
 abbrev pub SessionsFill : SetUp → List Entry → Type 0
@@ -77,22 +78,22 @@ order_fails (Some n) key kind x = x
 pub own_of : (r j : ℕ) (e : Entry) → is_job r j e ≡ true → is_of r e ≡ true
 own_of r j e h = (and_parts (is_of r e) _ h).0
 
-module _ (s : SetUp) (past : List Entry) (words : ℕ → Option Word) (e : Entry) (h : OwnPast s past) (own : OwnPart s past words e) (j : ℕ) where
+module _ (reads_back : SentAreRead) (s : SetUp) (past : List Entry) (words : ℕ → Option Word) (e : Entry) (h : OwnPast s past) (own : OwnPart s past words e) (j : ℕ) where
   abbrev r : ℕ
   r = s.number
 
   module _ (run : MessagePast s.repos past) where
     -- the frame that is taken was sent
-    flew : (k peer : ℕ) (m : Said) (x : Hears past r k peer m) → (it : Flying) × (slice_get (sent x.before (way_of r x.f)) (taken x.before (way_of r x.f)) ≡ Some it)
+    flew : (k peer : ℕ) (m : Said) (x : Hears past r k peer m) → (it : Flying) × (slice_get (frames_sent x.before (way_of r x.f)) (taken_count x.before (way_of r x.f)) ≡ Some it)
     flew k peer m x =
         let t = (occurs_always (Meets s.repos) past x.entry x.before run x.occurs).frames r x.f (own_of r k x.entry x.own) x.takes_it in
         (t.it, t.next)
 
-    sent_by : (k peer : ℕ) (m : Said) (x : Hears past r k peer m) (it : Flying) → slice_get (sent x.before (way_of r x.f)) (taken x.before (way_of r x.f)) ≡ Some it → SentBy past r k peer m x
+    sent_by : (k peer : ℕ) (m : Said) (x : Hears past r k peer m) (it : Flying) → slice_get (frames_sent x.before (way_of r x.f)) (taken_count x.before (way_of r x.f)) ≡ Some it → SentBy past r k peer m x
     sent_by k peer m x it next = record { s = sent_of it; sent_is = ap (option_map sent_of) next }
 
     module _ (fit : FailuresFit past) where
-      fails : (k peer : ℕ) (asked : Said) (a : Answers past r k peer asked (Says Failure)) (it : Flying) → slice_get (sent a.hears.before (way_of r a.hears.f)) (taken a.hears.before (way_of r a.hears.f)) ≡ Some it → FailsFor asked it.entry.kind
+      fails : (k peer : ℕ) (asked : Said) (a : Answers past r k peer asked (Says Failure)) (it : Flying) → slice_get (frames_sent a.hears.before (way_of r a.hears.f)) (taken_count a.hears.before (way_of r a.hears.f)) ≡ Some it → FailsFor asked it.entry.kind
       fails k peer asked a it next =
           let x = a.hears in
           subst (λ q. FailsFor q it.entry.kind) a.asked_is (fit r x.entry x.before x.occurs (own_of r k x.entry x.own) x.f x.takes_it x.down x.says a.request it a.last next)
@@ -104,7 +105,7 @@ module _ (s : SetUp) (past : List Entry) (words : ℕ → Option Word) (e : Entr
           let z = ending_words s past words e own j (Refused (refusals.Denied answer)) is in
           subst (λ n. WasDenied past r n answer) (sym z.0.number_is) (elim (z.0.why) [
             | inl y ↦ absurd y
-            | inr y ↦ settled z.0 z.1 (drop_settled (turn_at s past e z.0.by) past (refusals.Denied answer) z.0.by.made.taken (stands s past h z.0.by.w z.0.runs) y)
+            | inr y ↦ settled z.0 z.1 (drop_settled (turn_at s past e z.0.by) past (refusals.Denied answer) z.0.by.made.taken (stands reads_back s past h z.0.by.w z.0.runs) y)
           ])
         where
           same_answer : (a b : Denial) → Refused (refusals.Denied a) ≡ Refused (refusals.Denied b) → a ≡ b
@@ -119,7 +120,7 @@ module _ (s : SetUp) (past : List Entry) (words : ℕ → Option Word) (e : Entr
               apart (Some m) c e = cc
           settled x spoke (inr (inl z)) =
               let w = x.by.w in
-              let d : DeniedBy s past (running w) = subst (DeniedAt s past (running w)) z.0 (denied_words s past h w x.runs) in
+              let d : DeniedBy s past (running w) = subst (DeniedAt s past (running w)) z.0 (denied_words reads_back s past h w x.runs) in
               let t = target_in r (running w) in
               let a = d.refused in
               let f = flew w.number t (Says Failure) a.hears in
@@ -142,7 +143,7 @@ module _ (s : SetUp) (past : List Entry) (words : ℕ → Option Word) (e : Entr
           let x = ending s past words e own j (TransferRefused failures.Rejected) is in
           subst (WasRejected past r) (sym x.number_is) (elim (x.why) [
             | inl y ↦ absurd y
-            | inr y ↦ elim (transfer_settled (turn_at s past e x.by) past failures.Rejected x.by.made.taken (stands s past h x.by.w x.runs) y) [ inl z ↦ now x z | inr z ↦ absurd (cc) ]
+            | inr y ↦ elim (transfer_settled (turn_at s past e x.by) past failures.Rejected x.by.made.taken (stands reads_back s past h x.by.w x.runs) y) [ inl z ↦ now x z | inr z ↦ absurd (cc) ]
           ])
         where
           now : (x : Ending s past e j (TransferRefused failures.Rejected)) → TransferStands r past (running x.by.w) failures.Rejected → WasRejected past r x.by.w.number
@@ -173,19 +174,19 @@ module _ (s : SetUp) (past : List Entry) (words : ℕ → Option Word) (e : Entr
         | inl y ↦ inl (record {
           d = job_of s past h w x.runs;
           kind_is = (of_kind s past h.run w x.runs).0 y.0;
-          first = no_step s past h.run w x.runs y.0 y.1;
+          first = no_step reads_back s past h.run w x.runs y.0 y.1;
           absent = y.2;
           filled = filled_by w.what.key y.3;
         })
-        | inr y ↦ elim (transfer_settled (turn_at s past e x.by) past failures.Busy x.by.made.taken (stands s past h w x.runs) y) [
+        | inr y ↦ elim (transfer_settled (turn_at s past e x.by) past failures.Busy x.by.made.taken (stands reads_back s past h w x.runs) y) [
           | inl z ↦ inr (record { d = job_of s past h w x.runs; peer = z.0; peer_is = z.1; file = []; busy = z.2 })
           | inr z ↦ absurd (cc)
         ]
       ])
     where
       filled_by : (key : List ℕ) → is_filled s (state_of s past) key ≡ true → Rattle.run_model.specs.Causes.FillsByGet past r key ⊎ FillsByPut past r key
-      filled_by key any = go (list_any (λ c. session_fills (state_of s past) key (server_end c.0 c.1)) (served s)) refl any
+      filled_by key any = go (list_any (λ c. session_fills (state_of s past) key (server_end c.0 c.1)) (served_connections s)) refl any
         where
-          go : (b : Bool) → list_any (λ c. session_fills (state_of s past) key (server_end c.0 c.1)) (served s) ≡ b → (b || list_any (λ w. w.fills && bytes_eq w.what.key key) (works past r)) ≡ true → Rattle.run_model.specs.Causes.FillsByGet past r key ⊎ FillsByPut past r key
-          go true at any = let z = any_member (λ (c : ℕ × ℕ). session_fills (state_of s past) key (server_end c.0 c.1)) (served s) at in inr (fill key z.0.0 z.0.1 z.2)
+          go : (b : Bool) → list_any (λ c. session_fills (state_of s past) key (server_end c.0 c.1)) (served_connections s) ≡ b → (b || list_any (λ w. w.fills && bytes_eq w.what.key key) (works past r)) ≡ true → Rattle.run_model.specs.Causes.FillsByGet past r key ⊎ FillsByPut past r key
+          go true at any = let z = any_member (λ (c : ℕ × ℕ). session_fills (state_of s past) key (server_end c.0 c.1)) (served_connections s) at in inr (fill key z.0.0 z.0.1 z.2)
           go false at any = inl (fills_by_get s past h key any)

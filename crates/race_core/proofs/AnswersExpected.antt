@@ -4,6 +4,7 @@ use Rattle.std.proofs.Common.{◌≡◌, ℕ, true, false, List, Option, Some, N
 use Rattle.std.specs.Prelude.{option_map}
 use Rattle.std.proofs.lemmas.Option.{same_Some}
 use Rattle.annex_base.specs.Lists.{Each}
+use Rattle.race_core.proofs.Below.{SentAreRead}
 use Rattle.run_data.specs.declared.entry.Entry.{Entry}
 use Rattle.run_data.specs.declared.entry.EntryKind.{EntryKind}
 use Rattle.run_data.specs.declared.entry.FrameView.{FrameView}
@@ -113,11 +114,11 @@ module _ (key : List ℕ) (target : Option ℕ) (peer : ℕ) (kind : EntryKind) 
   expects phase on last = tt
 
 -- **what comes is what the phase expects**
-pub answer_expected : (run : Run) → Each IsSetUp run.repos → (past : List Entry) (e : Entry) (r : ℕ) (f : FrameView) (k : Message) → RunPast (set_up run) past → RunStep (set_up run) past e → is_of r e ≡ true → e.taken ≡ Some f → f.up ≡ false
+pub answer_expected : SentAreRead → (run : Run) → Each IsSetUp run.repos → (past : List Entry) (e : Entry) (r : ℕ) (f : FrameView) (k : Message) → RunPast (set_up run) past → RunStep (set_up run) past e → is_of r e ≡ true → e.taken ≡ Some f → f.up ≡ false
     → message_in f.body ≡ Says k → is_plain k ≡ true → (t : TakenBy (set_up run r) past e f) → Expects t.w.phase k
-answer_expected run repos past e r f k h step is took down says' plain t =
+answer_expected reads_back run repos past e r f k h step is took down says' plain t =
     let may = (part_of (set_up run) past e r step is).frames.takes f took in
-    let a : AnswerOf past r f may.it k = answer_of run repos past e r f k h step is took down says' plain may in
+    let a : AnswerOf past r f may.it k = answer_of reads_back run repos past e r f k h step is took down says' plain may in
     let o = last_request past (up_of (way_of r f)) in
     expects t.w.what.key t.w.what.peer t.peer may.it.entry.kind k o a.request a.asked a.last a.asked_is a.answering t.w.phase t.on
-    (taken_last (set_up run r) past (own_past run repos r past h) e f down (ap is_answer says' ∙ plain_completes k plain) t (option_map asked_by o) refl)
+    (taken_last reads_back (set_up run r) past (own_past run repos r past h) e f down (ap is_answer says' ∙ plain_completes k plain) t (option_map asked_by o) refl)

@@ -4,6 +4,7 @@ use Rattle.std.proofs.Common.{◌≡◌, ℕ, true, false, List, [], ◌∷◌, 
 use Rattle.std.specs.Prelude.{slice_get}
 use Rattle.std.proofs.lemmas.Option.{same_Some}
 use Rattle.annex_base.specs.Lists.{Each}
+use Rattle.race_core.proofs.Below.{SentAreRead}
 use Rattle.run_data.specs.declared.entry.Entry.{Entry}
 use Rattle.run_data.specs.declared.entry.EntryKind.{EntryKind}
 use Rattle.run_data.specs.declared.entry.FrameView.{FrameView}
@@ -14,7 +15,7 @@ use Rattle.p2p_wire.specs.declared.message.Message.{Message}
 use Rattle.p2p_wire.specs.declared.message.Message.TheVariants.{Failure, Put, Remove, RemoveBefore, Valid}
 use Rattle.run_model.specs.Said.{Says, is_request, message_in}
 use Rattle.race_core.proofs.Ways.{is_answer, answers, way_from}
-use Rattle.run_model.specs.Frames.{Flying, MayTake, last_request, said_of, sender_of, sent, taken, taken_if, up_of, way_of}
+use Rattle.run_model.specs.Frames.{Flying, MayTake, last_request, said_of, sender_of, frames_sent, taken_count, taken_if, up_of, way_of}
 use Rattle.run_model.specs.Run.{RunPast, RunStep, set_up}
 use Rattle.race_core.proofs.SaidDown.{Alike}
 use Rattle.race_core.proofs.SessionAnswers.{AnswerFits, Answering}
@@ -39,7 +40,7 @@ pub record AnswerOf (past : List Entry) (a : ℕ) (f : FrameView) (it : Flying) 
   pub asked_is : said_of request ≡ Says asked
   pub answering : Answering asked it.entry.kind k
 
-module _ (run : Run) (repos : Each IsSetUp run.repos) where
+module _ (reads_back : SentAreRead) (run : Run) (repos : Each IsSetUp run.repos) where
   -- of an answer that is neither to an opening nor to GET
   pub answer_of : (past : List Entry) (e : Entry) (a : ℕ) (f : FrameView) (k : Message) → RunPast (set_up run) past → RunStep (set_up run) past e → is_of a e ≡ true → e.taken ≡ Some f → f.up ≡ false
       → message_in f.body ≡ Says k → is_plain k ≡ true → (t : MayTake past (way_of a f) f) → AnswerOf past a f t.it k
@@ -48,13 +49,13 @@ module _ (run : Run) (repos : Each IsSetUp run.repos) where
       let x = t.it.entry in
       let before = t.it.before in
       let r = sender_of w in
-      let all = message_past run repos past h in
-      let s = sending past w (taken past w) t.it t.next in
+      let all = message_past reads_back run repos past h in
+      let s = sending past w (taken_count past w) t.it t.next in
       let at = step_at run past x before h s.occurs in
       let part = part_of (set_up run) before x r at.0 s.repo_is in
       let g_up : t.it.frame.up ≡ false = up_at w x t.it.frame false s.sends up in
       let g_says : message_in t.it.frame.body ≡ Says k = message_at t.it.frame.body f.body (Says k) t.body_is says' in
-      let turn = answers_turn (set_up run r) before part.words x t.it.frame k (own_past run repos r before at.1) part.own (sends_member w x t.it.frame s.sends) g_up g_says plain in
+      let turn = answers_turn reads_back (set_up run r) before part.words x t.it.frame k (own_past run repos r before at.1) part.own (sends_member w x t.it.frame s.sends) g_up g_says plain in
       let way : way_from r t.it.frame ≡ w = way_sent w t.it.frame (sends_on w x t.it.frame s.sends) in
       let up_way : way_of r turn.f ≡ up_of w = way_up r turn.f t.it.frame w way turn.back turn.from_client in
       let asked' : MayTake before (way_of r turn.f) turn.f = part.frames.takes turn.f turn.takes_it in
@@ -62,7 +63,7 @@ module _ (run : Run) (repos : Each IsSetUp run.repos) where
       let turn' : length (answers before w) ≡ taken_if is_request before (up_of w) =
       subst (λ v. length (answers before v) ≡ taken_if is_request before (up_of w)) way (subst (λ v. length (answers before (way_from r t.it.frame)) ≡ taken_if is_request before v) up_way turn.turn) in
       let answer : is_answer (message_in f.body) ≡ true = ap is_answer says' ∙ plain_completes k plain in
-      let awaits = ((meets run repos past e h step).own a is).awaits f takes up answer in
+      let awaits = ((meets reads_back run repos past e h step).own a is).awaits f takes up answer in
       record {
         request = asked.it;
         last = right_turn past w f turn.f (prefixes run.repos past w all) (prefixes run.repos past (up_of w) all) (one_answers run.repos past w all) t answer awaits turn' asked turn.request;
@@ -87,14 +88,14 @@ fails_for (Put file key) kind x = x
 fails_for Valid kind x = x
 fails_for asked kind x = tt
 
-module _ (run : Run) (repos : Each IsSetUp run.repos) where
+module _ (reads_back : SentAreRead) (run : Run) (repos : Each IsSetUp run.repos) where
   -- what a FAILURE that a job takes answers
   pub failure_of : (past : List Entry) → RunPast (set_up run) past → (r : ℕ) (x : Entry) (before : List Entry) → Occurs past x before → is_of r x ≡ true → (f : FrameView) → x.taken ≡ Some f → f.up ≡ false → message_in f.body ≡ Says Failure
-      → (it : Flying) → slice_get (sent before (way_of r f)) (taken before (way_of r f)) ≡ Some it → AnswerOf before r f it Failure
+      → (it : Flying) → slice_get (frames_sent before (way_of r f)) (taken_count before (way_of r f)) ≡ Some it → AnswerOf before r f it Failure
   failure_of past h r x before o is f takes down says' it next =
       let at = step_at run past x before h o in
       let may = (part_of (set_up run) before x r at.0 is).frames.takes f takes in
-      subst (λ (z : Flying). AnswerOf before r f z Failure) (same_Some may.it it (sym may.next ∙ next)) (answer_of run repos before x r f Failure at.1 at.0 is takes down says' refl may)
+      subst (λ (z : Flying). AnswerOf before r f z Failure) (same_Some may.it it (sym may.next ∙ next)) (answer_of reads_back run repos before x r f Failure at.1 at.0 is takes down says' refl may)
 
   -- **a FAILURE says what its sender found**
   pub failures_fit : (past : List Entry) → RunPast (set_up run) past → FailuresFit past

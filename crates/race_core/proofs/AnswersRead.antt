@@ -2,6 +2,7 @@
 use Rattle.std.proofs.Common.{◌≡◌, ℕ, ◌≤◌, List, [], ◌∷◌, Some, ◌⊎◌, inl, inr, sym, ap, ◌∙◌, subst}
 use Rattle.annex_base.specs.Lists.{Member}
 use Rattle.annex_base.proofs.Lists.{Each-member, Member-filter_from}
+use Rattle.race_core.proofs.Below.{SentAreRead}
 use Rattle.run_data.specs.declared.entry.Entry.{Entry}
 use Rattle.run_data.specs.declared.entry.FrameView.{FrameView}
 use Rattle.run_data.specs.declared.entry.FrameText.{FrameText}
@@ -28,16 +29,16 @@ body_in a c (body ∷ bodies) g (inr i) = inr (body_in a (end_sends c body) bodi
 reads_in : (a : EndName) (c : End) (says : List FrameText) (sent : List FrameView) → sent ≡ frames a c says → SaysRead says → (g : FrameView) (text : List ℕ) → Member g sent → g.body ≡ Line text → (k : Message) × (message_of text ≡ Some k)
 reads_in a c says sent is read g text m b = read text (subst (λ x. Member x says) b (body_in a c says g (subst (Member g) is m)))
 
-pub read_step : ByStep (λ s past e. IsRead e)
-read_step s past words e h bound is part g text m u b = go (server_does s past words e part)
+pub read_step : SentAreRead → ByStep (λ s past e. IsRead e)
+read_step reads_back s past words e h bound is part g text m u b = go (server_does s past words e part)
   where
     at_end : (p q : ℕ) → TakesHere s past (server_end p q) e ⊎ GivesHere s past (server_end p q) e → (k : Message) × (message_of text ≡ Some k)
     at_end p q (inl x) =
         reads_in (server_end p q) (end_takes (end_at past s.number (server_end p q)) x.f.epoch x.f.body) (on_frame (here s (state_of s past) x.k (server_end p q)) (session past s.number (server_end p q)) x.f.body).says e.sent x.sent_is
-        (frame_read s past h part.known x.k x.part_small (subst (λ n. n ≤ 1000000000000) x.time_is bound.in_time) (server_end p q) (session past s.number (server_end p q)) x.f.body) g text m b
+        (frame_read reads_back s past h part.known x.k x.part_small (subst (λ n. n ≤ 1000000000000) x.time_is bound.in_time) (server_end p q) (session past s.number (server_end p q)) x.f.body) g text m b
     at_end p q (inr x) =
         reads_in (server_end p q) (end_at past s.number (server_end p q)) x.x.says e.sent x.sent_is
-        (gives_read s past h part.known x.k x.part_small (subst (λ n. n ≤ 1000000000000) x.time_is bound.in_time) (server_end p q) (session past s.number (server_end p q)).doing x.x x.next) g text m b
+        (gives_read reads_back s past h part.known x.k x.part_small (subst (λ n. n ≤ 1000000000000) x.time_is bound.in_time) (server_end p q) (session past s.number (server_end p q)).doing x.x x.next) g text m b
 
     shut : ((p q : ℕ) → Shuts (server_end p q) e) → g.body ≡ Closing
     shut x = Each-member (λ (h : FrameView). h.body ≡ Closing) (sent_at (server_end g.peer g.slot) e.sent) g (x g.peer g.slot).closes
@@ -47,5 +48,5 @@ read_step s past words e h bound is part g text m u b = go (server_does s past w
     go (inl x) = at_end x.0 x.1 x.3
     go (inr x) = absurd (let no' : Closing ≡ Line text = sym (shut x) ∙ b in cc)
 
-pub all_read : (s : SetUp) (past : List Entry) → OwnPast s past → AllRead s.number past
-all_read s past h = own_always (λ s past e. IsRead e) read_step s past h
+pub all_read : SentAreRead → (s : SetUp) (past : List Entry) → OwnPast s past → AllRead s.number past
+all_read reads_back s past h = own_always (λ s past e. IsRead e) (read_step reads_back) s past h

@@ -4,6 +4,7 @@ use Rattle.std.specs.Prelude.{if◌then◌else◌}
 use Rattle.std.proofs.lemmas.Bool.{true≢false}
 use Rattle.annex_base.specs.Lists.{Member}
 use Rattle.annex_base.specs.declared.kinds.Word.{Word}
+use Rattle.race_core.proofs.Below.{SentAreRead}
 use Rattle.run_data.specs.declared.entry.Entry.{Entry}
 use Rattle.run_data.specs.declared.entry.FrameView.{FrameView}
 use Rattle.run_data.specs.declared.entry.FrameText.{FrameText}
@@ -181,12 +182,12 @@ module _ (s : SetUp) (past : List Entry) (e : Entry) (p q : ℕ) (run : OwnRun s
     answering = subst (λ kind. Answering told.asked kind k) (sym (x.kind_is ∙ ap (λ (z : FrameText). (on_frame h was z).kind) line.1)) told.answering;
   }
 
-pub answers_turn : (s : SetUp) (past : List Entry) (words : ℕ → Option Word) (e : Entry) (g : FrameView) (k : Message) → OwnPast s past → OwnPart s past words e
+pub answers_turn : SentAreRead → (s : SetUp) (past : List Entry) (words : ℕ → Option Word) (e : Entry) (g : FrameView) (k : Message) → OwnPast s past → OwnPart s past words e
     → Member g e.sent → g.up ≡ false → message_in g.body ≡ Says k → is_plain k ≡ true → AnswersInTurn s.number past e g k
-answers_turn s past words e g k is own m u says' plain = go (server_does s past words e own)
+answers_turn reads_back s past words e g k is own m u says' plain = go (server_does s past words e own)
   where
     by : (p q : ℕ) → TakesHere s past (server_end p q) e ⊎ GivesHere s past (server_end p q) e → AnswersInTurn s.number past e g k
-    by p q (inl x) = takes_turn s past e p q is.run (all_read s past is) x g m k says' plain
+    by p q (inl x) = takes_turn s past e p q is.run (all_read reads_back s past is) x g m k says' plain
     by p q (inr x) = absurd (pieces_plain (session past s.number (server_end p q)).doing x.x.says g.body k (gave_one s past (server_end p q) e x).1
         (member_frames (server_end p q) (end_at past s.number (server_end p q)) x.x.says g (subst (Member g) x.sent_is m)).0 says' plain)
 

@@ -22,7 +22,7 @@ use Rattle.p2p_wire.specs.declared.message.Message.TheVariants.{CheckPresent, Fa
 use Rattle.p2p_wire.specs.Messages.{message_of, text_of, order_of}
 use Rattle.node_model.specs.Ends.{end_after, frames}
 use Rattle.node_model.specs.Jobs
-use Rattle.node_model.specs.Jobs.{AsksLock, AsksLook, AsksTime, Drops, Fresh, Gets, GetsBytes, GetsData, Greets, Next, Opens, Orders, Part, Phase, Puts, PutsAnswer, PutsBytes, PutsOffer, Rows, Work, claims, closed_part, fault_of, fault_phase, first_look, hears_frame, job_end, learns, listens, quiet, says, says_some, sends, side_of, talks, talks_on, target_of, to_phase, took, took_line, unreleased, work_kind}
+use Rattle.node_model.specs.Jobs.{AsksLock, AsksLook, AsksTime, Drops, Fresh, Gets, GetsBytes, GetsData, Greets, Next, Opens, Orders, Part, Phase, Puts, PutsAnswer, PutsBytes, PutsOffer, Rows, Work, claims, closed_part, fault_of, fault_phase, first_look, hears_frame, job_end, learns, listens, quiet, says, says_some, sends, side_of, talks, talks_on, target_of, to_phase, took, took_line, after_failed_release, work_kind}
 use Rattle.node_model.specs.Look.{Made}
 use Rattle.node_model.specs.JobStep.{Turn, end_with}
 use Rattle.node_model.specs.Found.{JobKind}
@@ -191,8 +191,8 @@ module _ (t : Turn) (e : Entry) where
   fault_comes r w Drops Remote Fresh = away w (fault_phase r w Drops Remote Fresh) refl
   fault_comes r w part side phase = away w (to_phase w (Jobs.Ends (Jobs.stores_fault w.part))) refl
 
-  unreleased_comes : (w : Work) (time : ℕ) (phase : Phase) → w.phase ≡ t.w.phase → Comes w (unreleased w time phase)
-  unreleased_comes w time AsksTime same = away w (unreleased w time AsksTime) refl
+  unreleased_comes : (w : Work) (time : ℕ) (phase : Phase) → w.phase ≡ t.w.phase → Comes w (after_failed_release w time phase)
+  unreleased_comes w time AsksTime same = away w (after_failed_release w time AsksTime) refl
   unreleased_comes w time phase same = stays w same
 
   call_comes : (r : ℕ) (w : Work) (time : ℕ) (call : Call) → w.phase ≡ t.w.phase → Comes w (fault_of r w time call)

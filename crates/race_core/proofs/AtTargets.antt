@@ -4,6 +4,7 @@ use Rattle.std.specs.Prelude.{◌&&◌, length}
 use Rattle.std.proofs.lemmas.Bool.{and_from, or_left, or_right}
 use Rattle.annex_base.specs.Lists.{Member}
 use Rattle.annex_base.specs.Settings.{Settings}
+use Rattle.race_core.proofs.Below.{SentAreRead}
 use Rattle.drop_proof.specs.declared.rule.Need.{Need}
 use Rattle.drop_proof.specs.declared.rule.Side.TheVariants.{Remote}
 use Rattle.drop_proof.specs.Judging.{is_enough}
@@ -14,7 +15,7 @@ use Rattle.node_model.specs.Slots.{Running}
 use Rattle.run_model.specs.Past.{clock_set, is_of}
 use Rattle.node_model.specs.Clocks.{runs_on}
 use Rattle.run_model.specs.Logs.{before_step, in_drop, read_at, settings_of, starts_drop}
-use Rattle.node_model.specs.Evidence.{candidates, gather, reached, standing_by}
+use Rattle.node_model.specs.Evidence.{candidates, gather, reached_candidates, standing_by}
 use Rattle.node_model.specs.SetUp.{SetUp}
 use Rattle.node_model.specs.State.{State}
 use Rattle.run_model.specs.States.{state_of, rows_at, works}
@@ -42,7 +43,7 @@ enough_of s clock read what heard =
     let need : Need = record { n = read.numcopies; m = read.mincopies } in
     is_enough side need
     (gather side need (λ c. offer_by clock (standing_by read what.key (id_of s.repos c)) (told_of heard c))
-    (reached (λ c. is_unasked (standing_by read what.key (id_of s.repos c)) (told_of heard c)) (candidates side (length s.repos) s.number (Jobs.or_own s.number side what.peer))) [])
+    (reached_candidates (λ c. is_unasked (standing_by read what.key (id_of s.repos c)) (told_of heard c)) (candidates side (length s.repos) s.number (Jobs.or_own s.number side what.peer))) [])
 
 enough_is : (s : SetUp) (st : State) (w : Work) → knows_enough s st w ≡ enough_of s st.clock (st.read w.number) w.what w.heard
 unfolding standing_of
@@ -90,7 +91,7 @@ kept_at s past e w same x = (
       enough_same s (state_of s (e ∷ past)) (state_of s past) w w (ap (λ c. runs_on c) same) (stays_read past e s.number w.number read) refl refl ∙ x.2 part side apart at,
 )
 
-module _ (s : SetUp) where
+module _ (reads_back : SentAreRead) (s : SetUp) where
   step_began : (p : List Entry) (e : Entry) → OwnPast s (e ∷ p) → is_of s.number e ≡ true → (x : Work) (b : Steps s p e x) → Began s p b.by.w → x.part ≡ Drops → in_drop (e ∷ p) s.number x.number ≡ true
   step_began p e r is x b was part = go b.by.w.part refl
     where
@@ -99,7 +100,7 @@ module _ (s : SetUp) where
 
       new : b.by.w.part ≢ Drops → in_drop (e ∷ p) s.number x.number ≡ true
       new apart = or_right (in_drop p s.number x.number) (is_of s.number e && starts_drop p s.number x.number e e.kind)
-          (and_from (is_of s.number e) (starts_drop p s.number x.number e e.kind) is (moves_begun s p e r is x b apart part))
+          (and_from (is_of s.number e) (starts_drop p s.number x.number e e.kind) is (moves_begun reads_back s p e r is x b apart part))
 
       go : (q : Part) → b.by.w.part ≡ q → in_drop (e ∷ p) s.number x.number ≡ true
       go Drops at = or_left (in_drop p s.number x.number) (is_of s.number e && starts_drop p s.number x.number e e.kind) (subst (λ n. in_drop p s.number n ≡ true) (sym number) (was at))

@@ -26,7 +26,7 @@ use Rattle.node_model.specs.SetUp.{SetUp}
 use Rattle.run_model.specs.States.{state_of, rows_at, works}
 use Rattle.node_model.specs.AnyTime.{MayCome}
 use Rattle.node_model.specs.Jobs
-use Rattle.node_model.specs.Jobs.{Puts, AsksTime, Drops, Fresh, Gets, Part, Phase, Rows, Work, fault_of, fault_phase, running, side_of, unreleased, work_kind}
+use Rattle.node_model.specs.Jobs.{Puts, AsksTime, Drops, Fresh, Gets, Part, Phase, Rows, Work, fault_of, fault_phase, running, side_of, after_failed_release, work_kind}
 use Rattle.node_model.specs.Look.{Made}
 use Rattle.node_model.specs.JobStep.{Turn, key_of}
 use Rattle.run_model.specs.Run.{IsStep, OwnPart, OwnRun}
@@ -51,7 +51,7 @@ local_not_remote side l r = let no_side : Local ≡ Remote = sym l ∙ r in cc
 abbrev BarsOr : Turn → EntryKind → Type 0
 BarsOr t kind = ((need : Need) × (kind ≡ Bar t.w.number need (key_of t))) ⊎ ((under_way t.w.phase ≡ true) × ((key : List ℕ) (was : Option ℕ) → bar_after key was kind ≡ was))
 
-unreleased_under : (w : Work) (time : ℕ) (phase : Phase) → under_way (unreleased w time phase).phase ≡ true → under_way w.phase ≡ true
+unreleased_under : (w : Work) (time : ℕ) (phase : Phase) → under_way (after_failed_release w time phase).phase ≡ true → under_way w.phase ≡ true
 unreleased_under w time AsksTime u = absurd (cc)
 unreleased_under w time phase u = u
 

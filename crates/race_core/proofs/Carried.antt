@@ -26,7 +26,7 @@ use Rattle.p2p_wire.specs.Messages.{message_of}
 use Rattle.node_model.specs.Sessions.{line_in}
 use Rattle.node_model.specs.Ends.{end_after}
 use Rattle.node_model.specs.Jobs
-use Rattle.node_model.specs.Jobs.{AsksLock, AsksLook, Drops, Ends, Fresh, GetsData, GetsWord, Gets, Greets, Next, Orders, Part, Phase, Puts, PutsAnswer, PutsOffer, Rows, Work, claims, closed_part, fault_of, fault_phase, first_look, gained, hears_frame, is_move, job_end, learns, listens, partner, quiet, says, says_some, sends, side_of, source_cause, talks, talks_on, taken_message, target_of, to_phase, took, took_line, transferred, unreleased, word_taken, work_kind}
+use Rattle.node_model.specs.Jobs.{AsksLock, AsksLook, Drops, Ends, Fresh, GetsData, GetsWord, Gets, Greets, Next, Orders, Part, Phase, Puts, PutsAnswer, PutsOffer, Rows, Work, claims, closed_part, fault_of, fault_phase, first_look, after_gain, hears_frame, is_move, job_end, learns, listens, partner, quiet, says, says_some, sends, side_of, source_cause, talks, talks_on, taken_message, target_of, to_phase, took, took_line, after_transfer, after_failed_release, word_taken, work_kind}
 use Rattle.race_core.proofs.EndReasons.{Like, SaysFirst, ShutOn, shut_like, shut_same, talker_like}
 
 -- a peer gave a get nothing: the connection with it is closed; or the job answers its word by FAILURE
@@ -68,7 +68,7 @@ module _ (rows : Rows) (r : ℕ) (e : Entry) where
   stays : (w : Work) → Keeps w w
   stays w = (refl, (λ f. f), inl refl, inr refl)
 
-  transferred_keeps : (w : Work) (o : Outcome) → Keeps w (transferred w o)
+  transferred_keeps : (w : Work) (o : Outcome) → Keeps w (after_transfer w o)
   transferred_keeps w o = if_either (Keeps w) (is_move w.what.kind) (record w { part = Drops; phase = Fresh; fills = false }) (record w { phase = Ends o; fills = false })
       (λ h. (refl, (λ f. let no' : false ≡ true = f in cc), inl refl, inr refl)) (λ h. (refl, (λ f. let no' : false ≡ true = f in cc), inl refl, inr refl))
 
@@ -153,7 +153,7 @@ module _ (rows : Rows) (r : ℕ) (e : Entry) where
   on_keeps w (Some peer) on = if_either (Keeps w) (end_after (job_end w peer) (rows.ends (job_end w peer)) e).opened (talks rows r w e e.sent) (closed_part r w peer w.part)
       (λ h. talks_keeps w e.sent refl) (λ h. closed_keeps w (record { peer = peer; on = on; closed = h }) w.part refl)
 
-  unreleased_keeps : (w : Work) (time : ℕ) (phase : Phase) → Keeps w (unreleased w time phase)
+  unreleased_keeps : (w : Work) (time : ℕ) (phase : Phase) → Keeps w (after_failed_release w time phase)
   unreleased_keeps w time Jobs.AsksTime = same w _
   unreleased_keeps w time phase = stays w
 
@@ -166,7 +166,7 @@ module _ (rows : Rows) (r : ℕ) (e : Entry) where
   call_keeps w Unhold = unreleased_keeps w e.time w.phase
   call_keeps w call = fault_keeps w w.part (side_of w) w.phase
 
-  gained_keeps : (w : Work) (phase : Phase) → Keeps w (gained w phase)
+  gained_keeps : (w : Work) (phase : Phase) → Keeps w (after_gain w phase)
   gained_keeps w (GetsWord peer start size) = transferred_keeps w (Got (Some peer) (Some start))
   gained_keeps w phase = stays w
 

@@ -6,6 +6,7 @@ use Rattle.std.proofs.lemmas.Bool.{eqb-true}
 use Rattle.annex_base.specs.Lists.{Each, Member}
 use Rattle.annex_base.specs.Settings.{Settings}
 use Rattle.annex_base.specs.declared.kinds.Word.{Word}
+use Rattle.race_core.proofs.Below.{SentAreRead}
 use Rattle.run_data.specs.declared.entry.Entry.{Entry}
 use Rattle.run_data.specs.declared.entry.EntryKind.TheVariants.{End as ends_job}
 use Rattle.run_data.specs.declared.job.Outcome.TheVariants.{Refused, TransferRefused}
@@ -58,12 +59,12 @@ required_none : (settings : Settings) (repo key : List ℕ) (paths : List (List 
 unfolding required
 required_none settings repo key paths = refl
 
-module _ (s : SetUp) (past : List Entry) (words : ℕ → Option Word) (e : Entry) (h : OwnPast s past) (own : OwnPart s past words e) (frames : FramesPart past s.number words e) (run : MessagePast s.repos past) (left : Grounds s past) (j : ℕ) where
+module _ (reads_back : SentAreRead) (s : SetUp) (past : List Entry) (words : ℕ → Option Word) (e : Entry) (h : OwnPast s past) (own : OwnPart s past words e) (frames : FramesPart past s.number words e) (run : MessagePast s.repos past) (left : Grounds s past) (j : ℕ) where
   -- neither required content nor a crash ends a job so
   never : (refusal : DropRefusal) → (x : Ending s past e j (Refused refusal)) → (Judged (turn_at s past e x.by) x.by.made.taken (Refused refusal) → ⊥) → (DropSettled (turn_at s past e x.by) past refusal → ⊥) → ⊥
   never refusal x now settled = elim (x.why) [
     | inl y ↦ now y
-    | inr y ↦ settled (drop_settled (turn_at s past e x.by) past refusal x.by.made.taken (stands s past h x.by.w x.runs) y)
+    | inr y ↦ settled (drop_settled (turn_at s past e x.by) past refusal x.by.made.taken (stands reads_back s past h x.by.w x.runs) y)
   ]
 
   required_never : (text : List ℕ) → e.kind ≡ ends_job j (Refused (refusals.Required text)) → ⊥
@@ -95,30 +96,30 @@ module _ (s : SetUp) (past : List Entry) (words : ℕ → Option Word) (e : Entr
           apart (Some m) c e = cc
 
   drop_caused : (refusal : DropRefusal) → e.kind ≡ ends_job j (Refused refusal) → CauseOf s.repos past s.number j e.time refusal
-  drop_caused refusals.NotPresent is = absent_found s past words e h own j (moves_late s) is
+  drop_caused refusals.NotPresent is = absent_found reads_back s past words e h own j (moves_late reads_back s) is
   drop_caused (refusals.Required text) is = absurd (required_never text is)
-  drop_caused (refusals.Held end) is = held_found s past words e h own j (moves_late s) end is
-  drop_caused (refusals.Barred other) is = barred_found s past words e h own j (moves_late s) other is
-  drop_caused (refusals.Lacking proof reasons) is = lacking_found s past words e h own run left.told j frames proof reasons is
-  drop_caused (refusals.Expired end clk) is = expired_found s past words e h own run j end clk is
-  drop_caused (refusals.Denied answer) is = denied_found s past words e h own j run left.fit frames answer is
-  drop_caused (refusals.Lost ordered) is = lost_found s past words e h own left.shut' j left.orders ordered is
-  drop_caused (refusals.OldProtocol n) is = old_found s past words e h own run j n is
-  drop_caused refusals.StoreFault is = fault_found s past words e h own j is
+  drop_caused (refusals.Held end) is = held_found reads_back s past words e h own j (moves_late reads_back s) end is
+  drop_caused (refusals.Barred other) is = barred_found reads_back s past words e h own j (moves_late reads_back s) other is
+  drop_caused (refusals.Lacking proof reasons) is = lacking_found reads_back s past words e h own run left.told j frames proof reasons is
+  drop_caused (refusals.Expired end clk) is = expired_found reads_back s past words e h own run j end clk is
+  drop_caused (refusals.Denied answer) is = denied_found reads_back s past words e h own j run left.fit frames answer is
+  drop_caused (refusals.Lost ordered) is = lost_found reads_back s past words e h own left.shut' j left.orders ordered is
+  drop_caused (refusals.OldProtocol n) is = old_found reads_back s past words e h own run j n is
+  drop_caused refusals.StoreFault is = fault_found reads_back s past words e h own j is
   drop_caused refusals.Crashed is = absurd (crashed_never is)
 
   transfer_caused : (refusal : TransferRefusal) → e.kind ≡ ends_job j (TransferRefused refusal) → TransferCauseOf s.repos past s.number j refusal
-  transfer_caused failures.NotHere is = not_here_found s past words e h own j is
-  transfer_caused (failures.NoSource reasons) is = no_source_found s past words e h own left.shut' j left.order left.invalids reasons is
-  transfer_caused failures.Busy is = busy_found s past words e h own j left.fill is
-  transfer_caused failures.Closed is = closed_found s past words e h own left.shut' j is
-  transfer_caused failures.Rejected is = rejected_found s past words e h own j run left.fit is
-  transfer_caused failures.StoreFault is = transfer_fault_found s past words e h own j is
+  transfer_caused failures.NotHere is = not_here_found reads_back s past words e h own j is
+  transfer_caused (failures.NoSource reasons) is = no_source_found reads_back s past words e h own left.shut' j left.order left.invalids reasons is
+  transfer_caused failures.Busy is = busy_found reads_back s past words e h own j left.fill is
+  transfer_caused failures.Closed is = closed_found reads_back s past words e h own left.shut' j is
+  transfer_caused failures.Rejected is = rejected_found reads_back s past words e h own j run left.fit is
+  transfer_caused failures.StoreFault is = transfer_fault_found reads_back s past words e h own j is
   transfer_caused failures.Crashed is =
       let x = ending s past words e own j (TransferRefused failures.Crashed) is in
       absurd (elim (x.why) [
         | inl y ↦ y
-        | inr y ↦ elim (transfer_settled (turn_at s past e x.by) past failures.Crashed x.by.made.taken (stands s past h x.by.w x.runs) y) [ inl z ↦ z | inr z ↦ (cc) ]
+        | inr y ↦ elim (transfer_settled (turn_at s past e x.by) past failures.Crashed x.by.made.taken (stands reads_back s past h x.by.w x.runs) y) [ inl z ↦ z | inr z ↦ (cc) ]
       ])
 
 same_repo : (o : Option ℕ) (a b : ℕ) → option_is o a ≡ true → option_is o b ≡ true → a ≡ b
@@ -126,10 +127,10 @@ same_repo None a b p q = absurd (cc)
 same_repo (Some n) a b p q = sym (eqb-true n a p) ∙ eqb-true n b q
 
 -- **one entry**
-pub caused : (s : SetUp) (past : List Entry) (words : ℕ → Option Word) (e : Entry) → OwnPast s past → OwnPart s past words e → FramesPart past s.number words e → is_of s.number e ≡ true → MessagePast s.repos past → Grounds s past → IsCaused s.repos past e
-caused s past words e h own frames mine run left = record {
-  drops = λ r j refusal is kind. subst (λ n. CauseOf s.repos past n j e.time refusal) (same_repo e.repo s.number r mine is) (drop_caused s past words e h own frames run left j refusal kind);
-  transfers = λ r j refusal is kind. subst (λ n. TransferCauseOf s.repos past n j refusal) (same_repo e.repo s.number r mine is) (transfer_caused s past words e h own frames run left j refusal kind);
+pub caused : SentAreRead → (s : SetUp) (past : List Entry) (words : ℕ → Option Word) (e : Entry) → OwnPast s past → OwnPart s past words e → FramesPart past s.number words e → is_of s.number e ≡ true → MessagePast s.repos past → Grounds s past → IsCaused s.repos past e
+caused reads_back s past words e h own frames mine run left = record {
+  drops = λ r j refusal is kind. subst (λ n. CauseOf s.repos past n j e.time refusal) (same_repo e.repo s.number r mine is) (drop_caused reads_back s past words e h own frames run left j refusal kind);
+  transfers = λ r j refusal is kind. subst (λ n. TransferCauseOf s.repos past n j refusal) (same_repo e.repo s.number r mine is) (transfer_caused reads_back s past words e h own frames run left j refusal kind);
 }
 
 -- the premise, of a repository and a past of a run
@@ -137,16 +138,16 @@ pub record Left (s : SetUp) (past : List Entry) : Type 0 where
   pub shut' : ShutsTold s past
 
 -- **each refused job of a run by steps has its cause**, where the premise holds at each of its pasts
-module _ (run : Run) (repos : Each IsSetUp run.repos) (left : (r : ℕ) (past : List Entry) → RunPast (set_up run) past → Left (set_up run r) past) where
+module _ (reads_back : SentAreRead) (run : Run) (repos : Each IsSetUp run.repos) (left : (r : ℕ) (past : List Entry) → RunPast (set_up run) past → Left (set_up run r) past) where
   grounds : (r : ℕ) (past : List Entry) → RunPast (set_up run) past → Grounds (set_up run r) past
   grounds r past h = let l = left r past h in record {
-    told = run_told run repos r past h;
-    fit = failures_fit run repos past h;
+    told = run_told reads_back run repos r past h;
+    fit = failures_fit reads_back run repos past h;
     fill = sessions_fill (set_up run r) past (own_past run repos r past h);
     shut' = l.shut';
-    orders = orders_told (set_up run r) past (own_past run repos r past h);
+    orders = orders_told reads_back (set_up run r) past (own_past run repos r past h);
     order = sources_in_order (set_up run r) past (own_past run repos r past h);
-    invalids = invalids_fit run repos past h;
+    invalids = invalids_fit reads_back run repos past h;
   }
 
   entry_caused : (past : List Entry) (e : Entry) → RunPast (set_up run) past → RunStep (set_up run) past e → IsCaused run.repos past e
@@ -158,34 +159,34 @@ module _ (run : Run) (repos : Each IsSetUp run.repos) (left : (r : ℕ) (past : 
       at : (r : ℕ) → is_of r e ≡ true → IsCaused run.repos past e
       at r is =
           let p = part_of (set_up run) past e r x is in
-          caused (set_up run r) past p.words e (own_past run repos r past h) p.own p.frames is (message_past run repos past h) (grounds r past h)
+          caused reads_back (set_up run r) past p.words e (own_past run repos r past h) p.own p.frames is (message_past reads_back run repos past h) (grounds r past h)
 
   all_caused : (past : List Entry) → RunPast (set_up run) past → CausedPast run.repos past
   all_caused [] h = tt
   all_caused (e ∷ past) h = (entry_caused past e h.1 h.0, all_caused past h.1)
 
-pub run_causes : (run : Run) → IsRun run → ((r : ℕ) (past : List Entry) → RunPast (set_up run) past → Left (set_up run r) past) → HasCauses run
-run_causes run h left = record { causes = all_caused run h.repos left (reverse run.entries) h.steps }
+pub run_causes : SentAreRead → (run : Run) → IsRun run → ((r : ℕ) (past : List Entry) → RunPast (set_up run) past → Left (set_up run r) past) → HasCauses run
+run_causes reads_back run h left = record { causes = all_caused reads_back run h.repos left (reverse run.entries) h.steps }
 
 -- ---- by steps: the refusals that need nothing but the repository's own part
 
 -- a drop's, and a transfer's, by a call of the store that failed
-pub fault_step : ByStep (λ s past e. (j : ℕ) → e.kind ≡ ends_job j (Refused refusals.StoreFault) → HadFault past s.number j)
-fault_step s past words e h b is part j kind = fault_found s past words e h part j kind
+pub fault_step : SentAreRead → ByStep (λ s past e. (j : ℕ) → e.kind ≡ ends_job j (Refused refusals.StoreFault) → HadFault past s.number j)
+fault_step reads_back s past words e h b is part j kind = fault_found reads_back s past words e h part j kind
 
-pub transfer_fault_step : ByStep (λ s past e. (j : ℕ) → e.kind ≡ ends_job j (TransferRefused failures.StoreFault) → FailedCall past s.number j)
-transfer_fault_step s past words e h b is part j kind = transfer_fault_found s past words e h part j kind
+pub transfer_fault_step : SentAreRead → ByStep (λ s past e. (j : ℕ) → e.kind ≡ ends_job j (TransferRefused failures.StoreFault) → FailedCall past s.number j)
+transfer_fault_step reads_back s past words e h b is part j kind = transfer_fault_found reads_back s past words e h part j kind
 
 -- a copy whose content wasn't there
-pub not_here_step : ByStep (λ s past e. (j : ℕ) → e.kind ≡ ends_job j (TransferRefused failures.NotHere) → FoundNotHere past s.number j)
-not_here_step s past words e h b is part j kind = not_here_found s past words e h part j kind
+pub not_here_step : SentAreRead → ByStep (λ s past e. (j : ℕ) → e.kind ≡ ends_job j (TransferRefused failures.NotHere) → FoundNotHere past s.number j)
+not_here_step reads_back s past words e h b is part j kind = not_here_found reads_back s past words e h part j kind
 
 -- a local drop's row
-pub absent_step : ByStep (λ s past e. (j : ℕ) → e.kind ≡ ends_job j (Refused refusals.NotPresent) → FoundAbsent past s.number j)
-absent_step s past words e h b is part j kind = absent_found s past words e h part j (moves_late s) kind
+pub absent_step : SentAreRead → ByStep (λ s past e. (j : ℕ) → e.kind ≡ ends_job j (Refused refusals.NotPresent) → FoundAbsent past s.number j)
+absent_step reads_back s past words e h b is part j kind = absent_found reads_back s past words e h part j (moves_late reads_back s) kind
 
-pub barred_step : ByStep (λ s past e. (j other : ℕ) → e.kind ≡ ends_job j (Refused (refusals.Barred other)) → FoundBarred past s.number j other)
-barred_step s past words e h b is part j other kind = barred_found s past words e h part j (moves_late s) other kind
+pub barred_step : SentAreRead → ByStep (λ s past e. (j other : ℕ) → e.kind ≡ ends_job j (Refused (refusals.Barred other)) → FoundBarred past s.number j other)
+barred_step reads_back s past words e h b is part j other kind = barred_found reads_back s past words e h part j (moves_late reads_back s) other kind
 
-pub held_step : ByStep (λ s past e. (j : ℕ) (end : Option ℕ) → e.kind ≡ ends_job j (Refused (refusals.Held end)) → FoundHeld s.repos past s.number j e.time end)
-held_step s past words e h b is part j end kind = held_found s past words e h part j (moves_late s) end kind
+pub held_step : SentAreRead → ByStep (λ s past e. (j : ℕ) (end : Option ℕ) → e.kind ≡ ends_job j (Refused (refusals.Held end)) → FoundHeld s.repos past s.number j e.time end)
+held_step reads_back s past words e h b is part j end kind = held_found reads_back s past words e h part j (moves_late reads_back s) end kind

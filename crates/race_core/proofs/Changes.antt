@@ -20,11 +20,11 @@ use Rattle.run_data.specs.declared.entry.By.TheVariants.{Script, Job as by_job, 
 use Rattle.run_data.specs.declared.entry.EntryKind.{EntryKind}
 use Rattle.run_data.specs.declared.entry.EntryKind.TheVariants.{Share, Release, Check, Bar, Order, Gone, Close, Crash, Fault, End}
 use Rattle.run_data.specs.declared.row.Hold.{Hold}
-use Rattle.run_model.specs.Past.{present, bar, is_of, decided, decided_after, Decision, holds, clock_set, now, set_after}
+use Rattle.run_model.specs.Past.{present, bar, is_of, decision, decided_after, Decision, holds, clock_set, now, set_after}
 use Rattle.node_model.specs.Rows.{present_after, bar_after, option_is, holds_after, keep_of, same_owner, is_lost_ordered, blocks, is_blocked, restart}
 use Rattle.run_model.specs.Frames.{Sent, sender, is_job}
 use Rattle.run_model.specs.Drops.{Vouch, Lock, Look, look_of, vouch_kind, vouch, vouches, newer, Asker, asker, is_asker, asked_at, tells, told_by, reply}
-use Rattle.run_model.specs.Safety.{Removal, removal, removal_by, barred_removal, local_removal, remote_removal, ordered, sent_order, add_removal}
+use Rattle.run_model.specs.Safety.{Removal, removal, removal_by, barred_removal, local_removal, remote_removal, ordered_removal, sent_order, add_removal}
 use Rattle.annex_base.specs.Lists.{Member}
 use Rattle.annex_base.proofs.Conditions.{eqb_refl, if_is, bytes_eq-refl}
 use Rattle.annex_base.proofs.Lists.{list_any_weaker, Member-append_cases, Member-append_left, Member-append_right}
@@ -92,9 +92,9 @@ decided-kind place j was (Bar job need k) d h =
     ]
 decided-kind place j was _ d h = inl h
 
-pub decided_was : (e : Entry) (past : List Entry) (a j : ℕ) (d : Decision) → decided (e ∷ past) a j ≡ Some d → (decided past a j ≡ Some d) ⊎ Decides e past a j d
-decided_was e past a j d h = elim (if_is (is_of a e) (decided_after (length past) j (decided past a j) e.kind) (decided past a j) (Some d) h) [
-  | inl t ↦ elim (decided-kind (length past) j (decided past a j) e.kind d t.1) [ inl s ↦ inl s | inr s ↦ inr (record { repo_is = t.0; kind_is = s.0; place_is = s.1 }) ]
+pub decided_was : (e : Entry) (past : List Entry) (a j : ℕ) (d : Decision) → decision (e ∷ past) a j ≡ Some d → (decision past a j ≡ Some d) ⊎ Decides e past a j d
+decided_was e past a j d h = elim (if_is (is_of a e) (decided_after (length past) j (decision past a j) e.kind) (decision past a j) (Some d) h) [
+  | inl t ↦ elim (decided-kind (length past) j (decision past a j) e.kind d t.1) [ inl s ↦ inl s | inr s ↦ inr (record { repo_is = t.0; kind_is = s.0; place_is = s.1 }) ]
   | inr t ↦ inl t.1
 ]
 
@@ -334,15 +334,15 @@ pub record BarOf (e : Entry) (a j : ℕ) : Type 0 where
   pub key : List ℕ
   pub kind_is : e.kind ≡ Bar j need key
 
-pub decided_keeps : (e : Entry) (past : List Entry) (a j : ℕ) (d : Decision) → decided past a j ≡ Some d → (decided (e ∷ past) a j ≡ Some d) ⊎ BarOf e a j
+pub decided_keeps : (e : Entry) (past : List Entry) (a j : ℕ) (d : Decision) → decision past a j ≡ Some d → (decision (e ∷ past) a j ≡ Some d) ⊎ BarOf e a j
 decided_keeps e past a j d h = go (is_of a e) refl
   where
-    go : (b : Bool) → is_of a e ≡ b → ((if b then decided_after (length past) j (decided past a j) e.kind else decided past a j) ≡ Some d) ⊎ BarOf e a j
-    go true is = elim (decided-keeps-kind (length past) j (decided past a j) e.kind d h) [ inl s ↦ inl s | inr s ↦ inr (record { repo_is = is; need = s.0; key = s.1.0; kind_is = s.1.1 }) ]
+    go : (b : Bool) → is_of a e ≡ b → ((if b then decided_after (length past) j (decision past a j) e.kind else decision past a j) ≡ Some d) ⊎ BarOf e a j
+    go true is = elim (decided-keeps-kind (length past) j (decision past a j) e.kind d h) [ inl s ↦ inl s | inr s ↦ inr (record { repo_is = is; need = s.0; key = s.1.0; kind_is = s.1.1 }) ]
     go false is = inl h
 
 pub decided_new : (e : Entry) (past : List Entry) (a j : ℕ) (need : Need) (key : List ℕ) → is_of a e ≡ true → e.kind ≡ Bar j need key
-    → decided (e ∷ past) a j ≡ Some (record { place = length past; key = key; need = need })
+    → decision (e ∷ past) a j ≡ Some (record { place = length past; key = key; need = need })
 decided_new e past a j need key is kind = rw (is, kind, eqb_refl j) refl
 
 repo-some : (o : Option ℕ) (r : ℕ) → option_is o r ≡ true → o ≡ Some r
@@ -377,7 +377,7 @@ pub record Removes (repos : List RepoView) (e : Entry) (past : List Entry) (key 
   pub d : Decision
   pub repo_is : is_of r e ≡ true
   pub kind_is : e.kind ≡ Gone (by_job j) key
-  pub decided_is : decided past r j ≡ Some d
+  pub decided_is : decision past r j ≡ Some d
   pub key_is : d.key ≡ key
   pub is : x ≡ local_removal repos past r j d
 
@@ -399,14 +399,14 @@ pub record Obeys (repos : List RepoView) (e : Entry) (past : List Entry) (key : 
 
 abbrev pub LocalKind : List RepoView → List Entry → List ℕ → Option ℕ → EntryKind → Removal → Type 0
 LocalKind repos past key repo kind x =
-    (r : ℕ) × ((j : ℕ) × ((d : Decision) × ((repo ≡ Some r) × (kind ≡ Gone (by_job j) key) × (decided past r j ≡ Some d) × (d.key ≡ key) × (x ≡ local_removal repos past r j d))))
+    (r : ℕ) × ((j : ℕ) × ((d : Decision) × ((repo ≡ Some r) × (kind ≡ Gone (by_job j) key) × (decision past r j ≡ Some d) × (d.key ≡ key) × (x ≡ local_removal repos past r j d))))
 
 abbrev pub RemoteKind : List RepoView → List Entry → List ℕ → Option ℕ → Option FrameView → EntryKind → Removal → Type 0
 RemoteKind repos past key repo taken kind x =
     (r a slot : ℕ) × ((s : Sent) × ((j : ℕ) × ((deadline : Option ℕ) × ((need : Need) ×
     ((repo ≡ Some r) × (kind ≡ Gone (Peer a slot) key) × (sender past r taken ≡ Some s) × (is_of a s.entry ≡ true) × (s.entry.kind ≡ Order j r deadline need key) × (x ≡ remote_removal repos past r a j need s))))))
 
-ordered-kind : (repos : List RepoView) (past : List Entry) (key : List ℕ) (r a : ℕ) (s : Sent) (kind : EntryKind) (x : Removal) → ordered repos past key r a s kind ≡ Some x
+ordered-kind : (repos : List RepoView) (past : List Entry) (key : List ℕ) (r a : ℕ) (s : Sent) (kind : EntryKind) (x : Removal) → ordered_removal repos past key r a s kind ≡ Some x
     → (j : ℕ) × ((deadline : Option ℕ) × ((need : Need) × ((kind ≡ Order j r deadline need key) × (x ≡ remote_removal repos past r a j need s))))
 ordered-kind repos past key r a s (Order j target deadline need k) x h = elim (if_is ((target == r) && bytes_eq k key) (Some (remote_removal repos past r a j need s)) None (Some x) h) [
   | inl t ↦ let w = and_parts (target == r) (bytes_eq k key) t.0 in
@@ -417,12 +417,12 @@ ordered-kind repos past key r a s _ x h = cc
 
 removal-kind : (repos : List RepoView) (past : List Entry) (key : List ℕ) (repo : Option ℕ) (taken : Option FrameView) (kind : EntryKind) (x : Removal) → removal_by repos past key repo taken kind ≡ Some x
     → LocalKind repos past key repo kind x ⊎ RemoteKind repos past key repo taken kind x
-removal-kind repos past key (Some r) taken (Gone (by_job j) k) x h = elim (if_is (bytes_eq k key) (barred_removal repos past key r j (decided past r j)) None (Some x) h) [
-  | inl t ↦ inl (go (decided past r j) refl t.1 ((bytes_decides k key).0 t.0))
+removal-kind repos past key (Some r) taken (Gone (by_job j) k) x h = elim (if_is (bytes_eq k key) (barred_removal repos past key r j (decision past r j)) None (Some x) h) [
+  | inl t ↦ inl (go (decision past r j) refl t.1 ((bytes_decides k key).0 t.0))
   | inr t ↦ cc
 ]
   where
-    go : (o : Option Decision) → decided past r j ≡ o → barred_removal repos past key r j o ≡ Some x → k ≡ key → LocalKind repos past key (Some r) (Gone (by_job j) k) x
+    go : (o : Option Decision) → decision past r j ≡ o → barred_removal repos past key r j o ≡ Some x → k ≡ key → LocalKind repos past key (Some r) (Gone (by_job j) k) x
     go None e f same = cc
     go (Some d) e f same = elim (if_is (bytes_eq d.key key) (Some (local_removal repos past r j d)) None (Some x) f) [
       | inl t ↦ (r, (j, (d, (refl, ap (λ y. Gone (by_job j) y) same, e, (bytes_decides d.key key).0 t.0, same_Some _ _ (sym t.1)))))
@@ -435,7 +435,7 @@ removal-kind repos past key (Some r) taken (Gone (Peer p slot) k) x h = elim (if
   where
     go : (o : Option Sent) → sender past r taken ≡ o → sent_order repos past key r p o ≡ Some x → k ≡ key → RemoteKind repos past key (Some r) taken (Gone (Peer p slot) k) x
     go None e f same = cc
-    go (Some s) e f same = elim (if_is (is_of p s.entry) (ordered repos past key r p s s.entry.kind) None (Some x) f) [
+    go (Some s) e f same = elim (if_is (is_of p s.entry) (ordered_removal repos past key r p s s.entry.kind) None (Some x) f) [
       | inl t ↦ let w = ordered-kind repos past key r p s s.entry.kind x t.1 in
           (r, p, slot, (s, (w.0, (w.1.0, (w.1.1.0, (refl, ap (λ y. Gone (Peer p slot) y) same, e, t.0, w.1.1.1.0, w.1.1.1.1))))))
       | inr t ↦ cc
@@ -464,7 +464,7 @@ removal_was repos e past key x h = elim (removal-kind repos past key e.repo e.ta
       })
 ]
 
-pub removal_is : (repos : List RepoView) (e : Entry) (past : List Entry) (r j : ℕ) (key : List ℕ) (d : Decision) → is_of r e ≡ true → e.kind ≡ Gone (by_job j) key → decided past r j ≡ Some d → d.key ≡ key
+pub removal_is : (repos : List RepoView) (e : Entry) (past : List Entry) (r j : ℕ) (key : List ℕ) (d : Decision) → is_of r e ≡ true → e.kind ≡ Gone (by_job j) key → decision past r j ≡ Some d → d.key ≡ key
     → removal repos past key e ≡ Some (local_removal repos past r j d)
 removal_is repos e past r j key d is kind h same = rw (repo_of e r is, kind, bytes_eq-refl key, h, same, bytes_eq-refl key) refl
 

@@ -6,6 +6,7 @@ use Rattle.std.proofs.lemmas.Bool.{true≢false, and_parts, eqb-true, cases_Bool
 use Rattle.std.proofs.lemmas.Option.{same_Some}
 use Rattle.annex_base.specs.Lists.{Member}
 use Rattle.annex_base.proofs.Lists.{list_any_found}
+use Rattle.race_core.proofs.Below.{SentAreRead}
 use Rattle.drop_proof.specs.declared.evidence.Evidence.{Evidence}
 use Rattle.run_data.specs.declared.entry.Entry.{Entry}
 use Rattle.run_data.specs.declared.run.RepoView.{RepoView}
@@ -101,9 +102,9 @@ no_claim run key place r none = elim (cases_Bool (claim_at run key place r)) [
 ]
 
 -- the copies alone, where nothing was trusted
-pub copies_enough : (run : Run) (key : List ℕ) (place least : ℕ) → IsRun run → ((x : Removal) (item : Evidence) → Member x (removals_at run key place) → Member item x.items → is_trusted item.kind ≡ false)
+pub copies_enough : SentAreRead → (run : Run) (key : List ℕ) (place least : ℕ) → IsRun run → ((x : Removal) (item : Evidence) → Member x (removals_at run key place) → Member item x.items → is_trusted item.kind ≡ false)
     → least_need (removals_at run key place) ≡ Some least → least ≤ copies_at run key place
-copies_enough run key place least h none is = subst (λ n. least ≤ n) same (enough_least run key place least h is)
+copies_enough reads_back run key place least h none is = subst (λ n. least ≤ n) same (enough_least reads_back run key place least h is)
   where
     off : (a b : Bool) → b ≡ false → (a || b) ≡ a
     off true b e = refl

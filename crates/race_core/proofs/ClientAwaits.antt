@@ -3,6 +3,7 @@ use Rattle.std.proofs.Common.{◌≡◌, ℕ, ◌+◌, true, false, List, length
 use Rattle.std.specs.Prelude.{if◌then◌else◌, ◌==◌, ◌&&◌, nat_lt, option_map}
 use Rattle.std.proofs.lemmas.Bool.{true≢false, eqb-true, and_parts}
 use Rattle.annex_base.specs.declared.kinds.Word.{Word}
+use Rattle.race_core.proofs.Below.{SentAreRead}
 use Rattle.run_data.specs.declared.entry.Entry.{Entry}
 use Rattle.run_data.specs.declared.entry.FrameView.{FrameView}
 use Rattle.run_data.specs.declared.entry.FrameText.{FrameText}
@@ -45,7 +46,7 @@ way_at r peer slot epoch = record { client = r; server = peer; slot = slot; up =
 way_is : (r peer slot epoch : ℕ) (f : FrameView) → f.up ≡ false → f.peer ≡ peer → f.slot ≡ slot → f.epoch ≡ epoch → way_of r f ≡ way_at r peer slot epoch
 way_is r peer slot epoch f down p n e = rw (down, p, n, e) refl
 
-module _ (s : SetUp) (past : List Entry) (past_is : OwnPast s past) (e : Entry) (f : FrameView) (down : f.up ≡ false)
+module _ (reads_back : SentAreRead) (s : SetUp) (past : List Entry) (past_is : OwnPast s past) (e : Entry) (f : FrameView) (down : f.up ≡ false)
     (answer : is_answer (message_in f.body) ≡ true) (t : TakenBy s past e f) where
   body_answers : is_answering f.body ≡ true
   body_answers = sym (answers_body f.body) ∙ answer
@@ -60,12 +61,12 @@ module _ (s : SetUp) (past : List Entry) (past_is : OwnPast s past) (e : Entry) 
       (answer_epoch (end_at past s.number (job_end t.w t.peer)) f body_answers t.may)
 
   counted : Counted t.w.what.key t.w.what.peer t.w.phase t.peer (counts_at past s.number (job_end t.w t.peer))
-  counted = phases_fit s past past_is t.w t.ran t.peer (live_on t.w.what.peer t.w.phase t.peer t.on) t.opened
+  counted = phases_fit reads_back s past past_is t.w t.ran t.peer (live_on t.w.what.peer t.w.phase t.peer t.on) t.opened
 
   -- **awaits**
   pub taken_awaits : length (requests past (up_of (way_of s.number f))) ≡ taken_if is_answer past (way_of s.number f) + 1
   taken_awaits =
-      let agree = ways_agree s.number t.peer t.w.slot past (all_keep s past past_is t.peer t.w.slot) in
+      let agree = ways_agree s.number t.peer t.w.slot past (all_keep reads_back s past past_is t.peer t.w.slot) in
       let one : unit (awaits_of t.w.what.peer t.w.phase t.peer) ≡ 1 = unit_yes (awaits_of t.w.what.peer t.w.phase t.peer) (awaits_true t.w.what.peer t.w.phase t.peer t.awaiting t.on) in
       subst (λ (w : Way). length (requests past (up_of w)) ≡ taken_if is_answer past w + 1) (sym taken_way)
       (agree.asked ∙ (counted.balance ∙ (ap (λ n. (counts_at past s.number (job_end t.w t.peer)).got + n) one ∙ ap (λ n. n + 1) (sym agree.got))))
@@ -73,12 +74,12 @@ module _ (s : SetUp) (past : List Entry) (past_is : OwnPast s past) (e : Entry) 
   -- the last request of this way is what the phase says
   pub taken_last : (last : Option Request) → option_map asked_by (last_request past (up_of (way_of s.number f))) ≡ last → LastIs t.w.what.key t.w.what.peer t.w.phase t.peer last
   taken_last last is =
-      let agree = ways_agree s.number t.peer t.w.slot past (all_keep s past past_is t.peer t.w.slot) in
+      let agree = ways_agree s.number t.peer t.w.slot past (all_keep reads_back s past past_is t.peer t.w.slot) in
       let same : option_map asked_by (last_request past (up_of (way_of s.number f))) ≡ (counts_at past s.number (job_end t.w t.peer)).last =
       ap (λ (w : Way). option_map asked_by (last_request past (up_of w))) taken_way ∙ agree.last in
       subst (LastIs t.w.what.key t.w.what.peer t.w.phase t.peer) (sym same ∙ is) counted.last
 
 -- **J4, awaits**: an entry of the repository that takes an answer awaits it
-pub own_awaits : (s : SetUp) (past : List Entry) → OwnPast s past → (words : ℕ → Option Word) (e : Entry) → OwnPart s past words e
+pub own_awaits : SentAreRead → (s : SetUp) (past : List Entry) → OwnPast s past → (words : ℕ → Option Word) (e : Entry) → OwnPart s past words e
     → (f : FrameView) → e.taken ≡ Some f → f.up ≡ false → is_answer (message_in f.body) ≡ true → length (requests past (up_of (way_of s.number f))) ≡ taken_if is_answer past (way_of s.number f) + 1
-own_awaits s past past_is words e own f took down answer = taken_awaits s past past_is e f down answer (taken_of s past e (taker s past words e own f took down) f took)
+own_awaits reads_back s past past_is words e own f took down answer = taken_awaits reads_back s past past_is e f down answer (taken_of s past e (taker s past words e own f took down) f took)

@@ -6,6 +6,7 @@ use Rattle.annex_base.specs.Lists.{Each, Member}
 use Rattle.annex_base.specs.declared.kinds.Word.{Word}
 use Rattle.annex_base.proofs.Lists.{Each-filter, filter_none}
 use Rattle.annex_base.proofs.Conditions.{eqb_refl}
+use Rattle.race_core.proofs.Below.{SentAreRead}
 use Rattle.run_data.specs.declared.entry.Entry.{Entry}
 use Rattle.run_data.specs.declared.entry.EntryKind.TheVariants.{Begin, End as ends_job}
 use Rattle.run_data.specs.declared.entry.FrameView.{FrameView}
@@ -52,7 +53,7 @@ pub record Moved (s : SetUp) (past : List Entry) (e : Entry) (x : Work) : Type 0
 abbrev pub ClientDoes : SetUp → List Entry → Entry → Work → EndName → Type 0
 ClientDoes s past e x a = Quiet s past e x a ⊎ Moved s past e x
 
-module _ (s : SetUp) (past : List Entry) (e : Entry) (run : OwnRun s (e ∷ past)) (is : is_of s.number e ≡ true) (x : Work) (p : ℕ) (now : (end_at (e ∷ past) s.number (job_end x p)).opened ≡ true) where
+module _ (reads_back : SentAreRead) (s : SetUp) (past : List Entry) (e : Entry) (run : OwnRun s (e ∷ past)) (is : is_of s.number e ≡ true) (x : Work) (p : ℕ) (now : (end_at (e ∷ past) s.number (job_end x p)).opened ≡ true) where
   abbrev a : EndName
   a = job_end x p
 
@@ -101,7 +102,7 @@ module _ (s : SetUp) (past : List Entry) (e : Entry) (run : OwnRun s (e ∷ past
     | inl z ↦ steps z
     | inr z ↦ (let may = subst (MayCome s (state_of s past) e.lines e.sent) b.kind_is z.may in
         let shuts : Shuts (job_end (new_work (works past s.number) b.job b.what) p) e = record { takes_none = ap (taken_at (job_end (new_work (works past s.number) b.job b.what) p)) z.takes_none; closes = subst (λ fs. Each (λ g. g.body ≡ Closing) (sent_at (job_end (new_work (works past s.number) b.job b.what) p) fs)) (sym may.2) tt } in
-        let closed = shut s past run.1 b.job b.what p may.0.slot_free in
+        let closed = shut reads_back s past run.1 b.job b.what p may.0.slot_free in
         let after : end_at (e ∷ past) s.number (job_end (new_work (works past s.number) b.job b.what) p) ≡ end_at past s.number (job_end (new_work (works past s.number) b.job b.what) p) =
         end_own s.number past (job_end (new_work (works past s.number) b.job b.what) p) e is ∙ (end_shuts (job_end (new_work (works past s.number) b.job b.what) p) (end_at past s.number (job_end (new_work (works past s.number) b.job b.what) p)) e shuts
         ∙ ap (λ fs. sends_all (end_at past s.number (job_end (new_work (works past s.number) b.job b.what) p)) (sent_at (job_end (new_work (works past s.number) b.job b.what) p) fs)) may.2) in

@@ -6,6 +6,7 @@ use Rattle.std.specs.List.{list_all}
 use Rattle.annex_base.specs.Lists.{Each}
 use Rattle.annex_base.specs.declared.kinds.Word.{Word}
 use Rattle.annex_base.proofs.Lists.{Each-filter, find_member}
+use Rattle.race_core.proofs.Below.{SentAreRead}
 use Rattle.run_data.specs.declared.entry.Entry.{Entry}
 use Rattle.run_data.specs.declared.entry.EntryKind.{EntryKind}
 use Rattle.run_data.specs.declared.entry.EntryKind.TheVariants.{Gain, Share, Bar, Gone, Order, Talk, Fault, End as ends_job}
@@ -200,7 +201,7 @@ module _ (s : SetUp) (past : List Entry) (k : Look) (w : Work) (m : Made) (does 
 
 -- ---- an own entry
 
-module _ (s : SetUp) (past : List Entry) (h : OwnPast s past) where
+module _ (reads_back : SentAreRead) (s : SetUp) (past : List Entry) (h : OwnPast s past) where
   owed_sends : (a : EndName) (k : Look) (m : Made) → ByOwed s (state_of s past) k m → Sends s past a (entry_of s.number k m)
   owed_sends a k m o = nothing_sent s past a (entry_of s.number k m) (elim (o.writes) [ inl w ↦ ap (λ (y : Made). y.sent) w | inr w ↦ ap (λ (y : Made). y.sent) w ])
 
@@ -227,7 +228,7 @@ module _ (s : SetUp) (past : List Entry) (h : OwnPast s past) where
       by_slot slot None is g = absurd (cc)
       by_slot slot (Some w) is g =
           let runs = (find_member (λ (y : Work). y.slot == slot) (works past s.number) w is).0 in
-          kind_sends s past k w m g may a m.kind (partner_found (turn_of s (state_of s past) k w) m (partner w.what.peer w.phase) refl g).found (unlock_read s past h.run w runs)
+          kind_sends s past k w m g may a m.kind (partner_found (turn_of s (state_of s past) k w) m (partner w.what.peer w.phase) refl g).found (unlock_read reads_back s past h.run w runs)
 
   own_sends : (words : ℕ → Option Word) (e : Entry) → OwnPart s past words e → (peer slot : ℕ) → Sends s past (client_end peer slot) e
   own_sends words e own peer slot = elim (own.does) [
@@ -254,8 +255,8 @@ module _ (s : SetUp) (past : List Entry) (h : OwnPast s past) where
   }
 
 -- every client's end keeps to its epochs
-pub all_keep : (s : SetUp) (past : List Entry) → OwnPast s past → (peer slot : ℕ) → KeepsAll s.number (client_end peer slot) past
-all_keep s [] h peer slot = tt
-all_keep s (e ∷ past) h peer slot =
+pub all_keep : SentAreRead → (s : SetUp) (past : List Entry) → OwnPast s past → (peer slot : ℕ) → KeepsAll s.number (client_end peer slot) past
+all_keep reads_back s [] h peer slot = tt
+all_keep reads_back s (e ∷ past) h peer slot =
     let before = earlier s past e h in
-    ((λ is. own_keeps s past before (h.run.0 is).0 e (h.run.0 is).1 peer slot), all_keep s past before peer slot)
+    ((λ is. own_keeps reads_back s past before (h.run.0 is).0 e (h.run.0 is).1 peer slot), all_keep reads_back s past before peer slot)

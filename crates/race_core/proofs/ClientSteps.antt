@@ -29,14 +29,14 @@ use Rattle.p2p_wire.specs.Messages.{order_of, message_of, text_of}
 use Rattle.node_model.specs.Ends.{may_take, takes_at}
 use Rattle.node_model.specs.Sessions.{line_in, reaches}
 use Rattle.node_model.specs.Jobs
-use Rattle.node_model.specs.Jobs.{Part, Gets, Puts, Drops, Phase, Rows, Fresh, Next, Opens, Greets, GetsData, GetsBytes, GetsWord, PutsOffer, PutsBytes, PutsWord, PutsAnswer, AsksLock, AsksLook, AsksTime, Removed, Denied, Late, Ends, Work, fault_of, fault_phase, first_look, gets_more, puts_more, is_move, job_end, listens, partner, quiet, says, side_of, taken_message, took, transferred, unreleased}
+use Rattle.node_model.specs.Jobs.{Part, Gets, Puts, Drops, Phase, Rows, Fresh, Next, Opens, Greets, GetsData, GetsBytes, GetsWord, PutsOffer, PutsBytes, PutsWord, PutsAnswer, AsksLock, AsksLook, AsksTime, Removed, Denied, Late, Ends, Work, fault_of, fault_phase, first_look, gets_more, puts_more, is_move, job_end, listens, partner, quiet, says, side_of, taken_message, took, after_transfer, after_failed_release}
 use Rattle.node_model.specs.Calls.{to_commit, to_hold, to_release, to_resume, to_read}
 use Rattle.node_model.specs.Look.{Made, failing, unless, waiting}
 use Rattle.annex_base.specs.Calls.{same_call}
 use Rattle.node_model.specs.SessionStep.{bytes_left}
 use Rattle.node_model.specs.Knows.{enough_by, next_by}
 use Rattle.node_model.specs.JobStep.{Turn, hears, attempts, bar_there, by_me, clock_of, end_with, ends, farewells, is_there, key_of, me, owns_share, quietly, says_to, sends_to, talk, wrong}
-use Rattle.node_model.specs.DropStep.{takes_drop, takes_time, asks_copy, asks_lock, asks_target, bars, expired, first_drop, first_end, first_remote, held_until, in_time, lacking, need_now, orders, own_share, removes, required_there, row_refusal, target, times, tries_own}
+use Rattle.node_model.specs.DropStep.{takes_drop, takes_time, asks_copy, asks_lock, asks_target, bars, expiry, first_drop, first_end, first_remote, held_until, in_time, lacking, need_now, orders, own_share, removes, required_there, row_refusal, target, times, tries_own}
 use Rattle.node_model.specs.Requests.{asks, goes_to}
 use Rattle.node_model.specs.TransferStep.{takes_get, takes_put, content_of, first_get, first_put, gains, next_get, next_source, puts_from, puts_piece, takes_bytes}
 use Rattle.node_model.specs.Turns.{takes_answer, awaits, by_partner, goes_on, has_room, needs, with_partner, is_awaiting, first_step, goes, judges, next_step, outcome_of, takes, takes_frame, takes_text}
@@ -132,7 +132,7 @@ release_is true calls.Unhold e = refl
 release_is true call e = absurd (cc)
 release_is false call e = absurd (cc)
 
-unreleased_alone : (target : Option ℕ) (w : Work) (time : ℕ) (phase : Phase) → partner target w.phase ≡ None → partner target (unreleased w time phase).phase ≡ None
+unreleased_alone : (target : Option ℕ) (w : Work) (time : ℕ) (phase : Phase) → partner target w.phase ≡ None → partner target (after_failed_release w time phase).phase ≡ None
 unreleased_alone target w time AsksTime alone = refl
 unreleased_alone target w time phase alone = alone
 
@@ -141,7 +141,7 @@ ends_even t alone live outcome =
     let rest : Made = record { kind = ends_job t.w.number outcome; taken = None; sent = farewells t (is_lost_ordered outcome); lines = [] } in
     attempts_even (EvenMade t) t (to_release (owns_share t && not (is_lost_ordered outcome))) None rest
     (λ call e. subst (λ (c : Call). EvenMade t (quietly (Fault c (by_me t)) None)) (sym (release_is (owns_share t && not (is_lost_ordered outcome)) call e))
-    (still_even t alone live (Fault calls.Unhold (by_me t)) (unreleased t.w t.look.time t.w.phase).phase (unreleased_alone t.w.what.peer t.w t.look.time t.w.phase alone))) tt
+    (still_even t alone live (Fault calls.Unhold (by_me t)) (after_failed_release t.w t.look.time t.w.phase).phase (unreleased_alone t.w.what.peer t.w t.look.time t.w.phase alone))) tt
 
 -- the end of a job that is to end
 dead_even : (t : Turn) → (IsLive t.w.phase → ⊥) → (outcome : Outcome) → EvenMade t (ends t None outcome)
@@ -149,9 +149,9 @@ dead_even t dead outcome =
     let rest : Made = record { kind = ends_job t.w.number outcome; taken = None; sent = farewells t (is_lost_ordered outcome); lines = [] } in
     attempts_even (EvenMade t) t (to_release (owns_share t && not (is_lost_ordered outcome))) None rest
     (λ call e. subst (λ (c : Call). EvenMade t (quietly (Fault c (by_me t)) None)) (sym (release_is (owns_share t && not (is_lost_ordered outcome)) call e))
-    (over_even t (quietly (Fault calls.Unhold (by_me t)) None) (unreleased t.w t.look.time t.w.phase).phase (still_dead t.w.phase refl))) tt
+    (over_even t (quietly (Fault calls.Unhold (by_me t)) None) (after_failed_release t.w t.look.time t.w.phase).phase (still_dead t.w.phase refl))) tt
   where
-    still_dead : (phase : Phase) → t.w.phase ≡ phase → IsLive (unreleased t.w t.look.time phase).phase → ⊥
+    still_dead : (phase : Phase) → t.w.phase ≡ phase → IsLive (after_failed_release t.w t.look.time phase).phase → ⊥
     still_dead AsksTime is l = dead (subst IsLive (sym is) tt)
     still_dead phase is l = dead l
 
@@ -283,10 +283,10 @@ module _ (t : Turn) (alone : partner t.w.what.peer t.w.phase ≡ None) (live : I
   first_step_even Drops = drop_first (side_of t.w)
 
   removes_even : EvenMade t (removes t)
-  removes_even = if_either (EvenMade t) (in_time (clock_of t) (first_end t)) (attempts t (calls.Remove ∷ []) None (quietly (Gone (by_me t) (key_of t)) None)) (ends t None (expired (clock_of t) (first_end t)))
+  removes_even = if_either (EvenMade t) (in_time (clock_of t) (first_end t)) (attempts t (calls.Remove ∷ []) None (quietly (Gone (by_me t) (key_of t)) None)) (ends t None (expiry (clock_of t) (first_end t)))
       (λ e. attempts_even (EvenMade t) t (calls.Remove ∷ []) None (quietly (Gone (by_me t) (key_of t)) None) (λ call h. fault_even t alone live call (plain_in call (calls.Remove ∷ []) refl refl h))
       (still_even t alone live (Gone (by_me t) (key_of t)) Removed refl))
-      (λ e. ends_even t alone live (expired (clock_of t) (first_end t)))
+      (λ e. ends_even t alone live (expiry (clock_of t) (first_end t)))
 
   judges_even : (enough : Bool) (next : Option ℕ) (side : Side) → EvenMade t (judges t enough next side)
   judges_even false (Some peer) side = goes_to_even peer
@@ -317,7 +317,7 @@ rests t next peer none = record {
   any = λ l. last_away (key_of t) t.w.what.peer next peer l (none_is (partner t.w.what.peer next) peer none);
 }
 
-transferred_alone : (target : Option ℕ) (x : Work) (outcome : Outcome) → partner target (transferred x outcome).phase ≡ None
+transferred_alone : (target : Option ℕ) (x : Work) (outcome : Outcome) → partner target (after_transfer x outcome).phase ≡ None
 transferred_alone target x outcome =
     if_either (λ (y : Work). partner target y.phase ≡ None) (is_move x.what.kind) (record x { part = Drops; phase = Fresh; fills = false }) (record x { phase = Ends outcome; fills = false }) (λ e. refl) (λ e. refl)
 
@@ -368,7 +368,7 @@ module _ (t : Turn) (f : FrameView) (peer : ℕ) (x : Taking t f peer) (speaks :
       let rest : Made = record { kind = ends_job t.w.number outcome; taken = Some f; sent = farewells t (is_lost_ordered outcome); lines = [] } in
       attempts_even (EvenMade t) t (to_release (owns_share t && not (is_lost_ordered outcome))) (Some f) rest
       (λ call e. subst (λ (c : Call). EvenMade t (quietly (Fault c (by_me t)) (Some f))) (sym (release_is (owns_share t && not (is_lost_ordered outcome)) call e))
-      (subst (λ (p : Phase). EvenTo t (quietly (Fault calls.Unhold (by_me t)) (Some f)) (unreleased t.w t.look.time p).phase) (sym is)
+      (subst (λ (p : Phase). EvenTo t (quietly (Fault calls.Unhold (by_me t)) (Some f)) (after_failed_release t.w t.look.time p).phase) (sym is)
       (hears_to t (Fault calls.Unhold (by_me t)) f peer x (Late t.look.time) (answers_line f.body (Timestamp n) told refl) (inl refl) refl (λ l e. absurd (true≢false (sym e)))))) tt
 
   times_even : (n : ℕ) → nat_lt n (2 ^ 61) ≡ true → t.w.part ≡ Drops → side_of t.w ≡ Remote → t.w.phase ≡ AsksTime → line_in f.body ≡ Some (Timestamp n)
@@ -416,8 +416,8 @@ module _ (t : Turn) (f : FrameView) (peer : ℕ) (x : Taking t f peer) (speaks :
 
   gains_even : (p start size : ℕ) → t.w.phase ≡ GetsWord p start size → line_in f.body ≡ Some Valid → (right : Bool) → EvenMade t (gains t f peer size right)
   gains_even p start size is told true = subst (λ (q : Phase). EvenTo t (says_to t (Gain (by_me t) size (key_of t)) (Some f) peer Success) (Jobs.gained t.w q).phase) (sym is)
-      (let r = rests t (transferred t.w (Got (Some p) (Some start))).phase peer (transferred_alone t.w.what.peer t.w (Got (Some p) (Some start))) in
-      tells_to t (Gain (by_me t) size (key_of t)) f peer x Success (transferred t.w (Got (Some p) (Some start))).phase (answers_line f.body Valid told refl) success_reads refl r.stays r.now r.any)
+      (let r = rests t (after_transfer t.w (Got (Some p) (Some start))).phase peer (transferred_alone t.w.what.peer t.w (Got (Some p) (Some start))) in
+      tells_to t (Gain (by_me t) size (key_of t)) f peer x Success (after_transfer t.w (Got (Some p) (Some start))).phase (answers_line f.body Valid told refl) success_reads refl r.stays r.now r.any)
   gains_even p start size is told false = refused_even p start size Valid is told refl
 
   commit_plain : (right : Bool) (call : Call) → list_any (same_call call) (to_commit right) ≡ true → is_plain call ≡ true
@@ -446,12 +446,12 @@ module _ (t : Turn) (f : FrameView) (peer : ℕ) (x : Taking t f peer) (speaks :
       (ap (λ (o : Option Message). Jobs.put_from peer k o) told) r.stays r.now r.any) (λ e. bad))
 
   put_even : (phase : Phase) (m : Message) → t.w.phase ≡ phase → line_in f.body ≡ Some m → EvenMade t (takes_put t f peer phase m)
-  put_even (PutsOffer p) AlreadyHave is told = heard_even (PutsOffer p) AlreadyHave (transferred (talker t (Some f)) (Copied None)).phase is told refl refl (transferred_alone t.w.what.peer (talker t (Some f)) (Copied None))
+  put_even (PutsOffer p) AlreadyHave is told = heard_even (PutsOffer p) AlreadyHave (after_transfer (talker t (Some f)) (Copied None)).phase is told refl refl (transferred_alone t.w.what.peer (talker t (Some f)) (Copied None))
   put_even (PutsOffer p) Failure is told = heard_even (PutsOffer p) Failure (Ends (TransferRefused failures.Rejected)) is told refl refl refl
   put_even (PutsOffer p) (Error text) is told = if_either (EvenMade t) (bytes_eq text (codes "busy")) (hears t f) (wrong t f peer)
       (λ e. heard_even (PutsOffer p) (Error text) (Ends (TransferRefused failures.Busy)) is told e refl refl) (λ e. bad)
   put_even (PutsOffer p) (PutFrom n) is told = from_even p n is told
-  put_even (PutsAnswer p start) Success is told = heard_even (PutsAnswer p start) Success (transferred (talker t (Some f)) (Copied (Some start))).phase is told refl refl (transferred_alone t.w.what.peer (talker t (Some f)) (Copied (Some start)))
+  put_even (PutsAnswer p start) Success is told = heard_even (PutsAnswer p start) Success (after_transfer (talker t (Some f)) (Copied (Some start))).phase is told refl refl (transferred_alone t.w.what.peer (talker t (Some f)) (Copied (Some start)))
   put_even (PutsAnswer p start) Failure is told = heard_even (PutsAnswer p start) Failure (Ends (TransferRefused failures.Rejected)) is told refl refl refl
   put_even phase m is told = bad
 

@@ -4,6 +4,7 @@ use Rattle.std.proofs.lemmas.Bool.Decides.{nat_tests}
 use Rattle.std.specs.Prelude.{if◌then◌else◌, ◌==◌, ◌||◌}
 use Rattle.std.specs.List.{list_any}
 use Rattle.annex_base.specs.Lists.{Each, Member}
+use Rattle.race_core.proofs.Below.{SentAreRead}
 use Rattle.run_data.specs.declared.entry.Entry.{Entry}
 use Rattle.run_data.specs.declared.entry.FrameView.{FrameView}
 use Rattle.run_data.specs.declared.entry.FrameText.{FrameText}
@@ -192,7 +193,7 @@ each_more : (P : SourceFailure → Type 0) (xs : List SourceFailure) (x : Source
 each_more P [] x a p = (p, tt)
 each_more P (y ∷ xs) x a p = (a.0, each_more P xs x a.1 p)
 
-module _ (s : SetUp) (p : List Entry) (e : Entry) (h : OwnPast s (e ∷ p)) (is : is_of s.number e ≡ true) (x : Work) (b : Steps s p e x) where
+module _ (reads_back : SentAreRead) (s : SetUp) (p : List Entry) (e : Entry) (h : OwnPast s (e ∷ p)) (is : is_of s.number e ≡ true) (x : Work) (b : Steps s p e x) where
   abbrev v : Work
   v = b.by.w
 
@@ -227,7 +228,7 @@ module _ (s : SetUp) (p : List Entry) (e : Entry) (h : OwnPast s (e ∷ p)) (is 
       valid_now : (f : FrameView) → e.taken ≡ Some f → line_in f.body ≡ Some Valid → partner v.what.peer v.phase ≡ Some z.peer → SourceToldOf (e ∷ p) s.number v.number v.what.key z.peer sources.Wrong
       valid_now f took valid on =
           let first : list_any (says is_failure) e.sent ≡ true = subst (λ fs. list_any (says is_failure) fs ≡ true) (sym z.says.sent_is) (yes_first (says is_failure z.says.f) (list_any (says is_failure) z.says.rest) (ap is_failure (said_is z.says.f.body Failure z.says.told))) in
-          (record { entry = e; before = p; occurs = inl (refl, refl); own = stepped_own s p e b.by is; f = f; takes_it = took; peer_is = took_peer s p e b.by is f took z.peer on; down = (hears s p e b.by f took).1; says = said_is f.body Valid valid }, first)
+          (record { entry = e; before = p; occurs = inl (refl, refl); own = stepped_own s p e b.by is; f = f; takes_it = took; peer_is = took_peer reads_back s p e b.by is f took z.peer on; down = (hears s p e b.by f took).1; says = said_is f.body Valid valid }, first)
         where
           yes_first : (a c : Bool) → a ≡ true → (a || c) ≡ true
           yes_first true c h = refl
@@ -235,7 +236,7 @@ module _ (s : SetUp) (p : List Entry) (e : Entry) (h : OwnPast s (e ∷ p)) (is 
 
       asked_now : (f : FrameView) → e.taken ≡ Some f → line_in f.body ≡ Some Invalid → partner v.what.peer v.phase ≡ Some z.peer → Answers (e ∷ p) s.number v.number z.peer (Says (Get z.start [] v.what.key)) (Says Invalid)
       asked_now f took invalid on =
-          let a = answers_now s p e b.by is before f took Invalid (λ m. m ≡ Get z.start [] v.what.key) invalid refl z.peer on
+          let a = answers_now reads_back s p e b.by is before f took Invalid (λ m. m ≡ Get z.start [] v.what.key) invalid refl z.peer on
           (λ last l. let y = subst (λ (q : Phase). LastIs v.what.key v.what.peer q z.peer last) z.phase_is l refl in (y.0, Get z.start [] v.what.key, refl, y.1)) in
           subst (λ m. Answers (e ∷ p) s.number v.number z.peer (Says m) (Says Invalid)) a.1 a.2
 
@@ -248,8 +249,8 @@ module _ (s : SetUp) (p : List Entry) (e : Entry) (h : OwnPast s (e ∷ p)) (is 
       (each_more (λ y. SourceToldOf (e ∷ p) s.number v.number v.what.key y.repo y.cause) v.causes (record { repo = a.peer; cause = source_cause a.start (taken_message e.taken) }) (sources_grow s.number e p (running v) v.what.key v.causes was) (word_cause a))
 
 -- **each cause of a get's peers stands in its entries**
-pub sources_told : (s : SetUp) (past : List Entry) → OwnPast s past → ShutsTold s past → (w : Work) → Member w (works past s.number) → SourcesTold s.number past (running w) w.causes
-sources_told s past h told w m = invariant s (λ p x. OwnPast s p → ShutsTold s p → SourcesTold s.number p (running x) x.causes) (λ p e is x n was h told. sources_grow s.number e p (running x) x.what.key x.causes (was (earlier s p e h) told.1)) own past h.run w m h told
+pub sources_told : SentAreRead → (s : SetUp) (past : List Entry) → OwnPast s past → ShutsTold s past → (w : Work) → Member w (works past s.number) → SourcesTold s.number past (running w) w.causes
+sources_told reads_back s past h told w m = invariant s (λ p x. OwnPast s p → ShutsTold s p → SourcesTold s.number p (running x) x.causes) (λ p e is x n was h told. sources_grow s.number e p (running x) x.what.key x.causes (was (earlier s p e h) told.1)) own past h.run w m h told
   where
     own : (p : List Entry) (e : Entry) → OwnRun s (e ∷ p) → is_of s.number e ≡ true → ((x : Work) → Member x (works p s.number) → OwnPast s p → ShutsTold s p → SourcesTold s.number p (running x) x.causes)
         → (x : Work) → Origin s p e x → OwnPast s (e ∷ p) → ShutsTold s (e ∷ p) → SourcesTold s.number (e ∷ p) (running x) x.causes
@@ -258,4 +259,4 @@ sources_told s past h told w m = invariant s (λ p x. OwnPast s p → ShutsTold 
     own p e run is was x (inr (inr b)) h told =
         let v = b.by.w in
         subst (λ (j : Running). SourcesTold s.number (e ∷ p) j x.causes) (sym (same_job s p e x b))
-        (causes_now s p e h is x b told.0 (was v (step_runs s p e x b) (earlier s p e h) told.1) (subst (Causes (rows_at p s.number) v e) (sym b.work_is) (kind_carries (rows_at p s.number) s.number v e e.kind).2))
+        (causes_now reads_back s p e h is x b told.0 (was v (step_runs s p e x b) (earlier s p e h) told.1) (subst (Causes (rows_at p s.number) v e) (sym b.work_is) (kind_carries (rows_at p s.number) s.number v e e.kind).2))

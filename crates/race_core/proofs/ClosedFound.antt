@@ -4,6 +4,7 @@ use Rattle.std.specs.Prelude.{◌&&◌, length, map, slice_get, take}
 use Rattle.std.specs.List.{list_any}
 use Rattle.annex_base.specs.Lists.{Each, Member}
 use Rattle.annex_base.specs.declared.kinds.Word.{Word}
+use Rattle.race_core.proofs.Below.{SentAreRead}
 use Rattle.drop_proof.specs.declared.rule.Side.{Side}
 use Rattle.drop_proof.specs.declared.rule.Side.TheVariants.{Local, Remote}
 use Rattle.run_data.specs.declared.entry.Entry.{Entry}
@@ -24,10 +25,10 @@ use Rattle.node_model.specs.SetUp.{SetUp}
 use Rattle.node_model.specs.Jobs
 use Rattle.node_model.specs.Jobs.{AsksTime, Denied, Drops, Ends, Fresh, Late, Next, Orders, Phase, Removed, Work, partner, running, side_of}
 use Rattle.run_model.specs.States.{works}
-use Rattle.node_model.specs.Knows.{obeyed, proof_by}
+use Rattle.node_model.specs.Knows.{obeyed_outcome, proof_by}
 use Rattle.node_model.specs.JobStep.{Turn}
 use Rattle.node_model.specs.DropStep
-use Rattle.node_model.specs.DropStep.{removed, target}
+use Rattle.node_model.specs.DropStep.{removal_outcome, target}
 use Rattle.node_model.specs.Found.{Settled}
 use Rattle.node_model.specs.TransferStep.{sources}
 use Rattle.node_model.specs.Turns.{outcome_of}
@@ -84,7 +85,7 @@ sources_same : (t : Turn) (o : Option ℕ) → sources t o ≡ sources_of t.read
 sources_same t None = refl
 sources_same t (Some peer) = refl
 
-module _ (s : SetUp) (past : List Entry) (words : ℕ → Option Word) (e : Entry) (h : OwnPast s past) (own : OwnPart s past words e) (told : ShutsTold s past) (j : ℕ) where
+module _ (reads_back : SentAreRead) (s : SetUp) (past : List Entry) (words : ℕ → Option Word) (e : Entry) (h : OwnPast s past) (own : OwnPart s past words e) (told : ShutsTold s past) (j : ℕ) where
   abbrev r : ℕ
   r = s.number
 
@@ -94,7 +95,7 @@ module _ (s : SetUp) (past : List Entry) (words : ℕ → Option Word) (e : Entr
       let x = ending s past words e own j (Refused (refusals.Lost ordered)) is in
       subst (λ n. WasLost past r n ordered) (sym x.number_is) (elim (x.why) [
         | inl y ↦ absurd y
-        | inr y ↦ settled x (drop_settled (turn_at s past e x.by) past (refusals.Lost ordered) x.by.made.taken (stands s past h x.by.w x.runs) y)
+        | inr y ↦ settled x (drop_settled (turn_at s past e x.by) past (refusals.Lost ordered) x.by.made.taken (stands reads_back s past h x.by.w x.runs) y)
       ])
     where
       settled : (x : Ending s past e j (Refused (refusals.Lost ordered))) → DropSettled (turn_at s past e x.by) past (refusals.Lost ordered) → WasLost past r x.by.w.number ordered
@@ -121,9 +122,9 @@ module _ (s : SetUp) (past : List Entry) (words : ℕ → Option Word) (e : Entr
           d = job_of s past h w x.runs;
           all = ap (map (λ (z : SourceFailure). z.repo)) y.2 ∙ order w x.runs y.0
               ∙ take_all (sources_of r (length s.repos) w.what.peer) (length w.causes) (ap (λ xs. slice_get xs (length w.causes)) (sym (sources_same t w.what.peer)) ∙ y.1);
-          causes = subst (Each (λ z. SourceCauseOf past r w.number w.what.key z.repo z.cause)) (sym y.2) (sources_found past fit r w.number w.what.key w.causes (sources_told s past h told w x.runs));
+          causes = subst (Each (λ z. SourceCauseOf past r w.number w.what.key z.repo z.cause)) (sym y.2) (sources_found past fit r w.number w.what.key w.causes (sources_told reads_back s past h told w x.runs));
         }
-        | inr y ↦ elim (transfer_settled t past (failures.NoSource reasons) x.by.made.taken (stands s past h w x.runs) y) [ inl z ↦ absurd z | inr z ↦ absurd (cc) ]
+        | inr y ↦ elim (transfer_settled t past (failures.NoSource reasons) x.by.made.taken (stands reads_back s past h w x.runs) y) [ inl z ↦ absurd z | inr z ↦ absurd (cc) ]
       ])
 
   -- **Closed**
@@ -147,12 +148,12 @@ module _ (s : SetUp) (past : List Entry) (words : ℕ → Option Word) (e : Entr
           kind : x.by.made.kind ≡ ends_job j (TransferRefused failures.Closed)
           kind = sym (ap (λ (q : Entry). q.kind) x.by.is) ∙ is
 
-          by_word : (word : Option Word) → TransferRefused failures.Closed ≡ obeyed word (proof_by t.read t.w) → ⊥
+          by_word : (word : Option Word) → TransferRefused failures.Closed ≡ obeyed_outcome word (proof_by t.read t.w) → ⊥
           by_word None e = absurd (cc)
           by_word (Some Word.Absent) e = absurd (cc)
           by_word (Some v) e = absurd (cc)
 
-          by_side : (side : Side) → TransferRefused failures.Closed ≡ removed side t → ⊥
+          by_side : (side : Side) → TransferRefused failures.Closed ≡ removal_outcome side t → ⊥
           by_side Local e = by_word None e
           by_side Remote e = by_word (t.look.words (target t)) e
 
@@ -180,6 +181,6 @@ module _ (s : SetUp) (past : List Entry) (words : ℕ → Option Word) (e : Entr
           go (Late time) at o = absurd (by_end (DropStep.first_end t) (t.clock time) o)
           go Fresh at o = absurd (rest Fresh at tt)
           go Next at o = absurd (rest Next at tt)
-          go AsksTime at o = absurd (no_target (only_time w.part (subst (Fits w.part) at (works_fit s past h.run w x.runs))) (subst (Stands r past (running w)) at (stands s past h w x.runs)) (alone AsksTime at))
-          go Orders at o = absurd (no_target (only_orders w.part (subst (Fits w.part) at (works_fit s past h.run w x.runs))) (subst (Stands r past (running w)) at (stands s past h w x.runs)) (alone Orders at))
+          go AsksTime at o = absurd (no_target (only_time w.part (subst (Fits w.part) at (works_fit s past h.run w x.runs))) (subst (Stands r past (running w)) at (stands reads_back s past h w x.runs)) (alone AsksTime at))
+          go Orders at o = absurd (no_target (only_orders w.part (subst (Fits w.part) at (works_fit s past h.run w x.runs))) (subst (Stands r past (running w)) at (stands reads_back s past h w x.runs)) (alone Orders at))
           go phase at o = absurd (let none = alone phase at in cc)

@@ -5,6 +5,7 @@ use Rattle.std.specs.Prelude.{◌==◌, ◌&&◌, find, option_map}
 use Rattle.std.proofs.lemmas.Bool.{true≢false, and_parts, eqb-true}
 use Rattle.annex_base.specs.Lists.{Each, Member}
 use Rattle.annex_base.proofs.Lists.{Member-filter_parts, find_member}
+use Rattle.race_core.proofs.Below.{SentAreRead}
 use Rattle.run_data.specs.declared.entry.Entry.{Entry}
 use Rattle.run_data.specs.declared.entry.EntryKind.{EntryKind}
 use Rattle.run_data.specs.declared.entry.EntryKind.TheVariants.{End as ends_job}
@@ -131,7 +132,7 @@ greets_told z o a = absurd a
 
 -- ---- an entry of the client
 
-module _ (run : Run) (repos : Each IsSetUp run.repos) (past : List Entry) (e : Entry) (h : RunPast (set_up run) past) (step : RunStep (set_up run) past e) (r : ℕ) (own : is_of r e ≡ true) (was : Conversing past r) where
+module _ (reads_back : SentAreRead) (run : Run) (repos : Each IsSetUp run.repos) (past : List Entry) (e : Entry) (h : RunPast (set_up run) past) (step : RunStep (set_up run) past e) (r : ℕ) (own : is_of r e ≡ true) (was : Conversing past r) where
   abbrev s : SetUp
   s = set_up run r
 
@@ -221,11 +222,11 @@ module _ (run : Run) (repos : Each IsSetUp run.repos) (past : List Entry) (e : E
 
     walks : Walks t
     walks = record {
-      speaks = works_speak s past y.look own_p y.small w runs;
+      speaks = works_speak reads_back s past y.look own_p y.small w runs;
       fits = works_fit s past own_p.run w runs;
       no_locks = λ apart peer. free peer apart;
       target_free = (free_of s past own_p.run w runs).target_free;
-      times_remote = λ is. subst (Stands r past (running w)) is (stands s past own_p w runs);
+      times_remote = λ is. subst (Stands r past (running w)) is (stands reads_back s past own_p w runs);
     }
 
     waits_suit : WaitsSuit t m
@@ -344,7 +345,7 @@ module _ (run : Run) (repos : Each IsSetUp run.repos) (past : List Entry) (e : E
             epoch_now = ap (λ (z : End). z.epoch) after ∙ (ap (λ o. (sends_all (end_took c o) (sent_at a m.sent)).epoch) o.takes_none ∙ all.1)
 
             low : (end_at past p b).epoch ≤ c.epoch
-            low = follows run repos past h r p w.slot (λ same. p_other (sym same))
+            low = follows reads_back run repos past h r p w.slot (λ same. p_other (sym same))
 
             later : (end_at past p b).epoch < c.epoch + 1
             later = less (end_at past p b).epoch c.epoch low
@@ -357,10 +358,10 @@ module _ (run : Run) (repos : Each IsSetUp run.repos) (past : List Entry) (e : E
 
             up_now : Queue (e ∷ past) (up_way r p w.slot (c.epoch + 1)) (Opening ∷ [])
             up_now = subst (Queue (e ∷ past) (up_way r p w.slot (c.epoch + 1))) (ap bodies sent_made ∙ o.opens)
-                (out_all r a (c.epoch + 1) past e own other [] (subst (Each (λ g. g.epoch ≡ c.epoch + 1)) (sym sent_made) all.0) (none_yet run repos past h r a (c.epoch + 1) (next_later c.epoch)))
+                (out_all r a (c.epoch + 1) past e own other [] (subst (Each (λ g. g.epoch ≡ c.epoch + 1)) (sym sent_made) all.0) (none_yet reads_back run repos past h r a (c.epoch + 1) (next_later c.epoch)))
 
             down_now : Queue (e ∷ past) (down_way r p w.slot (c.epoch + 1)) []
-            down_now = in_none_taken r a (c.epoch + 1) past e own other [] none_taken (none_yet run repos past h p b (c.epoch + 1) later)
+            down_now = in_none_taken r a (c.epoch + 1) past e own other [] none_taken (none_yet reads_back run repos past h p b (c.epoch + 1) later)
 
         -- ---- or the job goes on with it
 
@@ -595,10 +596,10 @@ module _ (run : Run) (repos : Each IsSetUp run.repos) (past : List Entry) (e : E
 
   -- **the dialogue goes on through an entry of the client**
   pub client_goes : Conversing (e ∷ past) r
-  client_goes x k p live now = by (client_does s past e run_now own x p now k)
+  client_goes x k p live now = by (client_does reads_back s past e run_now own x p now k)
     where
       p_other : p ≢ r
-      p_other = other_apart s p (open_runs s (e ∷ past) run_now (job_end x p) refl now).peer
+      p_other = other_apart s p (open_runs reads_back s (e ∷ past) run_now (job_end x p) refl now).peer
 
       other : is_of p e ≡ false
       other = not_both e.repo r p own (λ same. p_other (sym same))

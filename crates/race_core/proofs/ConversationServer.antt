@@ -6,6 +6,7 @@ use Rattle.std.proofs.lemmas.Bool.{true≢false, eqb-true}
 use Rattle.std.proofs.lemmas.Bool.Decides.{nat_tests}
 use Rattle.annex_base.specs.Lists.{Each, Member}
 use Rattle.annex_base.proofs.Lists.{Member-filter_parts}
+use Rattle.race_core.proofs.Below.{SentAreRead}
 use Rattle.run_data.specs.declared.entry.Entry.{Entry}
 use Rattle.run_data.specs.declared.entry.FrameView.{FrameView}
 use Rattle.run_data.specs.declared.entry.FrameText.{FrameText}
@@ -91,7 +92,7 @@ oldest_in [] r all = omega arith
 oldest_in (x ∷ xs) zero all = all.0.oldest
 oldest_in (x ∷ xs) (suc r) all = oldest_in xs r all.1
 
-module _ (run : Run) (repos : Each IsSetUp run.repos) (past : List Entry) (e : Entry) (h : RunPast (set_up run) past) (step : RunStep (set_up run) past e) (r p q : ℕ) (own : is_of p e ≡ true) (other : is_of r e ≡ false) where
+module _ (reads_back : SentAreRead) (run : Run) (repos : Each IsSetUp run.repos) (past : List Entry) (e : Entry) (h : RunPast (set_up run) past) (step : RunStep (set_up run) past e) (r p q : ℕ) (own : is_of p e ≡ true) (other : is_of r e ≡ false) where
   abbrev s : SetUp
   s = set_up run p
 
@@ -114,7 +115,7 @@ module _ (run : Run) (repos : Each IsSetUp run.repos) (past : List Entry) (e : E
   own_p = own_past run repos p past h
 
   spot : (k : Look) → k.part < 2 ^ 62 → e.time ≡ k.time → Spot (here s (state_of s past) k b)
-  spot k small time = spot_of s past own_p part.own.known (oldest_in run.repos p repos) k small (subst (λ t. t ≤ 1000000000000) time step.order.in_time) b
+  spot k small time = spot_of reads_back s past own_p part.own.known (oldest_in run.repos p repos) k small (subst (λ t. t ≤ 1000000000000) time step.order.in_time) b
 
   abbrev Then : Stance → Session → Type 0
   Then at was = Continues (e ∷ past) r p q n (end_at (e ∷ past) p b) (session (e ∷ past) p b) at was
@@ -238,7 +239,7 @@ module _ (run : Run) (repos : Each IsSetUp run.repos) (past : List Entry) (e : E
         epoch = ap (λ o. (end_took d o).epoch) (taken_none s past b e y) ∙ x.epoch_is
 
     takes_it : (y : TakesHere s past b e) → is_opening y.f.body ≡ false → Then at z
-    takes_it y no_opening = elim (frame_serves (content past p) (here s (state_of s past) y.k b) (spot y.k y.part_small y.time_is) at v y.f.body first.left down no_opening talk_first) [
+    takes_it y no_opening = elim (frame_serves reads_back (content past p) (here s (state_of s past) y.k b) (spot y.k y.part_small y.time_is) at v y.f.body first.left down no_opening talk_first) [
       | inl shut ↦ closes_now [] (took_bodies s past e b own y ∙ shut) epoch
       | inr says ↦ (let st = took_stands s past e b own y says.0 in record {
         z = after_frame (content past p) v y.f.body (answer s past e b own y);
@@ -390,7 +391,7 @@ module _ (run : Run) (repos : Each IsSetUp run.repos) (past : List Entry) (e : E
           ]
         ]
         by Opening is false apart =
-            let low : f.epoch ≤ n = opening_sent run repos past h r p q f.epoch f (subst (λ (w : Way). MayTake past w f) (way_at p b f of_end) (part.frames.takes f took)) in
+            let low : f.epoch ≤ n = opening_sent reads_back run repos past h r p q f.epoch f (subst (λ (w : Way). MayTake past w f) (way_at p b f of_end) (part.frames.takes f took)) in
             stays_away (less mid.epoch f.epoch n (mid_is ∙ ap (λ (body : FrameText). (end_takes d f.epoch body).epoch) is) (smaller f.epoch n low apart)) (no_hit apart)
         by Closing is c same = older Closing is refl
         by (Bytes k) is c same = older (Bytes k) is refl

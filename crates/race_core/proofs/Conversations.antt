@@ -2,6 +2,7 @@
 -- stands.
 use Rattle.std.proofs.Common.{◌≡◌, ℕ, Bool, true, false, List, [], ◌∷◌, ◌++◌, inl, inr, refl, sym, ◌∙◌, subst}
 use Rattle.annex_base.specs.Lists.{Each}
+use Rattle.race_core.proofs.Below.{SentAreRead}
 use Rattle.run_data.specs.declared.entry.Entry.{Entry}
 use Rattle.run_data.specs.declared.entry.FrameText.{FrameText}
 use Rattle.run_data.specs.declared.entry.FrameText.TheVariants.{Closing}
@@ -19,7 +20,7 @@ use Rattle.race_core.proofs.Epochs.{client_end}
 use Rattle.race_core.proofs.ConversationServer.{Where, down_way, server_goes, up_way}
 use Rattle.race_core.proofs.ConversationClient.{Conversation, Conversing, client_goes}
 
-module _ (run : Run) (repos : Each IsSetUp run.repos) (past : List Entry) (e : Entry) (h : RunPast (set_up run) past) (step : RunStep (set_up run) past e) (r : ℕ) (other : is_of r e ≡ false) (was : Conversing past r) where
+module _ (reads_back : SentAreRead) (run : Run) (repos : Each IsSetUp run.repos) (past : List Entry) (e : Entry) (h : RunPast (set_up run) past) (step : RunStep (set_up run) past e) (r : ℕ) (other : is_of r e ≡ false) (was : Conversing past r) where
   module _ (w : Work) (p : ℕ) (old : Conversation past r p w) where
     n : ℕ
     n = (end_at past r (client_end p w.slot)).epoch
@@ -29,7 +30,7 @@ module _ (run : Run) (repos : Each IsSetUp run.repos) (past : List Entry) (e : E
 
     by_server : is_of p e ≡ true → Conversation (e ∷ past) r p w
     by_server own =
-        let c = server_goes run repos past e h step r p w.slot own other (stands_at w p) old.z old.up old.down old.talk old.there in
+        let c = server_goes reads_back run repos past e h step r p w.slot own other (stands_at w p) old.z old.up old.down old.talk old.there in
         record {
           z = c.z;
           up = c.up;
@@ -75,11 +76,11 @@ module _ (run : Run) (repos : Each IsSetUp run.repos) (past : List Entry) (e : E
   pub others_go : Conversing (e ∷ past) r
   others_go w m p live now = goes w p (was w (rw other at m) p live (rw other at now)) (is_of p e) refl
 
-module _ (run : Run) (repos : Each IsSetUp run.repos) where
+module _ (reads_back : SentAreRead) (run : Run) (repos : Each IsSetUp run.repos) where
   pub conversing : (past : List Entry) → RunPast (set_up run) past → (r : ℕ) → Conversing past r
   conversing [] h r = λ w m p live now. absurd m
   conversing (e ∷ past) h r = go (conversing past h.1 r) (is_of r e) refl
     where
       go : Conversing past r → (b : Bool) → is_of r e ≡ b → Conversing (e ∷ past) r
-      go was true own = client_goes run repos past e h.1 h.0 r own was
-      go was false other = others_go run repos past e h.1 h.0 r other was
+      go was true own = client_goes reads_back run repos past e h.1 h.0 r own was
+      go was false other = others_go reads_back run repos past e h.1 h.0 r other was

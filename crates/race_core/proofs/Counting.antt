@@ -18,7 +18,7 @@ use Rattle.run_model.specs.Said.{wants_answer}
 use Rattle.node_model.specs.Sessions.{Doing, Waits, Guards, Gives, Gave, Wants, Takes, Took, reaches}
 use Rattle.node_model.specs.Calls.{to_commit, to_lock, to_offer, to_remove}
 use Rattle.node_model.specs.Look.{failing}
-use Rattle.node_model.specs.SessionStep.{Here, Reply, bar_on, by_of, bytes_left, check_answer, close_kind, content_of, gives_next, is_held, is_here, lock_answer, now_of, on_bytes, on_message, on_piece, on_put, on_remove, on_remove_before, on_request, on_unlock, put_answer, refuses, remove_answer, reply, shuts, silent, tries, unexpected, valid_answer}
+use Rattle.node_model.specs.SessionStep.{Here, Reply, bar_on, by_of, bytes_left, check_answer, close_kind, content_of, gives_next, is_held, is_here, lock_answer, now_of, on_bytes, on_message, on_piece, on_put, on_remove, on_remove_before, on_request, on_unlock, put_answer, refuses, remove_answer, reply, shuts, silent_reply, tries, unexpected_reply, valid_answer}
 use Rattle.race_core.proofs.Cases.{unless_found}
 
 -- it isn't giving
@@ -33,7 +33,7 @@ is_get _ = false
 -- ---- the three ways
 
 abbrev pub Closes : List FrameText → Type 0
-Closes says = (says ≡ Closing ∷ []) ⊎ (says ≡ Line (text_of (Error (codes "unexpected"))) ∷ Closing ∷ [])
+Closes says = (says ≡ Closing ∷ []) ⊎ (says ≡ Line (text_of (Error (codes "unexpected_reply"))) ∷ Closing ∷ [])
 
 abbrev pub Answers : Bool → Doing → List FrameText → Type 0
 Answers q was says = (m : Message) × (says ≡ Line (text_of m) ∷ []) × (completes m ≡ true) × (q ≡ true) × (calm was ≡ true)
@@ -47,7 +47,7 @@ Counts q was says = Closes says ⊎ (Answers q was says ⊎ Silent q was says)
 shut : (q : Bool) (was : Doing) → Counts q was (Closing ∷ [])
 shut q was = inl (inl refl)
 
-odd : (h : Here) (q : Bool) (was : Doing) → Counts q was (unexpected h).says
+odd : (h : Here) (q : Bool) (was : Doing) → Counts q was (unexpected_reply h).says
 odd h q was = inl (inr refl)
 
 -- one line answers a session that isn't giving
@@ -94,8 +94,8 @@ on_remove-counts h key = tries_counts h true Waits (to_remove (is_here h key) (b
 before_counts : (h : Here) (n : ℕ) (key : List ℕ) → Counts true Waits (on_remove_before h n key).says
 before_counts h n key = if_either (λ (x : Reply). Counts true Waits x.says) (nat_lt (now_of h) (1000 * n)) (on_remove h key) (_) (λ e. on_remove-counts h key) (λ e. refused Waits refl)
 
-with_version : (h : Here) (b : Bool) (x : Reply) → Counts true Waits x.says → Counts true Waits (if b then x else unexpected h).says
-with_version h b x f = if_either (λ (y : Reply). Counts true Waits y.says) b x (unexpected h) (λ e. f) (λ e. odd h true Waits)
+with_version : (h : Here) (b : Bool) (x : Reply) → Counts true Waits x.says → Counts true Waits (if b then x else unexpected_reply h).says
+with_version h b x f = if_either (λ (y : Reply). Counts true Waits y.says) b x (unexpected_reply h) (λ e. f) (λ e. odd h true Waits)
 
 request_counts : (h : Here) (v : ℕ) (m : Message) → is_get m ≡ false → Counts (wants_answer m) Waits (on_request h v m).says
 request_counts h v (Version n) g = answer Waits (Version (min n h.version)) refl refl
@@ -119,8 +119,8 @@ valid_counts by size key true = answer (Took key size) Success refl refl
 valid_counts by size key false = answer (Took key size) Failure refl refl
 
 unlock_counts : (h : Here) (hold : ℕ) (key k : List ℕ) → Counts false (Guards hold key) (on_unlock h hold key k).says
-unlock_counts h hold key k = if_either (λ (x : Reply). Counts false (Guards hold key) x.says) (bytes_eq k key) (tries h (calls.Unhold ∷ []) [] (silent (Release hold key))) (unexpected h)
-    (λ e. tries_counts h false (Guards hold key) (calls.Unhold ∷ []) [] (silent (Release hold key)) (quiet (Guards hold key) refl) (quiet (Guards hold key) refl))
+unlock_counts h hold key k = if_either (λ (x : Reply). Counts false (Guards hold key) x.says) (bytes_eq k key) (tries h (calls.Unhold ∷ []) [] (silent_reply (Release hold key))) (unexpected_reply h)
+    (λ e. tries_counts h false (Guards hold key) (calls.Unhold ∷ []) [] (silent_reply (Release hold key)) (quiet (Guards hold key) refl) (quiet (Guards hold key) refl))
     (λ e. odd h false (Guards hold key))
 
 pub message_counts : (h : Here) (v : ℕ) (doing : Doing) (m : Message) → is_get m ≡ false → Counts (wants_answer m) doing (on_message h v doing m).says
@@ -141,7 +141,7 @@ GetCounts was says = Closes says ⊎ ((left : ℕ) × (says ≡ Line (text_of (D
 get_waits : (h : Here) (v n : ℕ) (file key : List ℕ) → GetCounts Waits (on_request h v (Get n file key)).says
 get_waits h v n file key =
     let good : Reply = reply (Talk None) (Data (bytes_left (content_of h key) n)) in
-    if_either (λ (x : Reply). GetCounts Waits x.says) (nat_le 1 v) (tries h (calls.Size ∷ []) (Closing ∷ []) good) (unexpected h)
+    if_either (λ (x : Reply). GetCounts Waits x.says) (nat_le 1 v) (tries h (calls.Size ∷ []) (Closing ∷ []) good) (unexpected_reply h)
     (λ e. unless_found (λ (x : Reply). GetCounts Waits x.says) (failing h.fails (calls.Size ∷ [])) (λ call. record { kind = Fault call (by_of h); says = Closing ∷ [] }) good
     (λ call. inl (inl refl)) (inr (bytes_left (content_of h key) n, refl, refl)))
     (λ e. inl (inr refl))
@@ -156,8 +156,8 @@ get_counts h v (Takes k size left) n file key = inl (inr refl)
 get_counts h v (Took k size) n file key = inl (inr refl)
 
 pub bytes_counts : (h : Here) (n : ℕ) (doing : Doing) → Counts false doing (on_bytes h n doing).says
-bytes_counts h n (Takes key size left) = if_either (λ (x : Reply). Counts false (Takes key size left) x.says) (nat_lt 0 n && nat_le n left) (tries h (calls.Append ∷ []) (Closing ∷ []) (silent (Talk None))) (unexpected h)
-    (λ e. tries_counts h false (Takes key size left) (calls.Append ∷ []) (Closing ∷ []) (silent (Talk None)) (shut false (Takes key size left)) (quiet (Takes key size left) refl))
+bytes_counts h n (Takes key size left) = if_either (λ (x : Reply). Counts false (Takes key size left) x.says) (nat_lt 0 n && nat_le n left) (tries h (calls.Append ∷ []) (Closing ∷ []) (silent_reply (Talk None))) (unexpected_reply h)
+    (λ e. tries_counts h false (Takes key size left) (calls.Append ∷ []) (Closing ∷ []) (silent_reply (Talk None)) (shut false (Takes key size left)) (quiet (Takes key size left) refl))
     (λ e. odd h false (Takes key size left))
 bytes_counts h n doing = odd h false doing
 

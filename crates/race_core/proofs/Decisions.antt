@@ -5,6 +5,7 @@ use Rattle.std.proofs.lemmas.Bool.Decides.{nat_tests}
 use Rattle.annex_base.specs.Lists.{Member}
 use Rattle.annex_base.specs.declared.kinds.Word.{Word}
 use Rattle.annex_base.proofs.Conditions.{eqb_refl}
+use Rattle.race_core.proofs.Below.{SentAreRead}
 use Rattle.drop_proof.specs.declared.rule.Need.{Need}
 use Rattle.drop_proof.specs.declared.rule.Side.TheVariants.{Remote}
 use Rattle.run_data.specs.declared.entry.Entry.{Entry}
@@ -12,7 +13,7 @@ use Rattle.run_data.specs.declared.entry.EntryKind.{EntryKind}
 use Rattle.run_data.specs.declared.entry.EntryKind.TheVariants.{Begin, Bar, Order}
 use Rattle.run_data.specs.declared.entry.FrameText.TheVariants.{Line}
 use Rattle.run_data.specs.declared.job.Job.{Job}
-use Rattle.run_model.specs.Past.{begun, begun_job, begun_job_after, decided, is_of}
+use Rattle.run_model.specs.Past.{begun, begun_job, begun_job_after, decision, is_of}
 use Rattle.p2p_wire.specs.Messages.{order_of, text_of}
 use Rattle.run_model.specs.Drops.{done, key_in}
 use Rattle.run_model.specs.Logs.{in_drop, is_step, need_read}
@@ -95,16 +96,16 @@ talk_of s past e x run kind is =
 
 -- what a bar stands on, beside its row
 pub record BarStands (s : SetUp) (past : List Entry) (j : ℕ) (need : Need) (key : List ℕ) : Type 0 where
-  pub first : decided past s.number j ≡ None
+  pub first : decision past s.number j ≡ None
   pub open' : done past s.number j ≡ false
   pub nothing_asked : has_asked past s.number j ≡ false
   pub dropping : in_drop past s.number j ≡ true
   pub key_is : key ≡ key_in (begun_job past s.number j)
   pub need_is : need ≡ need_read past s.number j
 
-pub bar_stands : (s : SetUp) (past : List Entry) (words : ℕ → Option Word) (e : Entry) → OwnPast s past → OwnPart s past words e → (j : ℕ) (need : Need) (key : List ℕ) → e.kind ≡ Bar j need key
+pub bar_stands : SentAreRead → (s : SetUp) (past : List Entry) (words : ℕ → Option Word) (e : Entry) → OwnPast s past → OwnPart s past words e → (j : ℕ) (need : Need) (key : List ℕ) → e.kind ≡ Bar j need key
     → BarStands s past j need key
-bar_stands s past words e h own j need key is =
+bar_stands reads_back s past words e h own j need key is =
     let run = h.run in
     let x = stepped_of s past words e own j (Bar j need key) is (eqb_refl j) in
     let w = x.w in
@@ -115,7 +116,7 @@ bar_stands s past words e h own j need key is =
       first = none.undecided;
       open' = runs_open s past run w runs;
       nothing_asked = none.unasked;
-      dropping = (at_targets s past h w runs).0 f.part_is;
+      dropping = (at_targets reads_back s past h w runs).0 f.part_is;
       key_is = f.key_is ∙ ap key_in (sym (runs_begun s past run w runs));
       need_is = f.need_is;
     })
@@ -138,15 +139,15 @@ pub record OrderStandsOn (s : SetUp) (past : List Entry) (e : Entry) (j peer : �
   pub timed : HasDeadline (turn_at s past e by) by.made deadline
   pub sent_is : by.made.sent ≡ frames (job_end by.w peer) (end_at past s.number (job_end by.w peer)) (Line (text_of (order_of deadline key)) ∷ [])
 
-pub order_stands_on : (s : SetUp) (past : List Entry) (words : ℕ → Option Word) (e : Entry) → OwnPast s past → OwnPart s past words e
+pub order_stands_on : SentAreRead → (s : SetUp) (past : List Entry) (words : ℕ → Option Word) (e : Entry) → OwnPast s past → OwnPart s past words e
     → (j peer : ℕ) (deadline : Option ℕ) (need : Need) (key : List ℕ) → e.kind ≡ Order j peer deadline need key → OrderStandsOn s past e j peer deadline need key
-order_stands_on s past words e h own j peer deadline need key is =
+order_stands_on reads_back s past words e h own j peer deadline need key is =
     let run = h.run in
     let x = stepped_of s past words e own j (Order j peer deadline need key) is (eqb_refl j) in
     let w = x.w in
     let runs = stepped_runs s past e x in
     let f = kind_of s past e x (Order j peer deadline need key) is in
-    let at = at_targets s past h w runs in
+    let at = at_targets reads_back s past h w runs in
     let apart = other_target s w (aims s past run w runs) f.part_is f.side in
     record {
       by = x;

@@ -3,6 +3,7 @@ use Rattle.std.proofs.Common.{◌≡◌, ℕ, true, false, List, ◌∷◌, Opti
 use Rattle.std.specs.Prelude.{slice_get}
 use Rattle.annex_base.specs.Lists.{Member}
 use Rattle.annex_base.proofs.Conditions.{eqb_refl}
+use Rattle.race_core.proofs.Below.{SentAreRead}
 use Rattle.drop_proof.specs.declared.rule.Side.TheVariants.{Remote}
 use Rattle.run_data.specs.declared.entry.Entry.{Entry}
 use Rattle.node_model.specs.Slots.{Running}
@@ -11,7 +12,7 @@ use Rattle.node_model.specs.Rows.{option_is}
 use Rattle.p2p_wire.specs.declared.message.Message.TheVariants.{Failure}
 use Rattle.p2p_wire.specs.Messages.{order_of}
 use Rattle.run_model.specs.Said.{Says}
-use Rattle.run_model.specs.Frames.{sent, taken, way_of}
+use Rattle.run_model.specs.Frames.{frames_sent, taken_count, way_of}
 use Rattle.run_model.specs.Causes.{Answers}
 use Rattle.node_model.specs.SetUp.{SetUp}
 use Rattle.run_model.specs.Words.{awaits_word, word_of, word_told}
@@ -35,7 +36,7 @@ use Rattle.race_core.proofs.PhaseFacts.{only_orders}
 pub record DeniedBy (s : SetUp) (past : List Entry) (j : Running) : Type 0 where
   pub deadline : Option ℕ
   pub refused : Answers past s.number j.number (target_in s.number j) (Says (order_of deadline j.what.key)) (Says Failure)
-  pub word : word_told past s.number j.number (target_in s.number j) ≡ word_of (slice_get (sent refused.hears.before (way_of s.number refused.hears.f)) (taken refused.hears.before (way_of s.number refused.hears.f)))
+  pub word : word_told past s.number j.number (target_in s.number j) ≡ word_of (slice_get (frames_sent refused.hears.before (way_of s.number refused.hears.f)) (taken_count refused.hears.before (way_of s.number refused.hears.f)))
 
 abbrev pub DeniedAt : SetUp → List Entry → Running → Phase → Type 0
 DeniedAt s past j Denied = DeniedBy s past j
@@ -65,7 +66,7 @@ denied_still s past e w phase run m at x = tt
 option_at : (o : Option ℕ) (n : ℕ) → o ≡ Some n → option_is o n ≡ true
 option_at o n is = ap (λ q. option_is q n) is ∙ eqb_refl n
 
-module _ (s : SetUp) (p : List Entry) (e : Entry) (h : OwnPast s (e ∷ p)) (is : is_of s.number e ≡ true) (x : Work) (b : Steps s p e x) where
+module _ (reads_back : SentAreRead) (s : SetUp) (p : List Entry) (e : Entry) (h : OwnPast s (e ∷ p)) (is : is_of s.number e ≡ true) (x : Work) (b : Steps s p e x) where
   abbrev v : Work
   v = b.by.w
 
@@ -76,27 +77,27 @@ module _ (s : SetUp) (p : List Entry) (e : Entry) (h : OwnPast s (e ∷ p)) (is 
   runs = step_runs s p e x b
 
   st : Stands s.number p (running v) v.phase
-  st = stands s p before v runs
+  st = stands reads_back s p before v runs
 
   denied_by : (phase : Phase) → Reason (rows_at p s.number) s.number v e e.kind phase → DeniedAt s (e ∷ p) (running v) phase
   denied_by Denied z =
       let hr = z.1 in
-      let a = refused_order s p e h is x b st z.0 hr in
+      let a = refused_order reads_back s p e h is x b st z.0 hr in
       let t = target_in s.number (running v) in
-      let remote : side_of v ≡ Remote = sym (side_is v) ∙ orders_remote s p e h is x b st z.0 in
+      let remote : side_of v ≡ Remote = sym (side_is v) ∙ orders_remote reads_back s p e h is x b st z.0 in
       let part = only_orders v.part (subst (Fits v.part) z.0 (works_fit s p before.run v runs)) in
       let peer : v.what.peer ≡ Some t = target_peer s v (aims s p before.run v runs) part remote ∙ ap (λ n. Some n) (sym (target_is s.number v)) in
       let waits : awaits_word t v.what.peer v.phase ≡ true = ap (awaits_word t v.what.peer) z.0 ∙ option_at v.what.peer t peer in
-      let told = word_now s p e v t hr.f before.run runs is (stepped_job s p e b.by) waits hr.takes_it (took_peer s p e b.by is hr.f hr.takes_it t (ap (partner v.what.peer) z.0 ∙ peer)) in
+      let told = word_now s p e v t hr.f before.run runs is (stepped_job s p e b.by) waits hr.takes_it (took_peer reads_back s p e b.by is hr.f hr.takes_it t (ap (partner v.what.peer) z.0 ∙ peer)) in
       record {
         deadline = a.0;
         refused = a.1.0;
-        word = told ∙ sym (λ i. word_of (slice_get (sent (a.1.1 i) (way_of s.number (a.1.2 i))) (taken (a.1.1 i) (way_of s.number (a.1.2 i)))));
+        word = told ∙ sym (λ i. word_of (slice_get (frames_sent (a.1.1 i) (way_of s.number (a.1.2 i))) (taken_count (a.1.1 i) (way_of s.number (a.1.2 i)))));
       }
   denied_by phase z = tt
 
-pub denied_words : (s : SetUp) (past : List Entry) → OwnPast s past → (w : Work) → Member w (works past s.number) → DeniedAt s past (running w) w.phase
-denied_words s past h w m = invariant s (λ p x. OwnPast s p → DeniedAt s p (running x) x.phase) (λ p e is x n was h. denied_other s p e (running x) x.phase is (was (earlier s p e h))) own past h.run w m h
+pub denied_words : SentAreRead → (s : SetUp) (past : List Entry) → OwnPast s past → (w : Work) → Member w (works past s.number) → DeniedAt s past (running w) w.phase
+denied_words reads_back s past h w m = invariant s (λ p x. OwnPast s p → DeniedAt s p (running x) x.phase) (λ p e is x n was h. denied_other s p e (running x) x.phase is (was (earlier s p e h))) own past h.run w m h
   where
     own : (p : List Entry) (e : Entry) → OwnRun s (e ∷ p) → is_of s.number e ≡ true → ((x : Work) → Member x (works p s.number) → OwnPast s p → DeniedAt s p (running x) x.phase)
         → (x : Work) → Origin s p e x → OwnPast s (e ∷ p) → DeniedAt s (e ∷ p) (running x) x.phase
@@ -108,6 +109,6 @@ denied_words s past h w m = invariant s (λ p x. OwnPast s p → DeniedAt s p (r
         let y = work_kind (rows_at p s.number) s.number v e e.kind in
         let new : DeniedAt s (e ∷ p) (running v) y.phase = elim (kind_reason (rows_at p s.number) s.number v e e.kind) [
           | inl same ↦ subst (DeniedAt s (e ∷ p) (running v)) (sym same) (denied_still s p e v v.phase run.1 n refl (was v n (earlier s p e h)))
-          | inr reason ↦ denied_by s p e h is x b y.phase reason
+          | inr reason ↦ denied_by reads_back s p e h is x b y.phase reason
         ] in
         subst (λ (j : Running). DeniedAt s (e ∷ p) j x.phase) (sym (ap running b.work_is ∙ kind_kept (rows_at p s.number) s.number v e e.kind)) (subst (λ (z : Work). DeniedAt s (e ∷ p) (running v) z.phase) (sym b.work_is) new)

@@ -7,6 +7,7 @@ use Rattle.annex_base.specs.declared.kinds.Call.{Call}
 use Rattle.annex_base.proofs.Conditions.{if_either}
 use Rattle.annex_base.specs.declared.kinds.Call.TheVariants as calls
 use Rattle.annex_base.specs.declared.kinds.Found.TheVariants as found
+use Rattle.race_core.proofs.Below.{SentAreRead}
 use Rattle.run_data.specs.declared.entry.EntryKind.{EntryKind}
 use Rattle.run_data.specs.declared.entry.EntryKind.TheVariants.{Check, Fault, Gone, Share, Talk}
 use Rattle.run_data.specs.declared.entry.FrameText.{FrameText}
@@ -15,7 +16,7 @@ use Rattle.p2p_wire.specs.declared.message.Message.{Message}
 use Rattle.p2p_wire.specs.declared.message.Message.TheVariants.{AuthSuccess, Version, CheckPresent, LockContent, RemoveBefore, GetTimestamp, Timestamp, Get, Put, PutFrom, AlreadyHave, Data, Success, Failure, Error}
 use Rattle.p2p_wire.specs.Messages.{message_of, text_of}
 use Rattle.node_model.specs.Sessions.{Waits, Session, doing_after, is_closing, line_in, new_session, reaches, took_bytes, took_message, version_told, guards}
-use Rattle.node_model.specs.SessionStep.{Here, Reply, bar_on, by_of, bytes_left, check_answer, content_of, is_here, is_held, lock_answer, now_of, on_put, on_remove, on_remove_before, on_request, put_answer, refuses, remove_answer, reply, tries, unexpected}
+use Rattle.node_model.specs.SessionStep.{Here, Reply, bar_on, by_of, bytes_left, check_answer, content_of, is_here, is_held, lock_answer, now_of, on_put, on_remove, on_remove_before, on_request, put_answer, refuses, remove_answer, reply, tries, unexpected_reply}
 use Rattle.node_model.specs.Look.{failing}
 use Rattle.node_model.specs.Calls.{to_lock, to_offer, to_remove}
 use Rattle.race_core.proofs.Cases.{unless_found}
@@ -64,7 +65,7 @@ Says at was z up down says = (says ≡ Closing ∷ []) ⊎ (Opens says × (is_gr
 
 -- ---- requests
 
-module _ (size : List ℕ → Option ℕ) (h : Here) (spot : Spot h) (z : Session) where
+module _ (reads_back : SentAreRead) (size : List ℕ → Option ℕ) (h : Here) (spot : Spot h) (z : Session) where
   abbrev pub Served : Stance → Message → Reply → Type 0
   Served at m x = Says at z (after_message size z m x.kind (told_first x.says)) [] [] x.says
 
@@ -141,7 +142,7 @@ module _ (size : List ℕ → Option ℕ) (h : Here) (spot : Spot h) (z : Sessio
         go true None false = order_says m order speaks (Gone (by_of h) key) Success (inl refl)
 
     pub before_served : (n : ℕ) (key : List ℕ) → 3 ≤ z.version → Served Dialogue.AtOrder (RemoveBefore n key) (on_request h z.version (RemoveBefore n key))
-    before_served n key new = if_either (Served Dialogue.AtOrder (RemoveBefore n key)) (nat_le 3 z.version) (on_remove_before h n key) (unexpected h)
+    before_served n key new = if_either (Served Dialogue.AtOrder (RemoveBefore n key)) (nat_le 3 z.version) (on_remove_before h n key) (unexpected_reply h)
         (λ e. if_either (Served Dialogue.AtOrder (RemoveBefore n key)) (nat_lt (now_of h) (1000 * n)) (on_remove h key) (reply (Check found.Late key) Failure)
         (λ e. remove_served (RemoveBefore n key) (λ kind told. refl) speaks key) (λ e. order_says (RemoveBefore n key) (λ kind told. refl) speaks (Check found.Late key) Failure (inr refl)))
         (λ e. absurd (old e new))
@@ -154,7 +155,7 @@ module _ (size : List ℕ → Option ℕ) (h : Here) (spot : Spot h) (z : Sessio
 
     -- GETTIMESTAMP
     pub time_served : 3 ≤ z.version → Served Dialogue.AtTime GetTimestamp (on_request h z.version GetTimestamp)
-    time_served new = if_either (Served Dialogue.AtTime GetTimestamp) (nat_le 3 z.version) (reply (Talk None) (Timestamp (now_of h / 1000))) (unexpected h)
+    time_served new = if_either (Served Dialogue.AtTime GetTimestamp) (nat_le 3 z.version) (reply (Talk None) (Timestamp (now_of h / 1000))) (unexpected_reply h)
         (λ e. answers Dialogue.AtTime (λ z up down x. x) GetTimestamp (Talk None) (Timestamp (now_of h / 1000)) spot.time
         (record { waits = waits; speaks = omega (arith, new) }, new, spot.soon) (λ g. refl))
         (λ e. absurd (old e new))
@@ -178,7 +179,7 @@ module _ (size : List ℕ → Option ℕ) (h : Here) (spot : Spot h) (z : Sessio
 
     -- PUT
     pub put_served : (file key : List ℕ) → 1 ≤ z.version → Served Dialogue.AtPut (Put file key) (on_request h z.version (Put file key))
-    put_served file key speaks = if_either (Served Dialogue.AtPut (Put file key)) (nat_le 1 z.version) (on_put h key) (unexpected h)
+    put_served file key speaks = if_either (Served Dialogue.AtPut (Put file key)) (nat_le 1 z.version) (on_put h key) (unexpected_reply h)
         (λ e. try Dialogue.AtPut (Put file key) (to_offer h.part (is_here h key) (h.filled key)) refuses (reply (Talk None) (put_answer h.part (is_here h key) (h.filled key)))
         (λ call. answers Dialogue.AtPut (λ z up down x. x) (Put file key) (Fault call (by_of h)) Failure refl (idle (Put file key) (Fault call (by_of h)) Failure refl speaks) (λ g. refl))
         (go (is_here h key) (h.filled key)))
@@ -186,12 +187,12 @@ module _ (size : List ℕ → Option ℕ) (h : Here) (spot : Spot h) (z : Sessio
       where
         go : (here filled : Bool) → Served Dialogue.AtPut (Put file key) (reply (Talk None) (put_answer h.part here filled))
         go true filled = answers Dialogue.AtPut (λ z up down x. x) (Put file key) (Talk None) AlreadyHave refl (idle (Put file key) (Talk None) AlreadyHave refl speaks) (λ g. refl)
-        go false true = answers Dialogue.AtPut (λ z up down x. x) (Put file key) (Talk None) (Error (codes "busy")) busy_read (idle (Put file key) (Talk None) (Error (codes "busy")) refl speaks, refl) (λ g. refl)
+        go false true = answers Dialogue.AtPut (λ z up down x. x) (Put file key) (Talk None) (Error (codes "busy")) (busy_read reads_back) (idle (Put file key) (Talk None) (Error (codes "busy")) refl speaks, refl) (λ g. refl)
         go false false = answers Dialogue.AtPut (λ z up down x. x) (Put file key) (Talk None) (PutFrom h.part) spot.part (speaks, key, h.part, refl) (λ g. refl)
 
     -- GET
     pub get_served : (n : ℕ) (file key : List ℕ) → 1 ≤ z.version → Served Dialogue.AtGet (Get n file key) (on_request h z.version (Get n file key))
-    get_served n file key speaks = if_either (Served Dialogue.AtGet (Get n file key)) (nat_le 1 z.version) (tries h (calls.Size ∷ []) (Closing ∷ []) good) (unexpected h)
+    get_served n file key speaks = if_either (Served Dialogue.AtGet (Get n file key)) (nat_le 1 z.version) (tries h (calls.Size ∷ []) (Closing ∷ []) good) (unexpected_reply h)
         (λ e. try Dialogue.AtGet (Get n file key) (calls.Size ∷ []) (Closing ∷ []) good (λ call. inl refl) (inr (
           (refl, tt),
           (λ g. subst (λ (o : Option Message). version_told z.version o ≡ z.version) (sym (spot.data' key n)) refl),

@@ -2,6 +2,7 @@
 use Rattle.std.proofs.Common.{◌≡◌, ℕ, ◌/◌, ◌<◌, ◌≤◌, ◌^◌, true, false, List, [], ◌∷◌, length, Option, refl, ap, ◌∙◌, subst, arith}
 use Rattle.std.specs.Prelude.{nat_lt}
 use Rattle.std.proofs.lemmas.Bool.Decides.{nat_tests}
+use Rattle.race_core.proofs.Below.{SentAreRead}
 use Rattle.run_data.specs.declared.entry.Entry.{Entry}
 use Rattle.run_data.specs.declared.entry.FrameText.{FrameText}
 use Rattle.run_data.specs.declared.entry.FrameText.TheVariants.{Opening, Closing, Bytes, Line}
@@ -10,7 +11,7 @@ use Rattle.p2p_wire.specs.Messages.{message_of}
 use Rattle.node_model.specs.SetUp.{SetUp, version_of}
 use Rattle.run_model.specs.States.{state_of, end_at, content, session}
 use Rattle.node_model.specs.Ends.{End, EndName, end_sends, end_takes, frames, sent_at}
-use Rattle.node_model.specs.Sessions.{Session, said, sends_close, sent_more, session_after, session_left, session_took, took_message}
+use Rattle.node_model.specs.Sessions.{Session, message_said, sends_close, sent_more, session_after, session_left, session_took, took_message}
 use Rattle.node_model.specs.SessionStep.{Reply, here, now_of, on_frame}
 use Rattle.node_model.specs.Look.{Look}
 use Rattle.run_model.specs.Run.{OwnPast}
@@ -28,7 +29,7 @@ pub bodies_frames : (a : EndName) (c : End) (says : List FrameText) → bodies (
 bodies_frames a c [] = refl
 bodies_frames a c (b ∷ bs) = ap (λ (xs : List FrameText). b ∷ xs) (bodies_frames a (end_sends c b) bs)
 
-said_frames : (a : EndName) (c : End) (says : List FrameText) → said (frames a c says) ≡ told_first says
+said_frames : (a : EndName) (c : End) (says : List FrameText) → message_said (frames a c says) ≡ told_first says
 said_frames a c [] = refl
 said_frames a c (b ∷ bs) = refl
 
@@ -48,16 +49,16 @@ took_frames a c size z x (Line text) = ap (λ o. took_message size x.kind z o (m
 
 -- ---- what the session reads
 
-module _ (s : SetUp) (past : List Entry) (h : OwnPast s past) (known : s.number < length s.repos) (speaks : 1 ≤ version_of s) (k : Look) (small : k.part < 2 ^ 62) (early : k.time ≤ 1000000000000) (b : EndName) where
+module _ (reads_back : SentAreRead) (s : SetUp) (past : List Entry) (h : OwnPast s past) (known : s.number < length s.repos) (speaks : 1 ≤ version_of s) (k : Look) (small : k.part < 2 ^ 62) (early : k.time ≤ 1000000000000) (b : EndName) where
   pub spot_of : Spot (here s (state_of s past) k b)
   spot_of = record {
     speaks = speaks;
-    version = version_read s past 3 h;
-    data' = λ key n. data_read s past key n h;
-    time = time_read s past k.time h early;
+    version = version_read reads_back s past 3 h;
+    data' = λ key n. data_read reads_back s past key n h;
+    time = time_read reads_back s past k.time h early;
     soon = soon (now_of (here s (state_of s past) k b)) (clock_small s.repos past s.number k.time h.repos h.bounds early);
-    part = part_read k.part small;
-    auth = auth_read s past h known;
+    part = part_read reads_back k.part small;
+    auth = auth_read reads_back s past h known;
   }
     where
       soon : (c : ℕ) → c ≤ 1100000000000 → nat_lt (c / 1000) (2 ^ 61) ≡ true

@@ -3,6 +3,7 @@ use Rattle.std.proofs.Common.{◌≡◌, ℕ, ◌+◌, ◌-◌, ◌≤◌, Bool,
 use Rattle.std.specs.Prelude.{if◌then◌else◌, ◌&&◌, nat_le, nat_lt}
 use Rattle.std.proofs.lemmas.Bool.{true≢false}
 use Rattle.annex_base.specs.declared.kinds.Call.TheVariants as calls
+use Rattle.race_core.proofs.Below.{SentAreRead}
 use Rattle.run_data.specs.declared.entry.EntryKind.{EntryKind}
 use Rattle.run_data.specs.declared.entry.EntryKind.TheVariants.{Fault, Gain, Talk}
 use Rattle.run_data.specs.declared.entry.FrameText.{FrameText}
@@ -12,7 +13,7 @@ use Rattle.p2p_wire.specs.declared.message.Message.TheVariants.{Version, CheckPr
 use Rattle.p2p_wire.specs.Messages.{message_of, text_of}
 use Rattle.node_model.specs.Ends.{is_opening}
 use Rattle.node_model.specs.Sessions.{Doing, Waits, Gave, Wants, Takes, Took, Session, line_in, takes_more, took_message}
-use Rattle.node_model.specs.SessionStep.{Here, Reply, by_of, on_frame, on_message, on_text, refuses, silent, valid_answer}
+use Rattle.node_model.specs.SessionStep.{Here, Reply, by_of, on_frame, on_message, on_text, refuses, silent_reply, valid_answer}
 use Rattle.node_model.specs.Look.{failing}
 use Rattle.node_model.specs.Calls.{to_commit}
 use Rattle.race_core.proofs.Cases.{unless_found}
@@ -24,7 +25,7 @@ use Rattle.race_core.proofs.DialogueReplies.{Opens, Says, Spot, after_frame, aft
 abbrev made : ℕ → Doing → Session
 made v d = record { version = v; doing = d }
 
-module _ (size : List ℕ → Option ℕ) (h : Here) (spot : Spot h) where
+module _ (reads_back : SentAreRead) (size : List ℕ → Option ℕ) (h : Here) (spot : Spot h) where
   -- ---- what is taken without a word
 
   abbrev Silent : ℕ → Doing → Option Message → Doing → Type 0
@@ -50,7 +51,7 @@ module _ (size : List ℕ → Option ℕ) (h : Here) (spot : Spot h) where
   bytes_silent v key k left n next e = go (nat_lt 0 n && nat_le n left) refl e
     where
       quiet : Reply
-      quiet = silent (Talk None)
+      quiet = silent_reply (Talk None)
 
       Ends : Reply → Type 0
       Ends x = (x.says ≡ Closing ∷ []) ⊎ ((x.says ≡ []) × (made v (takes_more key (k + n) (left - n)) ≡ made v next))
@@ -80,14 +81,14 @@ module _ (size : List ℕ → Option ℕ) (h : Here) (spot : Spot h) where
   request_says : (at : Stance) (v : ℕ) (m : Message) → Dialogue.Asking at v m
       → Says at (made v Waits) (after_message size (made v Waits) m (on_message h v Waits m).kind (told_first (on_message h v Waits m).says)) [] [] (on_message h v Waits m).says
   request_says Dialogue.AtGreet v (Version n) a = subst (λ n. Says Dialogue.AtGreet (made v Waits) (after_message size (made v Waits) (Version n) (on_message h v Waits (Version n)).kind (told_first (on_message h v Waits (Version n)).says)) [] [] (on_message h v Waits (Version n)).says)
-      (sym a.0) (DialogueReplies.version_served size h spot (made v Waits) refl)
-  request_says Dialogue.AtGet v (Get n file key) a = DialogueReplies.get_served size h spot (made v Waits) refl n file key a
-  request_says Dialogue.AtPut v (Put file key) a = DialogueReplies.put_served size h spot (made v Waits) refl file key a
-  request_says Dialogue.AtLock v (LockContent key) a = DialogueReplies.lock_served size h spot (made v Waits) refl key a
-  request_says Dialogue.AtLook v (CheckPresent key) a = DialogueReplies.look_served size h spot (made v Waits) refl key a
-  request_says Dialogue.AtTime v GetTimestamp a = DialogueReplies.time_served size h spot (made v Waits) refl a
-  request_says Dialogue.AtOrder v (Remove key) a = DialogueReplies.remove_served size h spot (made v Waits) refl (Remove key) (λ kind told. refl) a key
-  request_says Dialogue.AtOrder v (RemoveBefore n key) a = DialogueReplies.before_served size h spot (made v Waits) refl n key a
+      (sym a.0) (DialogueReplies.version_served reads_back size h spot (made v Waits) refl)
+  request_says Dialogue.AtGet v (Get n file key) a = DialogueReplies.get_served reads_back size h spot (made v Waits) refl n file key a
+  request_says Dialogue.AtPut v (Put file key) a = DialogueReplies.put_served reads_back size h spot (made v Waits) refl file key a
+  request_says Dialogue.AtLock v (LockContent key) a = DialogueReplies.lock_served reads_back size h spot (made v Waits) refl key a
+  request_says Dialogue.AtLook v (CheckPresent key) a = DialogueReplies.look_served reads_back size h spot (made v Waits) refl key a
+  request_says Dialogue.AtTime v GetTimestamp a = DialogueReplies.time_served reads_back size h spot (made v Waits) refl a
+  request_says Dialogue.AtOrder v (Remove key) a = DialogueReplies.remove_served reads_back size h spot (made v Waits) refl (Remove key) (λ kind told. refl) a key
+  request_says Dialogue.AtOrder v (RemoveBefore n key) a = DialogueReplies.before_served reads_back size h spot (made v Waits) refl n key a
   request_says at v m a = absurd a
 
   -- VALID, as the bytes are there

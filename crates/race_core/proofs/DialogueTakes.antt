@@ -26,7 +26,7 @@ use Rattle.p2p_wire.specs.Messages.{message_of, text_of}
 use Rattle.node_model.specs.Ends.{may_take, takes_at}
 use Rattle.node_model.specs.Sessions.{Session, line_in, reaches}
 use Rattle.node_model.specs.Jobs
-use Rattle.node_model.specs.Jobs.{Part, Gets, Puts, Drops, Phase, Fresh, Next, Opens, Greets, GetsData, GetsBytes, GetsWord, PutsOffer, PutsBytes, PutsWord, PutsAnswer, AsksLock, AsksLook, AsksTime, Removed, Denied, Late, Ends, Heard, Held, Work, gets_more, puts_more, is_move, job_end, listens, partner, side_of, took, transferred, unreleased}
+use Rattle.node_model.specs.Jobs.{Part, Gets, Puts, Drops, Phase, Fresh, Next, Opens, Greets, GetsData, GetsBytes, GetsWord, PutsOffer, PutsBytes, PutsWord, PutsAnswer, AsksLock, AsksLook, AsksTime, Removed, Denied, Late, Ends, Heard, Held, Work, gets_more, puts_more, is_move, job_end, listens, partner, side_of, took, after_transfer, after_failed_release}
 use Rattle.node_model.specs.Calls.{to_commit, to_release}
 use Rattle.node_model.specs.Look.{Made, waiting}
 use Rattle.annex_base.specs.Calls.{same_call}
@@ -53,7 +53,7 @@ use Rattle.race_core.proofs.DialogueWalk.{Asks, GoodMade, IsVersion, Walks, fail
 abbrev Converses : Stance → Session → List FrameText → List FrameText → Type 0
 Converses at z up down = Dialogue.Dialogue at z up down
 
-transferred_alone : (target : Option ℕ) (x : Work) (outcome : Outcome) → partner target (transferred x outcome).phase ≡ None
+transferred_alone : (target : Option ℕ) (x : Work) (outcome : Outcome) → partner target (after_transfer x outcome).phase ≡ None
 transferred_alone target x outcome =
     if_either (λ (y : Work). partner target y.phase ≡ None) (is_move x.what.kind) (record x { part = Drops; phase = Fresh; fills = false }) (record x { phase = Ends outcome; fills = false }) (λ e. refl) (λ e. refl)
 
@@ -211,7 +211,7 @@ module _ (t : Turn) (f : FrameView) (peer : ℕ) (x : Taking t f peer) (walks : 
       let rest : Made = record { kind = ends_job t.w.number outcome; taken = Some f; sent = farewells t (is_lost_ordered outcome); lines = [] } in
       attempts_even (GoodMade t) t (to_release (owns_share t && not (is_lost_ordered outcome))) (Some f) rest
       (λ call e. subst (λ (c : Call). GoodMade t (quietly (Fault c (by_me t)) (Some f))) (sym (release_is (owns_share t && not (is_lost_ordered outcome)) call e)) (
-        subst (λ (p : Phase). KeepsTo t (quietly (Fault calls.Unhold (by_me t)) (Some f)) (unreleased t.w t.look.time p)) (sym is)
+        subst (λ (p : Phase). KeepsTo t (quietly (Fault calls.Unhold (by_me t)) (Some f)) (after_failed_release t.w t.look.time p)) (sym is)
             (hears_to_keeps t (Fault calls.Unhold (by_me t)) f peer x AsksTime is (Jobs.to_phase t.w (Late t.look.time)) (inl refl)
             (λ z up down y. to_rest t.w.what.peer (Late t.look.time) (kept t.w peer) peer z up down refl (asked_away Dialogue.AtTime (Timestamp n) told (λ z a. a.0) z up down y))),
         inl tt,
@@ -278,7 +278,7 @@ module _ (t : Turn) (f : FrameView) (peer : ℕ) (x : Taking t f peer) (walks : 
   gains_good : (p start size : ℕ) → t.w.phase ≡ GetsWord p start size → line_in f.body ≡ Some Valid → (right : Bool) → GoodMade t (gains t f peer size right)
   gains_good p start size is told true = (
     subst (λ (q : Phase). KeepsTo t (says_to t (Gain (by_me t) size (key_of t)) (Some f) peer Success) (Jobs.gained t.w q)) (sym is)
-        (let done = transferred t.w (Got (Some p) (Some start)) in
+        (let done = after_transfer t.w (Got (Some p) (Some start)) in
         says_to_keeps t (Gain (by_me t) size (key_of t)) f peer x (GetsWord p start size) is Success done (inl (transferred_alone t.w.what.peer t.w (Got (Some p) (Some start))))
         (λ z up down v y. to_rest t.w.what.peer done.phase (kept done peer) peer z (up ++ Line (text_of Success) ∷ []) down (transferred_alone t.w.what.peer t.w (Got (Some p) (Some start)))
         (word_acks z up down f.body Success (inl told) refl y))),
@@ -318,12 +318,12 @@ module _ (t : Turn) (f : FrameView) (peer : ℕ) (x : Taking t f peer) (walks : 
       (λ e. short_keeps t (talk t) f peer x (PutsOffer p) is (record { place = n; short = e; puts = only_offer t.w.part p (fits_in t.w.part (PutsOffer p) refl is); why = inl (f, refl, told) })))
 
   put_good : (phase : Phase) (m : Message) → t.w.phase ≡ phase → line_in f.body ≡ Some m → PutSuits phase m → GoodMade t (takes_put t f peer phase m)
-  put_good (PutsOffer p) AlreadyHave is told suits = heard_good (PutsOffer p) AlreadyHave (transferred (talker t (Some f)) (Copied None)).phase is told refl (transferred_alone t.w.what.peer (talker t (Some f)) (Copied None)) (asked_away Dialogue.AtPut AlreadyHave told (λ z a. a))
+  put_good (PutsOffer p) AlreadyHave is told suits = heard_good (PutsOffer p) AlreadyHave (after_transfer (talker t (Some f)) (Copied None)).phase is told refl (transferred_alone t.w.what.peer (talker t (Some f)) (Copied None)) (asked_away Dialogue.AtPut AlreadyHave told (λ z a. a))
   put_good (PutsOffer p) Failure is told suits = heard_good (PutsOffer p) Failure (Ends (TransferRefused failures.Rejected)) is told refl refl (asked_away Dialogue.AtPut Failure told (λ z a. a))
   put_good (PutsOffer p) (Error text) is told suits = if_either (GoodMade t) (bytes_eq text (codes "busy")) (hears t f) (wrong t f peer)
       (λ e. heard_good (PutsOffer p) (Error text) (Ends (TransferRefused failures.Busy)) is told refl refl (asked_away Dialogue.AtPut (Error text) told (λ z a. a.0))) (λ e. absurd (true≢false (sym suits ∙ e)))
   put_good (PutsOffer p) (PutFrom n) is told suits = from_good p n is told
-  put_good (PutsAnswer p start) Success is told suits = heard_good (PutsAnswer p start) Success (transferred (talker t (Some f)) (Copied (Some start))).phase is told refl (transferred_alone t.w.what.peer (talker t (Some f)) (Copied (Some start))) (answer_away Success told (λ z a. a))
+  put_good (PutsAnswer p start) Success is told suits = heard_good (PutsAnswer p start) Success (after_transfer (talker t (Some f)) (Copied (Some start))).phase is told refl (transferred_alone t.w.what.peer (talker t (Some f)) (Copied (Some start))) (answer_away Success told (λ z a. a))
   put_good (PutsAnswer p start) Failure is told suits = heard_good (PutsAnswer p start) Failure (Ends (TransferRefused failures.Rejected)) is told refl refl (answer_away Failure told (λ z a. a))
   put_good phase m is told suits = absurd suits
 

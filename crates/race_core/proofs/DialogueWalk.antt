@@ -28,13 +28,13 @@ use Rattle.p2p_wire.specs.declared.message.Message.TheVariants.{LockContent, Rem
 use Rattle.p2p_wire.specs.Messages.{order_of, message_of, text_of}
 use Rattle.node_model.specs.Sessions.{Session, line_in}
 use Rattle.node_model.specs.Jobs
-use Rattle.node_model.specs.Jobs.{Part, Gets, Puts, Drops, Phase, Rows, Fresh, Next, GetsData, PutsOffer, AsksLock, AsksTime, Removed, Ends, Heard, Held, Work, heard_of, fault_of, fault_phase, first_look, is_move, listens, partner, quiet, says, side_of, taken_message, took, unreleased}
+use Rattle.node_model.specs.Jobs.{Part, Gets, Puts, Drops, Phase, Rows, Fresh, Next, GetsData, PutsOffer, AsksLock, AsksTime, Removed, Ends, Heard, Held, Work, heard_of, fault_of, fault_phase, first_look, is_move, listens, partner, quiet, says, side_of, taken_message, took, after_failed_release}
 use Rattle.node_model.specs.Calls.{to_hold, to_release, to_resume, to_read}
 use Rattle.node_model.specs.Look.{Made}
 use Rattle.annex_base.specs.Calls.{same_call}
 use Rattle.node_model.specs.Knows.{enough_by, is_unasked, next_by, asks_by, candidates_by}
 use Rattle.node_model.specs.JobStep.{Turn, attempts, bar_there, by_me, clock_of, end_with, ends, farewells, is_there, key_of, me, owns_share, quietly, says_to, sends_to, talk, is_held}
-use Rattle.node_model.specs.DropStep.{asks_copy, asks_lock, asks_target, bars, expired, first_drop, first_end, first_remote, held_until, in_time, lacking, need_now, orders, own_share, removes, required_there, row_refusal, target, tries_own}
+use Rattle.node_model.specs.DropStep.{asks_copy, asks_lock, asks_target, bars, expiry, first_drop, first_end, first_remote, held_until, in_time, lacking, need_now, orders, own_share, removes, required_there, row_refusal, target, tries_own}
 use Rattle.node_model.specs.Requests.{asks, goes_to}
 use Rattle.node_model.specs.TransferStep.{first_get, first_put, next_get, next_source}
 use Rattle.node_model.specs.Turns.{first_step, goes, judges, next_step}
@@ -124,7 +124,7 @@ fault_on t peer on taken call plain = (
 
 -- ---- the end
 
-unreleased_alone : (target : Option ℕ) (w : Work) (time : ℕ) (phase : Phase) → partner target w.phase ≡ None → partner target (unreleased w time phase).phase ≡ None
+unreleased_alone : (target : Option ℕ) (w : Work) (time : ℕ) (phase : Phase) → partner target w.phase ≡ None → partner target (after_failed_release w time phase).phase ≡ None
 unreleased_alone target w time AsksTime alone = refl
 unreleased_alone target w time phase alone = alone
 
@@ -133,7 +133,7 @@ ends_good t alone live outcome =
     let rest : Made = record { kind = ends_job t.w.number outcome; taken = None; sent = farewells t (is_lost_ordered outcome); lines = [] } in
     attempts_even (GoodMade t) t (to_release (owns_share t && not (is_lost_ordered outcome))) None rest
     (λ call e. subst (λ (c : Call). GoodMade t (quietly (Fault c (by_me t)) None)) (sym (release_is (owns_share t && not (is_lost_ordered outcome)) call e))
-    (still_keeps t alone live (Fault calls.Unhold (by_me t)) (unreleased t.w t.look.time t.w.phase) (unreleased_alone t.w.what.peer t.w t.look.time t.w.phase alone), inl tt)) tt
+    (still_keeps t alone live (Fault calls.Unhold (by_me t)) (after_failed_release t.w t.look.time t.w.phase) (unreleased_alone t.w.what.peer t.w t.look.time t.w.phase alone), inl tt)) tt
 
 -- the end of a job that is to end
 pub dead_good : (t : Turn) → (IsLive t.w.phase → ⊥) → (outcome : Outcome) → GoodMade t (ends t None outcome)
@@ -141,9 +141,9 @@ dead_good t dead outcome =
     let rest : Made = record { kind = ends_job t.w.number outcome; taken = None; sent = farewells t (is_lost_ordered outcome); lines = [] } in
     attempts_even (GoodMade t) t (to_release (owns_share t && not (is_lost_ordered outcome))) None rest
     (λ call e. subst (λ (c : Call). GoodMade t (quietly (Fault c (by_me t)) None)) (sym (release_is (owns_share t && not (is_lost_ordered outcome)) call e))
-    (over_keeps t (quietly (Fault calls.Unhold (by_me t)) None) (unreleased t.w t.look.time t.w.phase) (still_dead t.w.phase refl), inl tt)) tt
+    (over_keeps t (quietly (Fault calls.Unhold (by_me t)) None) (after_failed_release t.w t.look.time t.w.phase) (still_dead t.w.phase refl), inl tt)) tt
   where
-    still_dead : (phase : Phase) → t.w.phase ≡ phase → IsLive (unreleased t.w t.look.time phase).phase → ⊥
+    still_dead : (phase : Phase) → t.w.phase ≡ phase → IsLive (after_failed_release t.w t.look.time phase).phase → ⊥
     still_dead AsksTime is l = dead (subst IsLive (sym is) tt)
     still_dead phase is l = dead l
 
@@ -312,10 +312,10 @@ module _ (t : Turn) (alone : partner t.w.what.peer t.w.phase ≡ None) (live : I
   first_step_good Drops is = drop_first (side_of t.w)
 
   removes_good : GoodMade t (removes t)
-  removes_good = if_either (GoodMade t) (in_time (clock_of t) (first_end t)) (attempts t (calls.Remove ∷ []) None (quietly (Gone (by_me t) (key_of t)) None)) (ends t None (expired (clock_of t) (first_end t)))
+  removes_good = if_either (GoodMade t) (in_time (clock_of t) (first_end t)) (attempts t (calls.Remove ∷ []) None (quietly (Gone (by_me t) (key_of t)) None)) (ends t None (expiry (clock_of t) (first_end t)))
       (λ e. attempts_even (GoodMade t) t (calls.Remove ∷ []) None (quietly (Gone (by_me t) (key_of t)) None) (λ call h. fault_good t alone live call (plain_in call (calls.Remove ∷ []) refl refl h))
       (still_keeps t alone live (Gone (by_me t) (key_of t)) (Jobs.to_phase t.w Removed) refl, inl tt))
-      (λ e. ends_good t alone live (expired (clock_of t) (first_end t)))
+      (λ e. ends_good t alone live (expiry (clock_of t) (first_end t)))
 
   judges_good : t.w.part ≡ Drops → (enough : Bool) (next : Option ℕ) (side : Side) → next_by t.read t.w ≡ next → side_of t.w ≡ side → GoodMade t (judges t enough next side)
   judges_good part false (Some peer) side next is = goes_to_good peer (find_unasked t peer next)

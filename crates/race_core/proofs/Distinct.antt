@@ -9,6 +9,7 @@ use Rattle.std.proofs.lemmas.List.Kept.{AllPairs-cons}
 use Rattle.annex_base.specs.Lists.{Each, Member}
 use Rattle.annex_base.proofs.Lists.{Each-filter, Each-append, Each-left, Each-right, Each-weaker, Each-passes}
 use Rattle.annex_base.proofs.Conditions.{eqb_refl}
+use Rattle.annex_base.proofs.Numbers.{range_below}
 use Rattle.drop_proof.specs.declared.evidence.Evidence.{Evidence}
 use Rattle.drop_proof.specs.declared.rule.Need.{Need}
 use Rattle.drop_proof.specs.declared.rule.Side.{Side}
@@ -16,8 +17,8 @@ use Rattle.drop_proof.specs.declared.rule.Side.TheVariants.{Local, Remote}
 use Rattle.drop_proof.specs.Judging.{counts, is_enough, is_full}
 use Rattle.run_data.specs.declared.entry.Entry.{Entry}
 use Rattle.run_data.specs.declared.run.RepoView.{RepoView}
-use Rattle.node_model.specs.Evidence.{Fails, Gives, Offer, but, candidates, gather, pick, reached}
-use Rattle.run_model.specs.Drops.{asked, evidence, waits}
+use Rattle.node_model.specs.Evidence.{Fails, Gives, Offer, but, candidates, gather, pick, reached_candidates}
+use Rattle.run_model.specs.Drops.{offer_from, evidence, waits}
 use Rattle.race_core.proofs.OwnPasts.{map_append}
 use Rattle.race_core.proofs.Lists.{count_by-cons, count_by-yes}
 use Rattle.race_core.proofs.Gather.{MatchSide, count_by-but, reached_each}
@@ -69,19 +70,15 @@ candidates_apart Remote n a target = (
   apart_filter (λ x. not (x == target)) (but a (range_with_len 0 n)) (apart_filter (λ x. not (x == a)) (range_with_len 0 n) (apart_range 0 n)),
 )
 
-reached_apart : (waits : ℕ → Bool) (cs : List ℕ) → Apart cs → Apart (reached waits cs)
+reached_apart : (waits : ℕ → Bool) (cs : List ℕ) → Apart cs → Apart (reached_candidates waits cs)
 reached_apart waits [] h = tt
 reached_apart waits (c ∷ cs) h = go (reached_apart waits cs h.1) (waits c)
   where
-    go : Apart (reached waits cs) → (b : Bool) → Apart (if b then [] else c ∷ reached waits cs)
+    go : Apart (reached_candidates waits cs) → (b : Bool) → Apart (if b then [] else c ∷ reached_candidates waits cs)
     go ih true = tt
     go ih false = (reached_each (λ y. y ≢ c) waits cs h.0, ih)
 
 -- the candidates are repositories of the run
-range_below : (a n m : ℕ) → a + n ≤ m → Each (λ y. y < m) (range_with_len a n)
-range_below a zero m l = tt
-range_below a (suc n) m l = (omega (arith, l), range_below (a + 1) n m (omega (arith, l)))
-
 pub candidates_below : (side : Side) (n a target : ℕ) → MatchSide side (Unit {0}) (a < n) → Each (λ c. c < n) (candidates side n a target)
 candidates_below Local n a target lt = Each-filter (λ c. c < n) (λ x. not (x == a)) (range_with_len 0 n) (range_below 0 n n (omega arith))
 candidates_below Remote n a target lt =
@@ -108,7 +105,7 @@ gather_apart side need ask (c ∷ cs) items h = go (λ more k. gather_apart side
 -- evidence has each repository once
 pub evidence_apart : (side : Side) (repos : List RepoView) (past : List Entry) (a j target : ℕ) (need : Need) → Apart (repos_in (evidence side repos past a j target need))
 evidence_apart side repos past a j target need =
-    gather_apart side need (asked repos past a j) (reached (waits repos past a j) (candidates side (length repos) a target)) []
+    gather_apart side need (offer_from repos past a j) (reached_candidates (waits repos past a j) (candidates side (length repos) a target)) []
     (reached_apart (waits repos past a j) (candidates side (length repos) a target) (candidates_apart side (length repos) a target))
 
 each_other : (x : ℕ) (items : List Evidence) → Each (λ y. y ≢ x) (repos_in items) → AllByRecursion (λ (k : Evidence). x ≢ k.repo) items

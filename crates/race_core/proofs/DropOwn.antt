@@ -5,6 +5,7 @@ use Rattle.std.proofs.lemmas.Bool.{true≢false, and_parts, not-true}
 use Rattle.std.proofs.lemmas.Bool.Decides.{nat_tests}
 use Rattle.annex_base.specs.Lists.{Member}
 use Rattle.annex_base.specs.declared.kinds.Word.{Word}
+use Rattle.race_core.proofs.Below.{SentAreRead}
 use Rattle.drop_proof.specs.declared.rule.Need.{Need}
 use Rattle.drop_proof.specs.declared.rule.Side.{Side}
 use Rattle.drop_proof.specs.declared.rule.Side.TheVariants.{Local, Remote}
@@ -15,7 +16,7 @@ use Rattle.run_data.specs.declared.entry.EntryKind.TheVariants.{Gone, Order}
 use Rattle.run_data.specs.declared.entry.FrameText.TheVariants.{Line}
 use Rattle.run_data.specs.declared.entry.FrameView.{FrameView}
 use Rattle.run_data.specs.declared.job.Cause.{Cause}
-use Rattle.run_model.specs.Past.{Decision, clock, decided}
+use Rattle.run_model.specs.Past.{Decision, clock, decision}
 use Rattle.p2p_wire.specs.declared.message.Message.TheVariants.{Timestamp}
 use Rattle.p2p_wire.specs.Messages.{order_of, text_of}
 use Rattle.run_model.specs.Frames.{Way, up_of, way_of}
@@ -77,11 +78,11 @@ waiting_is Asked (Some h) c e = absurd (cc)
 waiting_is Claimed h c e = absurd (cc)
 waiting_is (Ignored cause) h c e = absurd (cc)
 
-pub list_agrees : (s : SetUp) (past : List Entry) → OwnPast s past → (w : Work) → Member w (works past s.number) → Agrees s past w
-list_agrees s past h w m = record { standing_is = standing; heard_is = lists.heard_is; waits_too = waits }
+pub list_agrees : SentAreRead → (s : SetUp) (past : List Entry) → OwnPast s past → (w : Work) → Member w (works past s.number) → Agrees s past w
+list_agrees reads_back s past h w m = record { standing_is = standing; heard_is = lists.heard_is; waits_too = waits }
   where
     lists : Lists s past (running w) w.heard
-    lists = (heard_holds s past h w m).lists
+    lists = (heard_holds reads_back s past h w m).lists
 
     standing : (c : ℕ) → standing_of s (state_of s past) w c ≡ Rattle.run_model.specs.Drops.standing s.repos past s.number w.number c
     standing = standing_same s past w (key_read s past h.run w m)
@@ -139,13 +140,13 @@ evidence_enough s past w x enough side target need a b c =
     ∙ subst (λ d. is_enough d need (known s (state_of s past) w) ≡ true) a (subst (λ n. is_enough (side_of w) n (known s (state_of s past) w) ≡ true) c enough)
 
 -- the field `removes`
-pub removes_step : ByStep (λ s past e. (j : ℕ) (key : List ℕ) → e.kind ≡ Gone (by_job j) key → MayRemove s.repos s.number past e j key)
-removes_step s past words e h b is part j key kind =
+pub removes_step : SentAreRead → ByStep (λ s past e. (j : ℕ) (key : List ℕ) → e.kind ≡ Gone (by_job j) key → MayRemove s.repos s.number past e j key)
+removes_step reads_back s past words e h b is part j key kind =
     let x = removal_found s past words e part j key kind in
     let w = x.w in
-    let agrees = list_agrees s past h w x.runs in
+    let agrees = list_agrees reads_back s past h w x.runs in
     let target : target_of s.number w ≡ s.number = target_local s.number (side_of w) w.what.peer x.local in
-    let need : (d : Decision) → decided past s.number w.number ≡ Some d → need_of (state_of s past) w ≡ d.need = λ d k. sym (decided_read s past h w x.runs d k) in
+    let need : (d : Decision) → decision past s.number w.number ≡ Some d → need_of (state_of s past) w ≡ d.need = λ d k. sym (decided_read reads_back s past h w x.runs d k) in
     subst (λ n. MayRemove s.repos s.number past e n key) (sym x.number_is) (record {
       one_clock = one_clock s past h.run w x.runs;
       barred = subst (λ n. Rattle.run_model.specs.Past.bar past s.number key ≡ Some n) x.number_is (removal_barred s past words e h.run part j key kind);
@@ -177,11 +178,11 @@ back_way r f g down up peer slot epoch = goes ∙ comes
     comes i = record { client = if sym down i then f.peer else r; server = if sym down i then r else sym peer i; slot = sym slot i; up = true; epoch = sym epoch i }
 
 -- the field `orders`
-pub orders_step : ByStep (λ s past e. (j target : ℕ) (deadline : Option ℕ) (need : Need) (key : List ℕ) → e.kind ≡ Order j target deadline need key → MayOrder s.repos s.number past e j target deadline need key)
-orders_step s past words e h b is part j target deadline need key kind =
-    let x = order_stands_on s past words e h part j target deadline need key kind in
+pub orders_step : SentAreRead → ByStep (λ s past e. (j target : ℕ) (deadline : Option ℕ) (need : Need) (key : List ℕ) → e.kind ≡ Order j target deadline need key → MayOrder s.repos s.number past e j target deadline need key)
+orders_step reads_back s past words e h b is part j target deadline need key kind =
+    let x = order_stands_on reads_back s past words e h part j target deadline need key kind in
     let w = x.by.w in
-    let agrees = list_agrees s past h w x.runs in
+    let agrees = list_agrees reads_back s past h w x.runs in
     let need' : need_of (state_of s past) w ≡ need = sym (x.need_is ∙ ap (λ n. Rattle.run_model.specs.Logs.need_read past s.number n) x.number_is) in
     let key' : w.what.key ≡ key = sym (x.key_is ∙ ap (λ n. Rattle.run_model.specs.Drops.key_in (Rattle.run_model.specs.Past.begun_job past s.number n)) x.number_is ∙ ap Rattle.run_model.specs.Drops.key_in (runs_begun s past h.run w x.runs)) in
     let same = evidence_is s past w agrees x.enough Remote target need x.side (sym x.target_is) need' in

@@ -3,6 +3,7 @@ use Rattle.std.proofs.Common.{◌≡◌, ℕ, Bool, true, false, List, [], ◌�
 use Rattle.std.proofs.lemmas.Option.{same_Some}
 use Rattle.annex_base.specs.Lists.{Member}
 use Rattle.annex_base.specs.declared.kinds.Word.{Word}
+use Rattle.race_core.proofs.Below.{SentAreRead}
 use Rattle.run_data.specs.declared.entry.Entry.{Entry}
 use Rattle.run_data.specs.declared.entry.FrameText.TheVariants.{Opening}
 use Rattle.run_data.specs.declared.job.JobKind.{JobKind}
@@ -39,7 +40,7 @@ was_drop Drops old phase g = inl refl
 was_drop Jobs.Gets old phase g = inr g
 was_drop Jobs.Puts old phase g = inr g
 
-module _ (s : SetUp) (past : List Entry) (e : Entry) (run : OwnRun s past) (words : ℕ → Option Word) (own : OwnPart s past words e) (x : Work) (b : Steps s past e x) (was : Stood s b.by.w.part b.by.w.what.peer b.by.w.phase) where
+module _ (reads_back : SentAreRead) (s : SetUp) (past : List Entry) (e : Entry) (run : OwnRun s past) (words : ℕ → Option Word) (own : OwnPart s past words e) (x : Work) (b : Steps s past e x) (was : Stood s b.by.w.part b.by.w.what.peer b.by.w.phase) where
   abbrev v : Work
   v = b.by.w
 
@@ -53,10 +54,10 @@ module _ (s : SetUp) (past : List Entry) (e : Entry) (run : OwnRun s past) (word
   of_old part phase p at on = was part p (ap (partner v.what.peer) at ∙ on)
 
   called : (p : ℕ) → e.sent ≡ frames (job_end v p) (end_with t p) (Opening ∷ []) → Member p (others s)
-  called p sent = job_sends_to s past words e run own b.by (_) (subst (Member (_)) (sym sent) (inl refl))
+  called p sent = job_sends_to reads_back s past words e run own b.by (_) (subst (Member (_)) (sym sent) (inl refl))
 
   opened : (p : ℕ) → (end_with t p).opened ≡ true → Member p (others s)
-  opened p o = (open_runs s past run (job_end v p) refl o).peer
+  opened p o = (open_runs reads_back s past run (job_end v p) refl o).peer
 
   target_is : (p : ℕ) → v.what.peer ≡ Some p → Member p (others s)
   target_is p on = peer_is s v.what.kind v.what.peer p (aims s past run v (step_runs s past e x b)).0 on
@@ -124,12 +125,12 @@ module _ (s : SetUp) (past : List Entry) (e : Entry) (run : OwnRun s past) (word
           drop_fits g = g.0
 
 -- **the partner of a drop is another repository**
-pub partner_other : (s : SetUp) (past : List Entry) → OwnRun s past → (w : Work) → Member w (works past s.number) → w.part ≡ Drops → (p : ℕ) → partner w.what.peer w.phase ≡ Some p → Member p (others s)
-partner_other s past run w m = invariant s (λ p x. Stood s x.part x.what.peer x.phase) (λ p e is x n was. was) own past run w m
+pub partner_other : SentAreRead → (s : SetUp) (past : List Entry) → OwnRun s past → (w : Work) → Member w (works past s.number) → w.part ≡ Drops → (p : ℕ) → partner w.what.peer w.phase ≡ Some p → Member p (others s)
+partner_other reads_back s past run w m = invariant s (λ p x. Stood s x.part x.what.peer x.phase) (λ p e is x n was. was) own past run w m
   where
     own : (p : List Entry) (e : Entry) → OwnRun s (e ∷ p) → is_of s.number e ≡ true → ((x : Work) → Member x (works p s.number) → Stood s x.part x.what.peer x.phase) → (x : Work) → Origin s p e x → Stood s x.part x.what.peer x.phase
     own p e r is was x (inl b) = λ part q on. absurd (let bad : None ≡ Some q = sym (ap (λ (y : Work). partner y.what.peer y.phase) b.work_is) ∙ on in cc)
     own p e r is was x (inr (inl b)) = was x b.ran
     own p e r is was x (inr (inr b)) =
         let mine = r.0 is in
-        subst (λ (y : Work). Stood s y.part y.what.peer y.phase) (sym b.work_is) (drop_stood s p e r.1 mine.0 mine.1 x b (was b.by.w (step_runs s p e x b)))
+        subst (λ (y : Work). Stood s y.part y.what.peer y.phase) (sym b.work_is) (drop_stood reads_back s p e r.1 mine.0 mine.1 x b (was b.by.w (step_runs s p e x b)))

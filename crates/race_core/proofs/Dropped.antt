@@ -3,6 +3,7 @@ use Rattle.std.proofs.Common.{◌≡◌, ℕ, ◌+◌, ◌<◌, true, false, Lis
 use Rattle.std.specs.Prelude.{◌≢◌, slice_get}
 use Rattle.std.proofs.lemmas.Option.{same_Some}
 use Rattle.annex_base.specs.Lists.{Member}
+use Rattle.race_core.proofs.Below.{SentAreRead}
 use Rattle.drop_proof.specs.declared.rule.Need.{Need}
 use Rattle.drop_proof.specs.declared.rule.Side.TheVariants.{Remote}
 use Rattle.drop_proof.specs.Judging.{is_enough}
@@ -38,22 +39,22 @@ use Rattle.race_core.proofs.AtPlaces.{past_next}
 
 -- ---- runs at a place
 
-pub messages_at : (run : Run) (place : ℕ) → IsRun run → MessagePast run.repos (past_at run place)
-messages_at run place h = past_before (MessagePast run.repos) (λ e past k. k.1) place run.entries (runs_are_messages run h).steps
+pub messages_at : SentAreRead → (run : Run) (place : ℕ) → IsRun run → MessagePast run.repos (past_at run place)
+messages_at reads_back run place h = past_before (MessagePast run.repos) (λ e past k. k.1) place run.entries (runs_are_messages reads_back run h).steps
 
-pub meets_at : (run : Run) (place : ℕ) (e : Entry) → IsRun run → slice_get run.entries place ≡ Some e → Meets run.repos (past_at run place) e
-meets_at run place e h at =
-    let k : Meets run.repos (past_at run place) e × MessagePast run.repos (past_at run place) = subst (λ past. MessagePast run.repos past) (past_next run place e at) (messages_at run (place + 1) h) in k.0
+pub meets_at : SentAreRead → (run : Run) (place : ℕ) (e : Entry) → IsRun run → slice_get run.entries place ≡ Some e → Meets run.repos (past_at run place) e
+meets_at reads_back run place e h at =
+    let k : Meets run.repos (past_at run place) e × MessagePast run.repos (past_at run place) = subst (λ past. MessagePast run.repos past) (past_next run place e at) (messages_at reads_back run (place + 1) h) in k.0
 
-lawful_past : (run : Run) (place : ℕ) → IsRun run → LawfulPast run.repos (past_at run place)
-lawful_past run place h = Latest.lawful_at run.repos place run.entries (runs_are_lawful run h).steps
+lawful_past : SentAreRead → (run : Run) (place : ℕ) → IsRun run → LawfulPast run.repos (past_at run place)
+lawful_past reads_back run place h = Latest.lawful_at run.repos place run.entries (runs_are_lawful reads_back run h).steps
 
-pub lawful_at : (run : Run) (place : ℕ) (e : Entry) → IsRun run → slice_get run.entries place ≡ Some e → Lawful run.repos (past_at run place) e
-lawful_at run place e h at =
-    let k : Lawful run.repos (past_at run place) e × LawfulPast run.repos (past_at run place) = subst (λ past. LawfulPast run.repos past) (past_next run place e at) (lawful_past run (place + 1) h) in k.0
+pub lawful_at : SentAreRead → (run : Run) (place : ℕ) (e : Entry) → IsRun run → slice_get run.entries place ≡ Some e → Lawful run.repos (past_at run place) e
+lawful_at reads_back run place e h at =
+    let k : Lawful run.repos (past_at run place) e × LawfulPast run.repos (past_at run place) = subst (λ past. LawfulPast run.repos past) (past_next run place e at) (lawful_past reads_back run (place + 1) h) in k.0
 
-pub facts_at : (run : Run) (place : ℕ) → IsRun run → Facts run.repos (past_at run place)
-facts_at run place h = facts_of run.repos (past_at run place) (lawful_past run place h)
+pub facts_at : SentAreRead → (run : Run) (place : ℕ) → IsRun run → Facts run.repos (past_at run place)
+facts_at reads_back run place h = facts_of run.repos (past_at run place) (lawful_past reads_back run place h)
 
 -- ---- the drop of a removal
 
@@ -76,15 +77,15 @@ pub order_judge : (past : List Entry) (e : Entry) (r a slot j target : ℕ) (dea
     → sender past r e.taken ≡ Some s → s.entry.kind ≡ Order j target deadline need k → judge_by past e.repo e.taken e.kind ≡ Some (record { repo = a; job = j; past = s.before })
 order_judge past e r a slot j target deadline need key k s is kind from order = rw (repo_of e r is, kind, from, order) refl
 
-module _ (run : Run) (place : ℕ) (e : Entry) (h : IsRun run) (at : slice_get run.entries place ≡ Some e) (key : List ℕ) where
+module _ (reads_back : SentAreRead) (run : Run) (place : ℕ) (e : Entry) (h : IsRun run) (at : slice_get run.entries place ≡ Some e) (key : List ℕ) where
   messages : MessagePast run.repos (past_at run place)
-  messages = messages_at run place h
+  messages = messages_at reads_back run place h
 
   by_own : (x : Removal) → (t : Removes run.repos e (past_at run place) key x) → (judge : Judge) × (judge_at run place e ≡ Some judge) × Dropped run.repos (past_at run place) key e x judge
   by_own x t =
-      let own = (meets_at run place e h at).own t.r t.repo_is in
+      let own = (meets_at reads_back run place e h at).own t.r t.repo_is in
       let m = own.removes t.j key t.kind_is in
-      let w = local_drop run.repos (past_at run place) e (lawful_at run place e h at) t.r t.j key t.d t.repo_is t.kind_is t.decided_is in
+      let w = local_drop run.repos (past_at run place) e (lawful_at reads_back run place e h at) t.r t.j key t.d t.repo_is t.kind_is t.decided_is in
       let judge : Judge = record { repo = t.r; job = t.j; past = past_at run place } in
       let there : Dropped run.repos (past_at run place) key e (local_removal run.repos (past_at run place) t.r t.j t.d) judge = record {
         r = t.r;
@@ -105,7 +106,7 @@ module _ (run : Run) (place : ℕ) (e : Entry) (h : IsRun run) (at : slice_get r
   by_order : (x : Removal) → removal run.repos (past_at run place) key e ≡ Some x → (t : Obeys run.repos e (past_at run place) key x)
       → (judge : Judge) × (judge_at run place e ≡ Some judge) × Dropped run.repos (past_at run place) key e x judge
   by_order x is t =
-      let m = meets_at run place e h at in
+      let m = meets_at reads_back run place e h at in
       let own = m.own t.r t.repo_is in
       let ob = own.obeys t.a t.slot key t.kind_is in
       let k : Takes run.repos (past_at run place) e t.r t.a key =
@@ -139,13 +140,13 @@ module _ (run : Run) (place : ℕ) (e : Entry) (h : IsRun run) (at : slice_get r
   found x is = elim (removal_was run.repos e (past_at run place) key x is) [ inl t ↦ by_own x t | inr t ↦ by_order x is t ]
 
 -- what the drop of a removal found
-pub dropped : (run : Run) (key : List ℕ) (place : ℕ) (e : Entry) (x : Removal) (judge : Judge) → IsRun run → slice_get run.entries place ≡ Some e → removal_at run key place e ≡ Some x → judge_at run place e ≡ Some judge
+pub dropped : SentAreRead → (run : Run) (key : List ℕ) (place : ℕ) (e : Entry) (x : Removal) (judge : Judge) → IsRun run → slice_get run.entries place ≡ Some e → removal_at run key place e ≡ Some x → judge_at run place e ≡ Some judge
     → Dropped run.repos (past_at run place) key e x judge
-dropped run key place e x judge h at is judge_is =
-    let f = found run place e h at key x is in
+dropped reads_back run key place e x judge h at is judge_is =
+    let f = found reads_back run place e h at key x is in
     subst (λ (y : Judge). Dropped run.repos (past_at run place) key e x y) (same_Some f.0 judge (sym f.1 ∙ judge_is)) f.2
 
 -- and it has a judge
-pub judged_by : (run : Run) (key : List ℕ) (place : ℕ) (e : Entry) (x : Removal) → IsRun run → slice_get run.entries place ≡ Some e → removal_at run key place e ≡ Some x
+pub judged_by : SentAreRead → (run : Run) (key : List ℕ) (place : ℕ) (e : Entry) (x : Removal) → IsRun run → slice_get run.entries place ≡ Some e → removal_at run key place e ≡ Some x
     → (judge : Judge) × (judge_at run place e ≡ Some judge) × Dropped run.repos (past_at run place) key e x judge
-judged_by run key place e x h at is = found run place e h at key x is
+judged_by reads_back run key place e x h at is = found reads_back run place e h at key x is

@@ -8,6 +8,7 @@ use Rattle.annex_base.specs.declared.kinds.Call.{Call}
 use Rattle.annex_base.specs.declared.kinds.Call.TheVariants.{Unhold, PutFile}
 use Rattle.annex_base.proofs.Lists.{Each-member, Each-push}
 use Rattle.annex_base.proofs.Conditions.{if_either}
+use Rattle.race_core.proofs.Below.{SentAreRead}
 use Rattle.drop_proof.specs.declared.evidence.Evidence.{Evidence}
 use Rattle.drop_proof.specs.declared.evidence.Kind.{Kind}
 use Rattle.drop_proof.specs.declared.evidence.Kind.TheVariants.{Locked, Trusted, Recent}
@@ -31,12 +32,12 @@ use Rattle.node_model.specs.Slots.{job_of}
 use Rattle.p2p_wire.specs.declared.message.Message.{Message}
 use Rattle.p2p_wire.specs.declared.message.Message.TheVariants.{Version, LockContent, CheckPresent, GetTimestamp, Remove, RemoveBefore, Get, Put, PutFrom, AlreadyHave, Data, Valid, Success, Failure, Error}
 use Rattle.p2p_wire.specs.Messages.{message_of, text_of}
-use Rattle.node_model.specs.Evidence.{Offer, Gives, Fails, Standing, Claimed, Ignored, Asked, gather, pick, reached}
+use Rattle.node_model.specs.Evidence.{Offer, Gives, Fails, Standing, Claimed, Ignored, Asked, gather, pick, reached_candidates}
 use Rattle.node_model.specs.SetUp.{SetUp}
 use Rattle.node_model.specs.Sessions.{line_in}
 use Rattle.node_model.specs.Ends.{end_after}
 use Rattle.node_model.specs.Jobs
-use Rattle.node_model.specs.Jobs.{AsksLock, AsksLook, Drops, Fresh, GetsBytes, GetsData, GetsWord, Gets, Greets, Heard, Held, Next, Orders, Part, Phase, Puts, PutsAnswer, PutsBytes, PutsOffer, PutsWord, Rows, Work, claims, closed_part, fault_of, fault_phase, first_look, gained, gets_bytes, gets_more, heard_of, hears, hears_frame, job_end, learns, listens, put_from, puts_answer, puts_bytes, puts_more, quiet, says, says_some, sends, talks, talks_on, target_of, to_phase, took, took_line, transferred, unreleased, word_taken, work_after, work_kind, works_after}
+use Rattle.node_model.specs.Jobs.{AsksLock, AsksLook, Drops, Fresh, GetsBytes, GetsData, GetsWord, Gets, Greets, Heard, Held, Next, Orders, Part, Phase, Puts, PutsAnswer, PutsBytes, PutsOffer, PutsWord, Rows, Work, claims, closed_part, fault_of, fault_phase, first_look, after_gain, gets_bytes, gets_more, heard_of, hears, hears_frame, job_end, learns, listens, put_from, puts_answer, puts_bytes, puts_more, quiet, says, says_some, sends, talks, talks_on, target_of, to_phase, took, took_line, after_transfer, after_failed_release, word_taken, work_after, work_kind, works_after}
 use Rattle.run_model.specs.States.{rows_at, works, state_of}
 use Rattle.race_core.proofs.Knowing.{candidates_of, is_to_ask, known, knows}
 use Rattle.node_model.specs.Knows.{heard_offer, need_of, offer_by, standing_of}
@@ -64,7 +65,7 @@ module _ (b : ℕ) where
   heard_early : (w : Work) (peer : ℕ) (x : Heard) → Early b w → HeardEarly b x → Early b (hears w peer x)
   heard_early w peer x a h = record { phase = tt; heard = (h, a.heard) }
 
-  transferred_early : (w : Work) (o : Outcome) → Early b w → Early b (transferred w o)
+  transferred_early : (w : Work) (o : Outcome) → Early b w → Early b (after_transfer w o)
   transferred_early w o a = if_either (Early b) (Jobs.is_move w.what.kind) (record w { part = Drops; phase = Fresh; fills = false }) (record w { phase = Jobs.Ends o; fills = false })
       (λ e. record { phase = tt; heard = a.heard }) (λ e. record { phase = tt; heard = a.heard })
 
@@ -187,7 +188,7 @@ module _ (b : ℕ) where
   fault_early r w Drops Remote Fresh a = heard_early w r (Jobs.Lacks causes.Fault) a tt
   fault_early r w part side phase a = record { phase = tt; heard = a.heard }
 
-  unreleased_early : (w : Work) (time : ℕ) (phase : Phase) → Early b w → Early b (unreleased w time phase)
+  unreleased_early : (w : Work) (time : ℕ) (phase : Phase) → Early b w → Early b (after_failed_release w time phase)
   unreleased_early w time Jobs.AsksTime a = record { phase = tt; heard = a.heard }
   unreleased_early w time phase a = a
 
@@ -196,7 +197,7 @@ module _ (b : ℕ) where
   call_early r w time Unhold a = unreleased_early w time w.phase a
   call_early r w time call a = fault_early r w w.part (Jobs.side_of w) w.phase a
 
-  gained_early : (w : Work) (phase : Phase) → Early b w → Early b (gained w phase)
+  gained_early : (w : Work) (phase : Phase) → Early b w → Early b (after_gain w phase)
   gained_early w (GetsWord peer start size) a = transferred_early w (outcomes.Got (Some peer) (Some start)) a
   gained_early w phase a = a
 
@@ -308,11 +309,11 @@ first_end_below s past w end h runs is =
     (ends_below 1100000600000 (known s (state_of s past) w)
     (gathered 1100000600000 (Jobs.side_of w) (need_of (state_of s past) w) (knows s (state_of s past) w)
     (λ c. offered 1000000000000 1100000000000 (state_of s past).clock (λ time le. clock_small s.repos past s.number time h.repos h.bounds le) (standing_of s (state_of s past) w c) (heard_of w c)
-    (λ x e. found_early 1000000000000 c w.heard early.heard x e)) (reached (is_to_ask s (state_of s past) w) (candidates_of s w)) [] tt)) is
+    (λ x e. found_early 1000000000000 c w.heard early.heard x e)) (reached_candidates (is_to_ask s (state_of s past) w) (candidates_of s w)) [] tt)) is
 
 -- an order with a deadline is read as it was said
-pub deadline_read : (s : SetUp) (past : List Entry) (w : Work) (n end now : ℕ) → OwnPast s past → Member w (works past s.number) → n < 2 ^ 61 → least_end (known s (state_of s past) w) ≡ Some end
+pub deadline_read : SentAreRead → (s : SetUp) (past : List Entry) (w : Work) (n end now : ℕ) → OwnPast s past → Member w (works past s.number) → n < 2 ^ 61 → least_end (known s (state_of s past) w) ≡ Some end
     → message_of (text_of (RemoveBefore (n + (end - now) / 1000) w.what.key)) ≡ Some (RemoveBefore (n + (end - now) / 1000) w.what.key)
-deadline_read s past w n end now h runs small is =
+deadline_read reads_back s past w n end now h runs small is =
     let below : end ≤ 1100000600000 = first_end_below s past w end h runs is in
-    before_read s past h.run w runs (n + (end - now) / 1000) (omega (arith, below, small))
+    before_read reads_back s past h.run w runs (n + (end - now) / 1000) (omega (arith, below, small))

@@ -19,7 +19,7 @@ use Rattle.run_data.specs.declared.entry.FrameText.TheVariants.{Opening, Closing
 use Rattle.run_data.specs.declared.entry.LogFile.TheVariants.{Location}
 use Rattle.node_model.specs.Ends.{same_bool, End, EndName, end_sends, end_takes, end_took, frames, is_opening, may_take, sends_at, sent_at, server_end, taken_at, takes_at}
 use Rattle.run_model.specs.Past.{Occurs, is_of}
-use Rattle.node_model.specs.SetUp.{SetUp, served}
+use Rattle.node_model.specs.SetUp.{SetUp, served_connections}
 use Rattle.run_model.specs.States.{end_at, session, state_of}
 use Rattle.node_model.specs.Jobs.{Work, job_end}
 use Rattle.node_model.specs.Owed.{Owed, due}
@@ -134,7 +134,7 @@ step_speaks s past k m small e = elim (first_was (owed_step s (state_of s past) 
   where
     rest : (session_step s (state_of s past) k ≡ Some m) ⊎ (job_step s (state_of s past) k ≡ Some m) → BySessionAt s past (entry_of s.number k m) ⊎ JobSpeaksAt s past (entry_of s.number k m)
     rest (inl x) =
-        let w = some_was (λ (c : ℕ × ℕ). session_at s (state_of s past) k (server_end c.0 c.1)) (served s) m x in
+        let w = some_was (λ (c : ℕ × ℕ). session_at s (state_of s past) k (server_end c.0 c.1)) (served_connections s) m x in
         inl (w.0.0, w.0.1, w.1, session_here s past k small (server_end w.0.0 w.0.1) m w.2)
     rest (inr x) = inr (job_speaks_at s past k m x)
 

@@ -28,7 +28,7 @@ use Rattle.p2p_wire.specs.Messages.{order_of, message_of}
 use Rattle.node_model.specs.Sessions.{line_in}
 use Rattle.node_model.specs.Ends.{end_after}
 use Rattle.node_model.specs.Jobs
-use Rattle.node_model.specs.Jobs.{AsksLock, AsksLook, AsksTime, Denied, Drops, Ends, Fresh, GetsBytes, GetsData, GetsWord, Gets, Greets, Late, Next, Orders, Part, Phase, Puts, PutsAnswer, PutsBytes, PutsOffer, PutsWord, Rows, Work, claims, closed_part, fault_of, fault_phase, first_look, gained, hears_frame, is_move, is_ordered, job_end, learns, listens, partner, quiet, running, says, says_some, sends, side_of, stores_fault, talks, talks_on, target_of, to_phase, took, took_line, transferred, unreleased, word_taken, work_kind}
+use Rattle.node_model.specs.Jobs.{AsksLock, AsksLook, AsksTime, Denied, Drops, Ends, Fresh, GetsBytes, GetsData, GetsWord, Gets, Greets, Late, Next, Orders, Part, Phase, Puts, PutsAnswer, PutsBytes, PutsOffer, PutsWord, Rows, Work, claims, closed_part, fault_of, fault_phase, first_look, after_gain, hears_frame, is_move, is_ordered, job_end, learns, listens, partner, quiet, running, says, says_some, sends, side_of, stores_fault, talks, talks_on, target_of, to_phase, took, took_line, after_transfer, after_failed_release, word_taken, work_kind}
 use Rattle.race_core.proofs.TalkFacts.{Fits}
 use Rattle.race_core.proofs.PhaseFacts.{is_fresh, readies_place}
 use Rattle.race_core.proofs.JobKept.{claims_kept, learns_kept}
@@ -128,7 +128,7 @@ module _ (rows : Rows) (r : ℕ) (e : Entry) (kind : EntryKind) where
   abbrev Stood : Work → Work → Type 0
   Stood w x = Reasoned rows r w e kind x
 
-  transferred_stood : (w : Work) (o : Outcome) → OutcomeReason rows r w e kind o → Stood w (transferred w o)
+  transferred_stood : (w : Work) (o : Outcome) → OutcomeReason rows r w e kind o → Stood w (after_transfer w o)
   transferred_stood w o reason = if_either (Stood w) (is_move w.what.kind) (record w { part = Drops; phase = Fresh; fills = false }) (record w { phase = Ends o; fills = false }) (λ h. inr tt) (λ h. inr reason)
 
   closed_stood : (w : Work) (x : ShutOn rows w e) (part : Part) → w.part ≡ part → Stood w (closed_part r w x.peer part)
@@ -237,7 +237,7 @@ module _ (rows : Rows) (r : ℕ) (e : Entry) (kind : EntryKind) where
   on_stood k w (Some peer) on = if_either (Stood w) (end_after (job_end w peer) (rows.ends (job_end w peer)) e).opened (talks rows r w e e.sent) (closed_part r w peer w.part)
       (λ h. talks_stood k w e.sent refl) (λ h. closed_stood w (record { peer = peer; on = on; closed = h }) w.part refl)
 
-  unreleased_stood : (w : Work) (owner : By) (phase : Phase) → w.phase ≡ phase → kind ≡ Fault Unhold owner → Stood w (unreleased w e.time phase)
+  unreleased_stood : (w : Work) (owner : By) (phase : Phase) → w.phase ≡ phase → kind ≡ Fault Unhold owner → Stood w (after_failed_release w e.time phase)
   unreleased_stood w owner AsksTime is k = inr (is, (owner, k), refl)
   unreleased_stood w owner phase is k = inl refl
 
@@ -258,7 +258,7 @@ module _ (rows : Rows) (r : ℕ) (e : Entry) (kind : EntryKind) where
   call_stood w Unhold owner k = unreleased_stood w owner w.phase refl k
   call_stood w call owner k = fault_stood w w.part (side_of w) w.phase refl refl refl (record { call = call; owner = owner; kind_is = k; not_owed = λ is. cc })
 
-  gained_stood : (w : Work) (phase : Phase) → Stood w (gained w phase)
+  gained_stood : (w : Work) (phase : Phase) → Stood w (after_gain w phase)
   gained_stood w (GetsWord peer start size) = transferred_stood w (Got (Some peer) (Some start)) tt
   gained_stood w phase = inl refl
 

@@ -8,6 +8,7 @@ use Rattle.annex_base.specs.Lists.{Member}
 use Rattle.annex_base.specs.declared.kinds.Word.{Word}
 use Rattle.annex_base.proofs.Conditions.{eqb_refl}
 use Rattle.annex_base.proofs.Lists.{Member-filter_parts}
+use Rattle.race_core.proofs.Below.{SentAreRead}
 use Rattle.run_data.specs.declared.entry.Entry.{Entry}
 use Rattle.run_data.specs.declared.entry.EntryKind.{EntryKind}
 use Rattle.run_data.specs.declared.entry.EntryKind.TheVariants.{Begin, Crash, End as ends_job}
@@ -171,7 +172,7 @@ touched_within s past run a n x before o is t = elim (t) [
   | inr f ↦ subst (λ k. k ≤ (end_at past s.number a).epoch) f.3 ((within s a past run).taken_in x before f.0 o is f.1 f.2)
 ]
 
-module _ (s : SetUp) (past : List Entry) (e : Entry) (words : ℕ → Option Word) (run : OwnRun s past) (is : is_of s.number e ≡ true) (own : OwnPart s past words e) (a : EndName) (client : a.client ≡ true) (now : (end_at (e ∷ past) s.number a).opened ≡ true) where
+module _ (reads_back : SentAreRead) (s : SetUp) (past : List Entry) (e : Entry) (words : ℕ → Option Word) (run : OwnRun s past) (is : is_of s.number e ≡ true) (own : OwnPart s past words e) (a : EndName) (client : a.client ≡ true) (now : (end_at (e ∷ past) s.number a).opened ≡ true) where
   abbrev c : End
   c = end_at past s.number a
 
@@ -195,7 +196,7 @@ module _ (s : SetUp) (past : List Entry) (e : Entry) (words : ℕ → Option Wor
       after_is = end_own s.number past a e is
 
       by_job : (y : Stepped s past e) → OpensNone (sent_at a e.sent) ⊎ ((g : FrameView) × (Member g (sent_at a e.sent)) × (is_opening g.body ≡ true)) → (c.opened ≡ true) ⊎ (c.epoch < d.epoch)
-      by_job y (inl none) = inl (took_opened s past e y a (all_opened between (sent_at a e.sent) none (ap (λ (z : End). z.opened) (sym after_is) ∙ now)))
+      by_job y (inl none) = inl (took_opened reads_back s past e y a (all_opened between (sent_at a e.sent) none (ap (λ (z : End). z.opened) (sym after_is) ∙ now)))
       by_job y (inr g) =
           let grows : c.epoch ≤ between.epoch = between_grows s past words e own is a in
           let opens : between.epoch + 1 ≤ (sends_all between (sent_at a e.sent)).epoch = opening_grows between (sent_at a e.sent) g.0 g.1 (opening_is g.0.body g.2) in
@@ -206,7 +207,7 @@ module _ (s : SetUp) (past : List Entry) (e : Entry) (words : ℕ → Option Wor
   no_begin : c.opened ≡ true → (job : Running) → job.slot ≡ a.slot → (j : ℕ) (what : Job) → e.kind ≡ Begin j what → job.slot ≡ free_slot (jobs past s.number) → ⊥
   no_begin o job slot j what kind free =
       let js = jobs past s.number in
-      let x = open_runs s past run a client o in
+      let x = open_runs reads_back s past run a client o in
       let few : length js < 4 = subst (λ n. n < 4) (sym (length-map (works past s.number) running) ∙ ap length (jobs_are past s.number)) (begins_few s past words e own j what kind) in
       let at : x.job.slot ≡ free_slot js = x.slot ∙ sym slot ∙ free in
       true≢false (sym (subst (λ n. Slots.uses js n ≡ true) at (used_slot js x.job x.runs)) ∙ free_is js few)
@@ -246,18 +247,18 @@ module _ (s : SetUp) (past : List Entry) (e : Entry) (words : ℕ → Option Wor
     after_one x before (inr o) own_x i kind t = by_older x before o own_x i kind t
 
 -- E: all that touched an open end of a client in its epoch is by the job that runs in its slot
-pub one_runs : (s : SetUp) → (a : EndName) → a.client ≡ true → (past : List Entry) → OwnRun s past → OneRuns s past a
-one_runs s a client past run = own_induction s (λ p. OneRuns s p a) (λ o. absurd (true≢false (sym o))) other
-    (λ p e words r is part old now job runs slot. after_one s p e words r is part a client now old job runs slot) past run
+pub one_runs : SentAreRead → (s : SetUp) → (a : EndName) → a.client ≡ true → (past : List Entry) → OwnRun s past → OneRuns s past a
+one_runs reads_back s a client past run = own_induction s (λ p. OneRuns s p a) (λ o. absurd (true≢false (sym o))) other
+    (λ p e words r is part old now job runs slot. after_one reads_back s p e words r is part a client now old job runs slot) past run
   where
     other : (p : List Entry) (e : Entry) → is_of s.number e ≡ false → OneRuns s p a → OneRuns s (e ∷ p) a
     other p e is old o job runs slot x before (inl at) own_x i kind t = absurd (true≢false (sym own_x ∙ ap (is_of s.number) at.0 ∙ is))
     other p e is old o job runs slot x before (inr at) own_x i kind t = old (rw is at o) job (rw is at runs) slot x before at own_x i kind (rw is at t)
 
 -- what is sent and taken in one epoch of a connection is by one job
-pub one_job : (s : SetUp) → (past : List Entry) (words : ℕ → Option Word) (e : Entry) → OwnRun s past → is_of s.number e ≡ true → OwnPart s past words e → (w : Way) → uses w e ≡ true
+pub one_job : SentAreRead → (s : SetUp) → (past : List Entry) (words : ℕ → Option Word) (e : Entry) → OwnRun s past → is_of s.number e ≡ true → OwnPart s past words e → (w : Way) → uses w e ≡ true
     → (j i : ℕ) (x : Entry) (before : List Entry) → job_of e.kind ≡ Some j → Occurs past x before → is_of s.number x ≡ true → job_of x.kind ≡ Some i → uses w x ≡ true → i ≡ j
-one_job s past words e run is own w used j i x before kind o own_x kind_x used_x = go (uses_touches w e used)
+one_job reads_back s past words e run is own w used j i x before kind o own_x kind_x used_x = go (uses_touches w e used)
   where
     a : EndName
     a = end_to w
@@ -276,7 +277,7 @@ one_job s past words e run is own w used j i x before kind o own_x kind_x used_x
 
     -- the end is open, and at this epoch
     at_epoch : c.opened ≡ true → w.epoch ≡ c.epoch → i ≡ j
-    at_epoch opened same = one_runs s a refl past run opened (running y.by.w) (stepped_job_runs s past e y.by) y.slot x before o own_x i kind_x (subst (λ n. Touches a n x) same t) ∙ y.number
+    at_epoch opened same = one_runs reads_back s a refl past run opened (running y.by.w) (stepped_job_runs s past e y.by) y.slot x before o own_x i kind_x (subst (λ n. Touches a n x) same t) ∙ y.number
 
     go : Touches a w.epoch e → i ≡ j
     go (inl g) =

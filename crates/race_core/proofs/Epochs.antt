@@ -3,6 +3,7 @@ use Rattle.std.proofs.Common.{◌≡◌, ◌≢◌, ℕ, ◌<◌, ◌≤◌, Boo
 use Rattle.std.specs.Prelude.{◌==◌, slice_get, zero}
 use Rattle.std.proofs.lemmas.Bool.{eqb-true}
 use Rattle.annex_base.specs.Lists.{Each}
+use Rattle.race_core.proofs.Below.{SentAreRead}
 use Rattle.run_data.specs.declared.entry.Entry.{Entry}
 use Rattle.run_data.specs.declared.entry.FrameView.{FrameView}
 use Rattle.run_data.specs.declared.entry.FrameText.{FrameText}
@@ -12,7 +13,7 @@ use Rattle.run_data.specs.Repos.{IsSetUp}
 use Rattle.run_model.specs.Past.{is_of}
 use Rattle.node_model.specs.Rows.{option_is}
 use Rattle.run_model.specs.Said.{is_request}
-use Rattle.run_model.specs.Frames.{Flying, MayTake, Way, sent, taken, taker_of}
+use Rattle.run_model.specs.Frames.{Flying, MayTake, Way, frames_sent, taken_count, taker_of}
 use Rattle.node_model.specs.Ends.{End, EndName, end_takes, server_end}
 use Rattle.run_model.specs.States.{end_at}
 use Rattle.run_model.specs.Run.{RunPast, set_up}
@@ -39,9 +40,9 @@ not_both (Some n) a b p apart = go (n == b) refl
     go true e = absurd (apart (sym (eqb-true n a p) ∙ eqb-true n b e))
     go false e = refl
 
-module _ (run : Run) (repos : Each IsSetUp run.repos) where
+module _ (reads_back : SentAreRead) (run : Run) (repos : Each IsSetUp run.repos) where
   -- what was sent is of no later opening
-  pub sent_epoch : (past : List Entry) → RunPast (set_up run) past → (r : ℕ) (a : EndName) (n k : ℕ) (it : Flying) → slice_get (sent past (way_out r a n)) k ≡ Some it → n ≤ (end_at past r a).epoch
+  pub sent_epoch : (past : List Entry) → RunPast (set_up run) past → (r : ℕ) (a : EndName) (n k : ℕ) (it : Flying) → slice_get (frames_sent past (way_out r a n)) k ≡ Some it → n ≤ (end_at past r a).epoch
   sent_epoch past h r a n k it e =
       let w = way_out r a n in
       let z : Sending past w it = sending past w k it e in
@@ -51,10 +52,10 @@ module _ (run : Run) (repos : Each IsSetUp run.repos) where
       subst (λ m. m ≤ (end_at past r a).epoch) parts.epoch_is
       ((within (set_up run r) a past (own_past run repos r past h).run).sent_in it.entry it.before it.frame z.occurs own (sends_member w it.entry it.frame z.sends) at)
 
-  pub none_sent : (past : List Entry) → RunPast (set_up run) past → (r : ℕ) (a : EndName) (n : ℕ) → (end_at past r a).epoch < n → sent past (way_out r a n) ≡ []
-  none_sent past h r a n later = go (sent past (way_out r a n)) refl
+  pub none_sent : (past : List Entry) → RunPast (set_up run) past → (r : ℕ) (a : EndName) (n : ℕ) → (end_at past r a).epoch < n → frames_sent past (way_out r a n) ≡ []
+  none_sent past h r a n later = go (frames_sent past (way_out r a n)) refl
     where
-      go : (xs : List Flying) → sent past (way_out r a n) ≡ xs → xs ≡ []
+      go : (xs : List Flying) → frames_sent past (way_out r a n) ≡ xs → xs ≡ []
       go [] is = refl
       go (x ∷ xs) is = absurd (let low = sent_epoch past h r a n zero x (ap (λ (ys : List Flying). slice_get ys zero) is) in less n (end_at past r a).epoch low later)
         where
@@ -63,11 +64,11 @@ module _ (run : Run) (repos : Each IsSetUp run.repos) where
 
   pub none_yet : (past : List Entry) → RunPast (set_up run) past → (r : ℕ) (a : EndName) (n : ℕ) → (end_at past r a).epoch < n → Queue past (way_out r a n) []
   none_yet past h r a n later = empty_queue past (way_out r a n) (none_sent past h r a n later)
-      (Turns.taken_of is_request past (way_out r a n) (prefixes run.repos past (way_out r a n) (message_past run repos past h))).within
+      (Turns.taken_of is_request past (way_out r a n) (prefixes run.repos past (way_out r a n) (message_past reads_back run repos past h))).within
 
   -- an Opening that the server takes was sent by the client
   pub opening_sent : (past : List Entry) → RunPast (set_up run) past → (r p q n : ℕ) (f : FrameView) → MayTake past (way_in p (server_end r q) n) f → n ≤ (end_at past r (client_end p q)).epoch
-  opening_sent past h r p q n f t = sent_epoch past h r (client_end p q) n (taken past (way_out r (client_end p q) n)) t.it t.next
+  opening_sent past h r p q n f t = sent_epoch past h r (client_end p q) n (taken_count past (way_out r (client_end p q) n)) t.it t.next
 
   -- **the server's opening is no later than the client's**
   pub follows : (past : List Entry) → RunPast (set_up run) past → (r p q : ℕ) → r ≢ p → (end_at past p (server_end r q)).epoch ≤ (end_at past r (client_end p q)).epoch

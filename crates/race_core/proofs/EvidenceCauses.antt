@@ -1,12 +1,13 @@
 -- The causes of refusals that rest on a drop's evidence: its locks had expired, its target's protocol is old, or it lacks evidence.
 use Rattle.std.proofs.Common.{◌≡◌, ℕ, ◌≤◌, Bool, true, false, List, [], ◌∷◌, Option, Some, None, ◌⊎◌, inl, inr, refl, sym, ap, ◌∙◌, subst, arith}
 use Rattle.std.proofs.lemmas.Bool.Decides.{nat_tests}
-use Rattle.std.specs.Prelude.{if◌then◌else◌, ◌||◌, find, length, min, nat_lt}
+use Rattle.std.specs.Prelude.{◌||◌, find, length, min, nat_lt}
 use Rattle.std.specs.List.{list_any, reduce}
 use Rattle.std.proofs.lemmas.Bool.{ltb-true}
 use Rattle.annex_base.specs.Lists.{Each, Member}
 use Rattle.annex_base.specs.declared.kinds.Word.{Word}
-use Rattle.annex_base.proofs.Lists.{Each-from_members}
+use Rattle.annex_base.proofs.Lists.{Each-from_members, Each-member, find_nowhere}
+use Rattle.race_core.proofs.Below.{SentAreRead}
 use Rattle.drop_proof.specs.declared.evidence.Evidence.{Evidence}
 use Rattle.drop_proof.specs.declared.evidence.Kind.{Kind}
 use Rattle.drop_proof.specs.declared.evidence.Kind.TheVariants.{Locked, Trusted, Recent}
@@ -22,8 +23,8 @@ use Rattle.run_model.specs.Past.{clock}
 use Rattle.run_model.specs.Logs.{need_read}
 use Rattle.run_data.specs.declared.job.Cause.{Cause}
 use Rattle.run_model.specs.Drops
-use Rattle.node_model.specs.Evidence.{Standing, gather, proof_of, Claimed, Ignored, Asked, Offer, Gives, Fails, candidates, failures, is_locked, pick, reached}
-use Rattle.run_model.specs.Drops.{asked, why, told_cause}
+use Rattle.node_model.specs.Evidence.{Standing, gather, proof_of, Claimed, Ignored, Asked, Offer, Gives, Fails, candidates, failures, is_locked, pick, reached_candidates}
+use Rattle.run_model.specs.Drops.{offer_from, why, told_cause}
 use Rattle.run_model.specs.Causes.{FoundExpired, FoundLacking, FoundOld, IsCauseOf, items}
 use Rattle.node_model.specs.SetUp.{SetUp}
 use Rattle.run_model.specs.States.{state_of, works}
@@ -71,7 +72,7 @@ locked_by xs end e = go (list_any (λ i. is_locked i.kind) xs) refl
 not_below : (a b : ℕ) → nat_lt a b ≡ false → b ≤ a
 not_below a b e = grind (arith, nat_tests)
 
-module _ (s : SetUp) (past : List Entry) (words : ℕ → Option Word) (e : Entry) (h : OwnPast s past) (own : OwnPart s past words e) (run : MessagePast s.repos past) (j : ℕ) where
+module _ (reads_back : SentAreRead) (s : SetUp) (past : List Entry) (words : ℕ → Option Word) (e : Entry) (h : OwnPast s past) (own : OwnPart s past words e) (run : MessagePast s.repos past) (j : ℕ) where
   abbrev r : ℕ
   r = s.number
 
@@ -83,7 +84,7 @@ module _ (s : SetUp) (past : List Entry) (words : ℕ → Option Word) (e : Entr
       ∙ (λ i. known_evidence (side_is w i) s.repos past r w.number (target_is r w i) (need_read past r w.number))
 
   pub items_known : (w : Work) (m : Member w (works past r)) → knows_enough s (state_of s past) w ≡ true → items s.repos past r w.number (job_of s past h w m) ≡ known s (state_of s past) w
-  items_known w m enough = items_as w m ∙ known_agrees s past w (list_agrees s past h w m) enough
+  items_known w m enough = items_as w m ∙ known_agrees s past w (list_agrees reads_back s past h w m) enough
 
   -- **Expired**
   pub expired_found : (end clk : ℕ) → e.kind ≡ ends_job j (Refused (refusals.Expired end clk)) → FoundExpired s.repos past r j e.time end clk
@@ -91,7 +92,7 @@ module _ (s : SetUp) (past : List Entry) (words : ℕ → Option Word) (e : Entr
       let x = ending s past words e own j (Refused (refusals.Expired end clk)) is in
       subst (λ n. FoundExpired s.repos past r n e.time end clk) (sym x.number_is) (elim (x.why) [
         | inl y ↦ now x y
-        | inr y ↦ settled x (drop_settled (turn_at s past e x.by) past (refusals.Expired end clk) x.by.made.taken (stands s past h x.by.w x.runs) y)
+        | inr y ↦ settled x (drop_settled (turn_at s past e x.by) past (refusals.Expired end clk) x.by.made.taken (stands reads_back s past h x.by.w x.runs) y)
       ])
     where
       now : (x : Ending s past e j (Refused (refusals.Expired end clk))) → Expires (turn_at s past e x.by) x.by.made.taken end clk → FoundExpired s.repos past r x.by.w.number e.time end clk
@@ -100,7 +101,7 @@ module _ (s : SetUp) (past : List Entry) (words : ℕ → Option Word) (e : Entr
           let kind : x.by.made.kind ≡ ends_job j (Refused (refusals.Expired end clk)) = sym (ap (λ (q : Entry). q.kind) x.by.is) ∙ is in
           let enough : knows_enough s (state_of s past) w ≡ true = elim (y.judges) [
             | inl z ↦ subst (EnoughBy (turn_at s past e x.by)) kind (next_enough (turn_at s past e x.by) x.by.made z.0 y.part_is x.by.does)
-            | inr z ↦ (at_targets s past h w x.runs).2 y.part_is z.0 (other_target s w (aims s past h.run w x.runs) y.part_is z.0) (subst (λ q. Rattle.race_core.proofs.Targets.at_target (target_of r w) q ≡ true) (sym z.1) refl)
+            | inr z ↦ (at_targets reads_back s past h w x.runs).2 y.part_is z.0 (other_target s w (aims s past h.run w x.runs) y.part_is z.0) (subst (λ q. Rattle.race_core.proofs.Targets.at_target (target_of r w) q ≡ true) (sym z.1) refl)
           ] in
           record {
             d = job_of s past h w x.runs;
@@ -115,7 +116,7 @@ module _ (s : SetUp) (past : List Entry) (words : ℕ → Option Word) (e : Entr
       settled x (inr (inr z)) =
           let w = x.by.w in
           let time = z.0 in
-          let k : KnewAt s past w (Late time) = subst (KnewAt s past w) z.1 (knew s past h w x.runs) in
+          let k : KnewAt s past w (Late time) = subst (KnewAt s past w) z.1 (knew reads_back s past h w x.runs) in
           let both : Refused (refusals.Expired end clk) ≡ Refused (refusals.Expired k.0 (clock s.repos past r time)) = z.2 ∙ ap (DropStep.expired (clock s.repos past r time)) k.1.first in
           let same_end : end ≡ k.0 = ends both in
           let same_clock : clk ≡ clock s.repos past r time = clocks both in
@@ -138,13 +139,13 @@ module _ (s : SetUp) (past : List Entry) (words : ℕ → Option Word) (e : Entr
       let x = ending s past words e own j (Refused (refusals.OldProtocol n)) is in
       subst (λ k. FoundOld s.repos past r k n) (sym x.number_is) (elim (x.why) [
         | inl y ↦ absurd y
-        | inr y ↦ settled x (drop_settled (turn_at s past e x.by) past (refusals.OldProtocol n) x.by.made.taken (stands s past h x.by.w x.runs) y)
+        | inr y ↦ settled x (drop_settled (turn_at s past e x.by) past (refusals.OldProtocol n) x.by.made.taken (stands reads_back s past h x.by.w x.runs) y)
       ])
     where
       settled : (x : Ending s past e j (Refused (refusals.OldProtocol n))) → DropSettled (turn_at s past e x.by) past (refusals.OldProtocol n) → FoundOld s.repos past r x.by.w.number n
       settled x (inl z) =
           let w = x.by.w in
-          let k : KnewAt s past w (Ends (Refused (refusals.OldProtocol n))) = subst (KnewAt s past w) z.0 (knew s past h w x.runs) in
+          let k : KnewAt s past w (Ends (Refused (refusals.OldProtocol n))) = subst (KnewAt s past w) z.0 (knew reads_back s past h w x.runs) in
           record { d = job_of s past h w x.runs; hears = z.1.0; old = ltb-true n 3 z.1.1; locked = locked_by (items s.repos past r w.number (job_of s past h w x.runs)) k.0 (ap least_end (items_known w x.runs k.1.enough) ∙ k.1.first) }
       settled x (inr (inl z)) = absurd (let no' : Refused (refusals.OldProtocol n) ≡ DropStep.denied (turn_at s past e x.by) = z.1 in cc)
       settled x (inr (inr z)) = absurd (apart (DropStep.first_end (turn_at s past e x.by)) _ z.2)
@@ -156,18 +157,12 @@ module _ (s : SetUp) (past : List Entry) (words : ℕ → Option Word) (e : Entr
 -- ---- Lacking
 
 -- none of them waits
-reached_all : (q : ℕ → Bool) (cs : List ℕ) → ((c : ℕ) → Member c cs → q c ≡ false) → reached q cs ≡ cs
+reached_all : (q : ℕ → Bool) (cs : List ℕ) → ((c : ℕ) → Member c cs → q c ≡ false) → reached_candidates q cs ≡ cs
 reached_all q [] none = refl
 reached_all q (c ∷ cs) none = rw (none c (inl refl)) (ap (λ zs. c ∷ zs) (reached_all q cs (λ d m. none d (inr m))))
 
-find_none : (q : ℕ → Bool) (cs : List ℕ) → find q cs ≡ None → (c : ℕ) → Member c cs → q c ≡ false
-find_none q [] e c m = absurd m
-find_none q (d ∷ cs) e c m = go (λ f n. find_none q cs f c n) (q d) refl e m
-  where
-    go : (find q cs ≡ None → Member c cs → q c ≡ false) → (b : Bool) → q d ≡ b → (if b then Some d else find q cs) ≡ None → Member c (d ∷ cs) → q c ≡ false
-    go more true is f m = absurd (cc)
-    go more false is f (inl same) = ap q same ∙ is
-    go more false is f (inr n) = more f n
+none_found : (q : ℕ → Bool) (cs : List ℕ) → find q cs ≡ None → (c : ℕ) → Member c cs → q c ≡ false
+none_found q cs e c m = Each-member (λ x. q x ≡ false) cs c (find_nowhere q cs e) m
 
 -- **what is left of Lacking**: of a candidate that a drop asked and that gave nothing, its entries tell the cause that its list has; the
 -- word beside a refused look is the one that was told
@@ -205,7 +200,7 @@ offers_none clock (Jobs.Held since) e = absurd (cc)
 offers_none clock Jobs.Seen e = absurd (cc)
 offers_none clock h e = refl
 
-module _ (s : SetUp) (past : List Entry) (words : ℕ → Option Word) (e : Entry) (h : OwnPast s past) (own : OwnPart s past words e) (run : MessagePast s.repos past)
+module _ (reads_back : SentAreRead) (s : SetUp) (past : List Entry) (words : ℕ → Option Word) (e : Entry) (h : OwnPast s past) (own : OwnPart s past words e) (run : MessagePast s.repos past)
     (told : (w : Work) → Member w (works past s.number) → w.part ≡ Drops → CausesTold s past w) (j : ℕ) where
   -- what the list says of a candidate, and what its entries do
   lacked : (w : Work) → Member w (works past s.number) → w.part ≡ Drops → next_of s (state_of s past) w ≡ None → (c : ℕ) → Member c (candidates_of s w) → Knowing.knows s (state_of s past) w c ≡ Fails
@@ -217,41 +212,41 @@ module _ (s : SetUp) (past : List Entry) (words : ℕ → Option Word) (e : Entr
           → ((told_cause past s.number w.number c ≡ Some (cause_by (word_told past s.number w.number c) st o)) × (st ≡ Asked)) ⊎ (st ≡ Ignored (cause_by (word_told past s.number w.number c) st o))
       go Claimed is o has f = absurd (cc)
       go (Ignored cause) is o has f = inr refl
-      go Asked is None has f = absurd (let asks : true ≡ false = (λ i. is_unasked (sym is i) (sym has i)) ∙ find_none (is_to_ask s (state_of s past) w) (candidates_of s w) last c n in cc)
+      go Asked is None has f = absurd (let asks : true ≡ false = (λ i. is_unasked (sym is i) (sym has i)) ∙ none_found (is_to_ask s (state_of s past) w) (candidates_of s w) last c n in cc)
       go Asked is (Some x) has f = inl (told w m part c n is x has (offers_none (clock s.repos past s.number) x f), refl)
 
   -- all candidates were asked, so what it knows is its entries' evidence
   items_lacking : (w : Work) (m : Member w (works past s.number)) → next_of s (state_of s past) w ≡ None → items s.repos past s.number w.number (job_of s past h w m) ≡ known s (state_of s past) w
   items_lacking w m last =
       let cs = candidates_of s w in
-      let a = list_agrees s past h w m in
-      let none = find_none (is_to_ask s (state_of s past) w) cs last in
-      let waits : reached (still_waits s.repos past s.number w.number) cs ≡ cs = reached_all (still_waits s.repos past s.number w.number) cs (λ c n. off (still_waits s.repos past s.number w.number c) (λ yes'. sym (none c n) ∙ a.waits_too c yes')) in
-      let asks : reached (is_to_ask s (state_of s past) w) cs ≡ cs = reached_all (is_to_ask s (state_of s past) w) cs none in
-      items_as s past words e h own run j w m
+      let a = list_agrees reads_back s past h w m in
+      let none = none_found (is_to_ask s (state_of s past) w) cs last in
+      let waits : reached_candidates (still_waits s.repos past s.number w.number) cs ≡ cs = reached_all (still_waits s.repos past s.number w.number) cs (λ c n. off (still_waits s.repos past s.number w.number c) (λ yes'. sym (none c n) ∙ a.waits_too c yes')) in
+      let asks : reached_candidates (is_to_ask s (state_of s past) w) cs ≡ cs = reached_all (is_to_ask s (state_of s past) w) cs none in
+      items_as reads_back s past words e h own run j w m
       ∙ ap (λ zs. gather (side_of w) (need_of (state_of s past) w) (heards.knows s.repos past s.number w.number) zs []) (waits ∙ sym asks)
-      ∙ gather_same (side_of w) (need_of (state_of s past) w) (heards.knows s.repos past s.number w.number) (Knowing.knows s (state_of s past) w) (knows_same s past w a) (reached (is_to_ask s (state_of s past) w) cs) []
+      ∙ gather_same (side_of w) (need_of (state_of s past) w) (heards.knows s.repos past s.number w.number) (Knowing.knows s (state_of s past) w) (knows_same s past w a) (reached_candidates (is_to_ask s (state_of s past) w) cs) []
     where
       off : (b : Bool) → (b ≡ true → false ≡ true) → b ≡ false
       off false f = refl
       off true f = absurd (let both = f refl in cc)
 
-  asked_fails : (w : Work) → Member w (works past s.number) → (c : ℕ) → Knowing.knows s (state_of s past) w c ≡ Fails → asked s.repos past s.number w.number c ≡ Fails
-  asked_fails w m c fails = asked_known s.repos past s.number w.number c run ∙ knows_same s past w (list_agrees s past h w m) c ∙ fails
+  asked_fails : (w : Work) → Member w (works past s.number) → (c : ℕ) → Knowing.knows s (state_of s past) w c ≡ Fails → offer_from s.repos past s.number w.number c ≡ Fails
+  asked_fails w m c fails = asked_known s.repos past s.number w.number c run ∙ knows_same s past w (list_agrees reads_back s past h w m) c ∙ fails
 
   caused : (w : Work) (m : Member w (works past s.number)) → w.part ≡ Drops → next_of s (state_of s past) w ≡ None → (c : ℕ) → Member c (candidates_of s w) → Knowing.knows s (state_of s past) w c ≡ Fails
       → IsCauseOf s.repos past s.number w.number (candidates_of s w) (record { repo = c; cause = cause_by (word_told past s.number w.number c) (standing_of s (state_of s past) w c) (heard_of w c) })
   caused w m part last c n fails = record {
     candidate = n;
     failed = asked_fails w m c fails;
-    told = elim (lacked w m part last c n fails) [ inl x ↦ inl x.0 | inr x ↦ inr (sym ((list_agrees s past h w m).standing_is c) ∙ x) ];
+    told = elim (lacked w m part last c n fails) [ inl x ↦ inl x.0 | inr x ↦ inr (sym ((list_agrees reads_back s past h w m).standing_is c) ∙ x) ];
   }
 
   why_is : (w : Work) (m : Member w (works past s.number)) → w.part ≡ Drops → next_of s (state_of s past) w ≡ None → (c : ℕ) → Member c (candidates_of s w) → Knowing.knows s (state_of s past) w c ≡ Fails
       → why s.repos past s.number w.number c ≡ cause_by (word_told past s.number w.number c) (standing_of s (state_of s past) w c) (heard_of w c)
   why_is w m part last c n fails = elim (lacked w m part last c n fails) [
-    | inl x ↦ (λ i. Drops.cause_by ((sym ((list_agrees s past h w m).standing_is c) ∙ x.1) i) (x.0 i))
-    | inr x ↦ ap (λ st. Drops.cause_by st (told_cause past s.number w.number c)) (sym ((list_agrees s past h w m).standing_is c) ∙ x)
+    | inl x ↦ (λ i. Drops.cause_by ((sym ((list_agrees reads_back s past h w m).standing_is c) ∙ x.1) i) (x.0 i))
+    | inr x ↦ ap (λ st. Drops.cause_by st (told_cause past s.number w.number c)) (sym ((list_agrees reads_back s past h w m).standing_is c) ∙ x)
   ]
 
   -- **Lacking**
@@ -260,7 +255,7 @@ module _ (s : SetUp) (past : List Entry) (words : ℕ → Option Word) (e : Entr
       let z = ending_words s past words e own j (Refused (refusals.Lacking proof reasons)) is in
       subst (λ n. FoundLacking s.repos past s.number n proof reasons) (sym z.0.number_is) (elim (z.0.why) [
         | inl y ↦ now z.0 z.1 y
-        | inr y ↦ absurd (settled z.0 (drop_settled (turn_at s past e z.0.by) past (refusals.Lacking proof reasons) z.0.by.made.taken (stands s past h z.0.by.w z.0.runs) y))
+        | inr y ↦ absurd (settled z.0 (drop_settled (turn_at s past e z.0.by) past (refusals.Lacking proof reasons) z.0.by.made.taken (stands reads_back s past h z.0.by.w z.0.runs) y))
       ])
     where
       now : (x : Ending s past e j (Refused (refusals.Lacking proof reasons))) → x.by.look.words ≡ words → Lacks (turn_at s past e x.by) proof reasons → FoundLacking s.repos past s.number x.by.w.number proof reasons
@@ -274,9 +269,9 @@ module _ (s : SetUp) (past : List Entry) (words : ℕ → Option Word) (e : Entr
           let f = Knowing.knows s (state_of s past) w in
           let g : ℕ → Cause = λ c. cause_by (word_told past s.number w.number c) (standing_of s (state_of s past) w c) (heard_of w c) in
           let cands : cs ≡ candidates (side_in (running w)) (length s.repos) s.number (target_in s.number (running w)) = (λ i. candidates (sym (side_is w) i) (length s.repos) s.number (sym (target_is s.number w) i)) in
-          let knows_none : (c : ℕ) → asked s.repos past s.number w.number c ≡ Fails → Knowing.knows s (state_of s past) w c ≡ Fails = (λ c a. sym (knows_same s past w (list_agrees s past h w m) c) ∙ sym (asked_known s.repos past s.number w.number c run) ∙ a) in
+          let knows_none : (c : ℕ) → offer_from s.repos past s.number w.number c ≡ Fails → Knowing.knows s (state_of s past) w c ≡ Fails = (λ c a. sym (knows_same s past w (list_agrees reads_back s past h w m) c) ∙ sym (asked_known s.repos past s.number w.number c run) ∙ a) in
           let each = failures_each (IsCauseOf s.repos past s.number w.number cs) f g cs cs (λ c n. n) (λ c n fails. caused w m y.part_is y.last c n fails) in
-          let all = Each-from_members (λ c. asked s.repos past s.number w.number c ≡ Fails → Member (record { repo = c; cause = why s.repos past s.number w.number c }) reasons) cs
+          let all = Each-from_members (λ c. offer_from s.repos past s.number w.number c ≡ Fails → Member (record { repo = c; cause = why s.repos past s.number w.number c }) reasons) cs
           (λ c n a. subst (Member (record { repo = c; cause = why s.repos past s.number w.number c })) (sym reasons_are)
           (subst (λ q. Member (record { repo = c; cause = q }) (failures f g cs)) (sym (why_is w m y.part_is y.last c n (knows_none c a))) (failures_have f g cs c n (knows_none c a)))) in
           record {
@@ -284,7 +279,7 @@ module _ (s : SetUp) (past : List Entry) (words : ℕ → Option Word) (e : Entr
             wants = (λ i. is_enough (side_is w i) (need_read past s.number w.number) (same i)) ∙ y.wants;
             proof_is = y.proof_is ∙ ap (proof_of (length s.repos) (need_read past s.number w.number)) (sym same);
             causes = subst (λ ds. Each (IsCauseOf s.repos past s.number w.number ds) reasons) cands (subst (Each (IsCauseOf s.repos past s.number w.number cs)) (sym reasons_are) each);
-            all = subst (Each (λ c. asked s.repos past s.number w.number c ≡ Fails → Member (record { repo = c; cause = why s.repos past s.number w.number c }) reasons)) cands all;
+            all = subst (Each (λ c. offer_from s.repos past s.number w.number c ≡ Fails → Member (record { repo = c; cause = why s.repos past s.number w.number c }) reasons)) cands all;
           }
 
       settled : (x : Ending s past e j (Refused (refusals.Lacking proof reasons))) → DropSettled (turn_at s past e x.by) past (refusals.Lacking proof reasons) → ⊥

@@ -19,9 +19,9 @@ use Rattle.run_data.specs.declared.entry.EntryKind.{EntryKind}
 use Rattle.run_data.specs.declared.entry.EntryKind.TheVariants.{End}
 use Rattle.run_data.specs.declared.job.Outcome.{Outcome}
 use Rattle.run_data.specs.declared.run.RepoView.{RepoView}
-use Rattle.run_model.specs.Past.{Decision, bar, clock, clock_set, decided, is_of}
+use Rattle.run_model.specs.Past.{Decision, bar, clock, clock_set, decision, is_of}
 use Rattle.node_model.specs.Rows.{is_lost_ordered}
-use Rattle.run_model.specs.Drops.{Vouch, Lock, Look, asked, done, done_kind, evidence, key_of, reply, standing}
+use Rattle.run_model.specs.Drops.{Vouch, Lock, Look, offer_from, done, done_kind, evidence, key_of, reply, standing}
 use Rattle.node_model.specs.Evidence.{Gives, candidates}
 use Rattle.race_core.specs.Lawful.{IsFresh}
 use Rattle.race_core.proofs.Heard.{heard_key}
@@ -36,7 +36,7 @@ use Rattle.race_core.proofs.Told.{heard_of, reply_heard}
 -- it was put by the job, which isn't done
 pub record Standing' (past : List Entry) (r j : ℕ) (key : List ℕ) : Type 0 where
   pub d : Decision
-  pub decided_is : decided past r j ≡ Some d
+  pub decided_is : decision past r j ≡ Some d
   pub key_is : d.key ≡ key
   pub open' : done past r j ≡ false
 
@@ -57,9 +57,9 @@ barred repos (e ∷ past) r j key run h = go (λ k. barred repos past r j key ru
     old : Barred → Standing' past r j key → Standing' (e ∷ past) r j key
     old b s = record { d = s.d; decided_is = keeps (decided_keeps e past r j s.d s.decided_is); key_is = s.key_is; open' = or_from (is_of r e && done_kind j e.kind) (done past r j) (not_now (is_of r e) refl (done_kind j e.kind) refl) s.open' }
       where
-        keeps : (decided (e ∷ past) r j ≡ Some s.d) ⊎ BarOf e r j → decided (e ∷ past) r j ≡ Some s.d
+        keeps : (decision (e ∷ past) r j ≡ Some s.d) ⊎ BarOf e r j → decision (e ∷ past) r j ≡ Some s.d
         keeps (inl k) = k
-        keeps (inr k) = let none : decided past r j ≡ None = ((run.0.own r k.repo_is).bar_put j k.need k.key k.kind_is).first in let it : Some s.d ≡ None = sym s.decided_is ∙ none in absurd (cc)
+        keeps (inr k) = let none : decision past r j ≡ None = ((run.0.own r k.repo_is).bar_put j k.need k.key k.kind_is).first in let it : Some s.d ≡ None = sym s.decided_is ∙ none in absurd (cc)
 
         not_now : (c : Bool) → is_of r e ≡ c → (d : Bool) → done_kind j e.kind ≡ d → (c && d) ≡ false
         not_now false is d k = refl
@@ -123,7 +123,7 @@ item_ends side repos past a j target need = evidence_each _ (λ c. Unit {0}) sid
     (λ c kind u g end hold since owner k is said. offer_end (clock repos past a) (standing repos past a j c) (reply past a j c) hold since end owner k (ap_gives c kind end g is) said)
     (Each-any (candidates side (length repos) a target))
   where
-    ap_gives : (c : ℕ) (kind : Kind) (end : ℕ) → asked repos past a j c ≡ Gives kind → kind ≡ Locked end → asked repos past a j c ≡ Gives (Locked end)
+    ap_gives : (c : ℕ) (kind : Kind) (end : ℕ) → offer_from repos past a j c ≡ Gives kind → kind ≡ Locked end → offer_from repos past a j c ≡ Gives (Locked end)
     ap_gives c kind end g is = g ∙ ap (λ k. Gives k) is
 
 -- the clock of a job was set before it asked for what it was told of

@@ -19,9 +19,9 @@ use Rattle.drop_proof.specs.declared.rule.Side.{Side}
 use Rattle.drop_proof.specs.declared.rule.Side.TheVariants.{Local, Remote}
 use Rattle.run_data.specs.declared.entry.EntryKind.{EntryKind}
 use Rattle.run_data.specs.declared.entry.EntryKind.TheVariants.{Share, Check, Bar, Crash, Gone, End}
-use Rattle.run_model.specs.Past.{present, bar, holds, decided, Decision, is_of, now, clock, clock_set}
+use Rattle.run_model.specs.Past.{present, bar, holds, decision, Decision, is_of, now, clock, clock_set}
 use Rattle.node_model.specs.Rows.{is_blocked, is_lost_ordered}
-use Rattle.run_model.specs.Drops.{Vouch, Lock, Look, key_of, vouch, vouches, reply, standing, asked, evidence, done, done_kind}
+use Rattle.run_model.specs.Drops.{Vouch, Lock, Look, key_of, vouch, vouches, reply, standing, offer_from, evidence, done, done_kind}
 use Rattle.node_model.specs.Evidence.{Gives, is_trusted, candidates}
 use Rattle.drop_proof.specs.Judging.{is_enough, counts}
 use Rattle.run_model.specs.Safety.{Removal, removal, removals, add_removal, local_removal, remote_removal}
@@ -38,7 +38,7 @@ is_later place x = nat_lt place x.decision
 
 -- whatever removes the key at r from now on, or has removed it since, decided later than this place
 pub record LaterOnly (repos : List RepoView) (past : List Entry) (r place : ℕ) (key : List ℕ) : Type 0 where
-  pub later : (j : ℕ) → bar past r key ≡ Some j → (d : Decision) × (decided past r j ≡ Some d) × (place < d.place)
+  pub later : (j : ℕ) → bar past r key ≡ Some j → (d : Decision) × (decision past r j ≡ Some d) × (place < d.place)
   pub copy : (present past r key ≡ true) ⊎ (list_any (is_later place) (removals repos past key) ≡ true)
 
 -- an item that counts, and isn't a claim
@@ -62,24 +62,24 @@ pub record Facts (repos : List RepoView) (past : List Entry) : Type 0 where
   pub bar_there : (r j : ℕ) (key : List ℕ) → bar past r key ≡ Some j → present past r key ≡ true
   pub bar_free : (r j t : ℕ) (key : List ℕ) → now past ≤ t → bar past r key ≡ Some j → is_blocked (holds past r) key (clock repos past r t) ≡ false
   pub guarded : (r a j hold since : ℕ) (owner : By) (key : List ℕ) → Member (Lock hold since owner key) (vouches past r a j) → done past a j ≡ false → now past < since + hold_time → present past r key ≡ true
-  pub placed : (a j : ℕ) (d : Decision) → decided past a j ≡ Some d → d.place < length past
-  pub vouched : (r a j : ℕ) (v : Vouch) (d : Decision) → Member v (vouches past r a j) → decided past a j ≡ Some d → LaterOnly repos past r d.place (key_of v)
+  pub placed : (a j : ℕ) (d : Decision) → decision past a j ≡ Some d → d.place < length past
+  pub vouched : (r a j : ℕ) (v : Vouch) (d : Decision) → Member v (vouches past r a j) → decision past a j ≡ Some d → LaterOnly repos past r d.place (key_of v)
   pub lasting : (r a j : ℕ) (v : Vouch) → Member v (vouches past r a j) → Lasts repos past r v ⊎ (done past a j ≡ true)
   pub removed : (key : List ℕ) → Each (RemovalOk repos past key) (removals repos past key)
 
 -- ---- each fact is kept
 
-decided_still : (repos : List RepoView) (past : List Entry) (e : Entry) → Lawful repos past e → (a j : ℕ) (d : Decision) → decided past a j ≡ Some d → decided (e ∷ past) a j ≡ Some d
+decided_still : (repos : List RepoView) (past : List Entry) (e : Entry) → Lawful repos past e → (a j : ℕ) (d : Decision) → decision past a j ≡ Some d → decision (e ∷ past) a j ≡ Some d
 decided_still repos past e law a j d h = elim (decided_keeps e past a j d h) [
   | inl s ↦ s
-  | inr t ↦ let w = law.bars a j t.need t.key t.repo_is t.kind_is in let none : decided past a j ≡ None = w.first in cc
+  | inr t ↦ let w = law.bars a j t.need t.key t.repo_is t.kind_is in let none : decision past a j ≡ None = w.first in cc
 ]
 
 later_still : (repos : List RepoView) (past : List Entry) (e : Entry) → Lawful repos past e → (r place : ℕ) (key : List ℕ) → place < length past
     → LaterOnly repos past r place key → LaterOnly repos (e ∷ past) r place key
 later_still repos past e law r place key lt old = record { later = later; copy = copy old.copy }
   where
-    later : (j : ℕ) → bar (e ∷ past) r key ≡ Some j → (d : Decision) × (decided (e ∷ past) r j ≡ Some d) × (place < d.place)
+    later : (j : ℕ) → bar (e ∷ past) r key ≡ Some j → (d : Decision) × (decision (e ∷ past) r j ≡ Some d) × (place < d.place)
     later j h = elim (bar_was e past r key j h) [
       | inl s ↦ let w = old.later j s in (w.0, decided_still repos past e law r j w.0 w.1, w.2)
       | inr t ↦ (record { place = length past; key = key; need = t.need }, decided_new e past r j t.need key t.repo_is t.kind_is, lt)
@@ -119,14 +119,14 @@ free_later : (repos : List RepoView) (past : List Entry) (e : Entry) (r place : 
     → (TakesAway e r key → ⊥) → ((j : ℕ) → PutsBar e r key j → ⊥) → LaterOnly repos (e ∷ past) r place key
 free_later repos past e r place key row no_gone no_bar = record { later = later; copy = copy }
   where
-    later : (i : ℕ) → bar (e ∷ past) r key ≡ Some i → (d : Decision) × (decided (e ∷ past) r i ≡ Some d) × (place < d.place)
+    later : (i : ℕ) → bar (e ∷ past) r key ≡ Some i → (d : Decision) × (decision (e ∷ past) r i ≡ Some d) × (place < d.place)
     later i h = elim (bar_was e past r key i h) [ inl s ↦ let none : bar past r key ≡ None = row.free in cc | inr t ↦ absurd (no_bar i t) ]
 
     copy : (present (e ∷ past) r key ≡ true) ⊎ (list_any (is_later place) (removals repos (e ∷ past) key) ≡ true)
     copy = elim (present_stays e past r key row.there) [ inl s ↦ inl s | inr t ↦ absurd (no_gone t) ]
 
 vouched_kept : (repos : List RepoView) (past : List Entry) (e : Entry) → Facts repos past → Lawful repos past e
-    → (r a j : ℕ) (v : Vouch) (d : Decision) → Member v (vouches (e ∷ past) r a j) → decided (e ∷ past) a j ≡ Some d → LaterOnly repos (e ∷ past) r d.place (key_of v)
+    → (r a j : ℕ) (v : Vouch) (d : Decision) → Member v (vouches (e ∷ past) r a j) → decision (e ∷ past) a j ≡ Some d → LaterOnly repos (e ∷ past) r d.place (key_of v)
 vouched_kept repos past e f law r a j v d m h = elim (Member-append_cases (vouch past e r a j) (vouches past r a j) v m) [
   | inl k ↦ let w = vouch_was past e r a j v k in
       free_later repos past e r d.place (key_of v) (law.copies r a j v k).0
@@ -229,7 +229,7 @@ removal_still repos past e law key x old = record {
   counted = old.counted;
 }
 
-same_decision : (past : List Entry) (r j : ℕ) (d d' : Decision) → decided past r j ≡ Some d → decided past r j ≡ Some d' → d ≡ d'
+same_decision : (past : List Entry) (r j : ℕ) (d d' : Decision) → decision past r j ≡ Some d → decision past r j ≡ Some d' → d ≡ d'
 same_decision past r j d d' h k = let e : Some d ≡ Some d' = sym h ∙ k in cc
 
 -- what the entry found, with the removal's own decision
@@ -241,15 +241,15 @@ pub record LocalDrop (repos : List RepoView) (past : List Entry) (r j time : ℕ
   pub open' : done past r j ≡ false
 
 pub local_drop : (repos : List RepoView) (past : List Entry) (e : Entry) → Lawful repos past e → (r j : ℕ) (key : List ℕ) (d : Decision) → is_of r e ≡ true → e.kind ≡ Gone (by_job j) key
-    → decided past r j ≡ Some d → LocalDrop repos past r j e.time key d
+    → decision past r j ≡ Some d → LocalDrop repos past r j e.time key d
 local_drop repos past e law r j key d is kind at =
     let w = law.removes r j key is kind in
     subst (λ (x : Decision). LocalDrop repos past r j e.time key x) (same_decision past r j w.d d w.decided_is at)
     (record { barred = w.barred; key_is = w.key_is; enough = w.enough; in_time = w.in_time; open' = w.open' })
 
 -- the items of a local drop
-local_item : (repos : List RepoView) (past : List Entry) (e : Entry) → Facts repos past → Lawful repos past e → (r j : ℕ) (key : List ℕ) (d : Decision) → decided past r j ≡ Some d → LocalDrop repos past r j e.time key d
-    → (c : ℕ) (kind : Kind) → asked repos past r j c ≡ Gives kind → ItemOk repos (e ∷ past) key Local d.place (record { repo = c; kind = kind })
+local_item : (repos : List RepoView) (past : List Entry) (e : Entry) → Facts repos past → Lawful repos past e → (r j : ℕ) (key : List ℕ) (d : Decision) → decision past r j ≡ Some d → LocalDrop repos past r j e.time key d
+    → (c : ℕ) (kind : Kind) → offer_from repos past r j c ≡ Gives kind → ItemOk repos (e ∷ past) key Local d.place (record { repo = c; kind = kind })
 local_item repos past e f law r j key d at w c Trusted g y t = cc
 local_item repos past e f law r j key d at w c (Locked end) g y t =
     let o = offer_locked (clock repos past r) (standing repos past r j c) (reply past r j c) end g in
@@ -262,7 +262,7 @@ local_item repos past e f law r j key d at w c Recent g y t =
     later_still repos past e law c d.place key (f.placed r j d at)
     (subst (λ k. LaterOnly repos past c d.place k) (w.in_time.keys c (Look o.0) o.1) (f.vouched c r j (Look o.0) d (reply_vouched past r j c (Look o.0) o.1) at))
 
-local_ok : (repos : List RepoView) (past : List Entry) (e : Entry) → Facts repos past → Lawful repos past e → (r j : ℕ) (key : List ℕ) (d : Decision) → decided past r j ≡ Some d → LocalDrop repos past r j e.time key d
+local_ok : (repos : List RepoView) (past : List Entry) (e : Entry) → Facts repos past → Lawful repos past e → (r j : ℕ) (key : List ℕ) (d : Decision) → decision past r j ≡ Some d → LocalDrop repos past r j e.time key d
     → RemovalOk repos (e ∷ past) key (local_removal repos past r j d)
 local_ok repos past e f law r j key d at w = record {
   before = omega (arith, f.placed r j d at);
@@ -277,7 +277,7 @@ local_ok repos past e f law r j key d at w = record {
 
 -- a copy that a remote drop locked, as its order is obeyed
 pub remote_lock : (repos : List RepoView) (past : List Entry) (e : Entry) → Facts repos past → Lawful repos past e → (r a : ℕ) (key : List ℕ) → (w : FoundRemote repos past e r a key)
-    → (c end : ℕ) → asked repos w.s.before a w.j c ≡ Gives (Locked end) → IsFresh w.s.before a w.j e.time (record { repo = c; kind = Locked end }) → Free past c key
+    → (c end : ℕ) → offer_from repos w.s.before a w.j c ≡ Gives (Locked end) → IsFresh w.s.before a w.j e.time (record { repo = c; kind = Locked end }) → Free past c key
 remote_lock repos past e f law r a key w c end g lt =
     let o = offer_locked (clock repos w.s.before a) (standing repos w.s.before a w.j c) (reply w.s.before a w.j c) end g in
     let v : Vouch = Lock o.0 o.1 o.2.0 o.2.1.0 in
@@ -286,7 +286,7 @@ remote_lock repos past e f law r a key w c end g lt =
     subst (λ k. Free past c k) (w.in_time.keys c v is) (lock_there repos past e f law c a w.j o.0 o.1 o.2.0 o.2.1.0 m w.open' (lt end o.0 o.1 o.2.0 o.2.1.0 refl is))
 
 remote_item : (repos : List RepoView) (past : List Entry) (e : Entry) → Facts repos past → Lawful repos past e → (r a slot : ℕ) (key : List ℕ) → is_of r e ≡ true → e.kind ≡ Gone (Peer a slot) key
-    → (w : FoundRemote repos past e r a key) → (c : ℕ) (kind : Kind) → not (c == r) ≡ true → asked repos w.s.before a w.j c ≡ Gives kind
+    → (w : FoundRemote repos past e r a key) → (c : ℕ) (kind : Kind) → not (c == r) ≡ true → offer_from repos w.s.before a w.j c ≡ Gives kind
     → IsFresh w.s.before a w.j e.time (record { repo = c; kind = kind }) → ItemOk repos (e ∷ past) key Remote (length past) (record { repo = c; kind = kind })
 remote_item repos past e f law r a slot key is kind w c Trusted other g lt y t = cc
 remote_item repos past e f law r a slot key is kind w c Recent other g lt y t = cc

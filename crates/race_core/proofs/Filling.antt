@@ -21,7 +21,7 @@ use Rattle.run_model.specs.Frames.{says, taken_if}
 use Rattle.node_model.specs.SetUp.{SetUp}
 use Rattle.node_model.specs.Ends.{End, EndName, end_takes, frames, is_opening, sent_at, server_end, taken_at, takes_at}
 use Rattle.run_model.specs.States.{end_at, content, session, state_of}
-use Rattle.node_model.specs.Sessions.{Doing, Waits, Guards, Gives, Gave, Wants, Takes, Took, Session, doing_after, gave_bytes, gives, guards, is_filling, line_in, said, sent_more, sent_one, session_after, session_took, took_bytes, took_message, takes_more, wanted, wants, new_session, sends_close, session_left}
+use Rattle.node_model.specs.Sessions.{Doing, Waits, Guards, Gives, Gave, Wants, Takes, Took, Session, doing_after, gave_bytes, gives, guards, is_filling, line_in, message_said, sent_more, sent_one, session_after, session_took, took_bytes, took_message, takes_more, takes_from, wants, new_session, sends_close, session_left}
 use Rattle.node_model.specs.SessionStep.{Here, here, on_frame, on_message, on_text}
 use Rattle.run_model.specs.Run.{OwnPart, OwnRun}
 use Rattle.race_core.proofs.Counting.{Closes}
@@ -41,7 +41,7 @@ more_fills key k size left = go (left == 0)
     go true = refl
     go false = refl
 
-wanted_fills : (n : ℕ) (was : Doing) (key : List ℕ) → is_filling key (wanted n was) ≡ is_filling key was
+wanted_fills : (n : ℕ) (was : Doing) (key : List ℕ) → is_filling key (takes_from n was) ≡ is_filling key was
 wanted_fills n (Wants k size) key = more_fills key k size n
 wanted_fills n Waits key = refl
 wanted_fills n (Guards h k) key = refl
@@ -141,13 +141,13 @@ text_fills h size was told (Some m) key stays e = elim (doing_fills h was.versio
     quiet f true is = absurd (elim (fills_takes h was.version key was.doing m f is) [ inl c ↦ stays c | inr w ↦ word_no w ])
 
 frame_fills : (h : Here) (size : List ℕ → Option ℕ) (was : Session) (sent : List FrameView) (body : FrameText) (key : List ℕ) → (is_opening body ≡ true → was ≡ new_session) → (Closes (on_frame h was body).says → ⊥) → (body ≡ Closing → ⊥)
-    → is_filling key (session_took size (on_frame h was body).kind was sent body).doing ≡ true → FillsBy h was body (said sent) key
+    → is_filling key (session_took size (on_frame h was body).kind was sent body).doing ≡ true → FillsBy h was body (message_said sent) key
 frame_fills h size was sent Opening key new stays no' e = absurd (true≢false (sym e ∙ ap (λ (z : Session). is_filling key z.doing) (new refl)))
 frame_fills h size was sent Closing key new stays no' e = absurd (no' refl)
 frame_fills h size was sent (Bytes n) key new stays no' e = (refl, inl (sym (bytes_fills n was.doing key) ∙ e, ap is_request (said_bytes n)))
 frame_fills h size was sent (Line text) key new stays no' e = (
   refl,
-  elim (text_fills h size was (said sent) (message_of text) key stays e) [
+  elim (text_fills h size was (message_said sent) (message_of text) key stays e) [
     | inl x ↦ inl (x.0, ap is_request (said_line-is text) ∙ x.1)
     | inr x ↦ inr (x.0, x.1, x.2)
   ],
@@ -278,7 +278,7 @@ module _ (s : SetUp) (past : List Entry) (e : Entry) (a : EndName) (is : is_of s
           (left_fills (sends_close (sent_at a e.sent)) (session_took (content past r) e.kind was (sent_at a e.sent) x.f.body) key
           (subst (λ (z : Session). is_filling key z.doing ≡ true) (session_own r past a e is ∙ ap (λ o. session_after (content past r) e.kind was (sent_at a e.sent) o) (took_at s past a e x)) g))
 
-      found : FillsBy h was x.f.body (said (sent_at a e.sent)) key
+      found : FillsBy h was x.f.body (message_said (sent_at a e.sent)) key
       found = frame_fills h (content past r) was (sent_at a e.sent) x.f.body key (λ i. closed (opening_closed c x.f i x.may)) stays no_close now
 
       same : (end_at (e ∷ past) r a).epoch ≡ c.epoch
@@ -290,11 +290,11 @@ module _ (s : SetUp) (past : List Entry) (e : Entry) (a : EndName) (is : is_of s
       counts : (n : ℕ) → taken_if is_request (e ∷ past) (way_in r a n) ≡ taken_if is_request past (way_in r a n) + one_if (hits is_request n (Some x.f))
       counts n = in_count is_request r a n e past is ∙ ap (λ o. taken_if is_request past (way_in r a n) + one_if (hits is_request n o)) (took_at s past a e x)
 
-      first_put : (fs : List FrameView) (n : ℕ) → said fs ≡ Some (PutFrom n) → list_any (says is_put_from) fs ≡ true
+      first_put : (fs : List FrameView) (n : ℕ) → message_said fs ≡ Some (PutFrom n) → list_any (says is_put_from) fs ≡ true
       first_put [] n i = absurd (cc)
       first_put (g ∷ gs) n i = rw (ap is_put_from (said_is g.body (PutFrom n) i)) refl
 
-      by : ((is_filling key was.doing ≡ true) × (is_request (message_in x.f.body) ≡ false)) ⊎ ((m : Message) × (line_in x.f.body ≡ Some m) × PutAsked key (said (sent_at a e.sent)) m) → Filling r (e ∷ past) a key
+      by : ((is_filling key was.doing ≡ true) × (is_request (message_in x.f.body) ≡ false)) ⊎ ((m : Message) × (line_in x.f.body ≡ Some m) × PutAsked key (message_said (sent_at a e.sent)) m) → Filling r (e ∷ past) a key
       by (inl y) = later r past e a key same (λ n. counts n ∙ plus_none (taken_if is_request past (way_in r a n)) (_) (off_hits n x.f y.1)) (old key epochs.0 y.0)
       by (inr y) =
           let put = y.2 in

@@ -4,6 +4,7 @@ use Rattle.std.specs.Prelude.{if◌then◌else◌, slice_get}
 use Rattle.std.specs.Option.{unwrap_or}
 use Rattle.std.proofs.lemmas.Option.{same_Some}
 use Rattle.annex_base.proofs.Conditions.{eqb_refl}
+use Rattle.race_core.proofs.Below.{SentAreRead}
 use Rattle.run_data.specs.declared.entry.Entry.{Entry}
 use Rattle.run_data.specs.declared.run.Run.{Run}
 use Rattle.run_model.specs.Past.{Occurs, is_of}
@@ -81,9 +82,9 @@ read_now run place r j e at is step drops = go (before_step (past_at run place) 
     go None h = (place, record { entry = e; entry_is = at; repo_is = is; step_is = step; dropping = drops; none_before = h }, ap (λ o. unwrap_or o (past_at run place)) h)
 
 -- **what the judge read stood before its drop's first step**
-pub read_at_first : (run : Run) (key : List ℕ) (place : ℕ) (e : Entry) (x : Removal) (judge : Judge) → IsRun run → slice_get run.entries place ≡ Some e → removal_at run key place e ≡ Some x → judge_at run place e ≡ Some judge
+pub read_at_first : SentAreRead → (run : Run) (key : List ℕ) (place : ℕ) (e : Entry) (x : Removal) (judge : Judge) → IsRun run → slice_get run.entries place ≡ Some e → removal_at run key place e ≡ Some x → judge_at run place e ≡ Some judge
     → (first : ℕ) × IsFirstStep run judge.repo judge.job first × (read_at judge.past judge.repo judge.job ≡ past_at run first)
-read_at_first run key place e x judge h at is judge_is = elim (removal_was run.repos e (past_at run place) key x is) [ inl t ↦ by_own t | inr t ↦ by_order t ]
+read_at_first reads_back run key place e x judge h at is judge_is = elim (removal_was run.repos e (past_at run place) key x is) [ inl t ↦ by_own t | inr t ↦ by_order t ]
   where
     Reads : Judge → Type 0
     Reads y = (first : ℕ) × IsFirstStep run y.repo y.job first × (read_at y.past y.repo y.job ≡ past_at run first)
@@ -93,15 +94,15 @@ read_at_first run key place e x judge h at is judge_is = elim (removal_was run.r
 
     by_own : Removes run.repos e (past_at run place) key x → Reads judge
     by_own t =
-        let made = step_made run.repos (past_at run place) t.r t.j t.d (messages_at run place h) t.decided_is in
+        let made = step_made run.repos (past_at run place) t.r t.j t.d (messages_at reads_back run place h) t.decided_is in
         reads (record { repo = t.r; job = t.j; past = past_at run place }) (rw (repo_of e t.r t.repo_is, t.kind_is) refl) (read_first run place t.r t.j made.0 made.1)
 
     by_order : Obeys run.repos e (past_at run place) key x → Reads judge
     by_order t =
-        let o = order_obeyed run place t.r t.a t.slot key h (record { entry = e; entry_is = at; repo_is = t.repo_is; kind_is = t.kind_is }) in
+        let o = order_obeyed reads_back run place t.r t.a t.slot key h (record { entry = e; entry_is = at; repo_is = t.repo_is; kind_is = t.kind_is }) in
         let same : o.taken.entry ≡ e = same_Some o.taken.entry e (sym o.taken.entry_is ∙ at) in
         let y = o.order in
-        let found = ((meets_at run o.at y.entry h y.entry_is).own t.a y.repo_is).orders o.j t.r o.deadline o.need key y.kind_is in
+        let found = ((meets_at reads_back run o.at y.entry h y.entry_is).own t.a y.repo_is).orders o.j t.r o.deadline o.need key y.kind_is in
         let step : is_step o.j y.entry.kind ≡ true = ap (is_step o.j) y.kind_is ∙ eqb_refl o.j in
         reads (record { repo = t.a; job = o.j; past = past_at run o.at }) (subst (λ z. judge_at run place z ≡ Some (record { repo = t.a; job = o.j; past = past_at run o.at })) same o.judge_is)
         (read_now run o.at t.a o.j y.entry y.entry_is y.repo_is step found.dropping)

@@ -7,7 +7,7 @@ use Rattle.annex_base.proofs.Lists.{Member-append_left, Member-append_right}
 use Rattle.run_data.specs.declared.entry.Entry.{Entry}
 use Rattle.run_data.specs.declared.entry.FrameView.{FrameView}
 use Rattle.run_model.specs.Past.{Always, Occurs, is_of}
-use Rattle.run_model.specs.Frames.{Way, Flying, Sent, flying, on_way, sender_of, sent, sent_of, taken, way_of, sender}
+use Rattle.run_model.specs.Frames.{Way, Flying, Sent, flying, on_way, sender_of, frames_sent, sent_of, taken_count, way_of, sender}
 use Rattle.run_model.specs.Drops.{Vouch, vouch, vouches}
 
 -- ---- entries that stand in a past
@@ -65,17 +65,17 @@ pub record Sending (past : List Entry) (w : Way) (it : Flying) : Type 0 where
   pub repo_is : is_of (sender_of w) it.entry ≡ true
   pub sends : Member it.frame (on_way w it.entry)
 
-pub sending : (past : List Entry) (w : Way) (k : ℕ) (it : Flying) → slice_get (sent past w) k ≡ Some it → Sending past w it
+pub sending : (past : List Entry) (w : Way) (k : ℕ) (it : Flying) → slice_get (frames_sent past w) k ≡ Some it → Sending past w it
 sending [] w k it h = absurd (get_none k it h)
 sending (e ∷ past) w k it h = go (λ g. sending past w k it g) (is_of (sender_of w) e) refl h
   where
     older : Sending past w it → Sending (e ∷ past) w it
     older s = record { occurs = inr s.occurs; repo_is = s.repo_is; sends = s.sends }
 
-    go : (slice_get (sent past w) k ≡ Some it → Sending past w it) → (b : Bool) → is_of (sender_of w) e ≡ b
-        → slice_get (if b then sent past w ++ map (flying e past) (on_way w e) else sent past w) k ≡ Some it → Sending (e ∷ past) w it
+    go : (slice_get (frames_sent past w) k ≡ Some it → Sending past w it) → (b : Bool) → is_of (sender_of w) e ≡ b
+        → slice_get (if b then frames_sent past w ++ map (flying e past) (on_way w e) else frames_sent past w) k ≡ Some it → Sending (e ∷ past) w it
     go ih false is g = older (ih g)
-    go ih true is g = elim (get_append (sent past w) (map (flying e past) (on_way w e)) k it g) [
+    go ih true is g = elim (get_append (frames_sent past w) (map (flying e past) (on_way w e)) k it g) [
       | inl s ↦ older (ih s)
       | inr m ↦ let t = map_member (flying e past) it (on_way w e) m in
           subst (λ (x : Flying). Sending (e ∷ past) w x) (sym t.1.1) (record { occurs = inl (refl, refl); repo_is = is; sends = t.1.0 })
@@ -86,17 +86,17 @@ pub record SentFrom (past : List Entry) (r : ℕ) (o : Option FrameView) (s : Se
   pub f : FrameView
   pub takes_it : o ≡ Some f
   pub it : Flying
-  pub next : slice_get (sent past (way_of r f)) (taken past (way_of r f)) ≡ Some it
+  pub next : slice_get (frames_sent past (way_of r f)) (taken_count past (way_of r f)) ≡ Some it
   pub s_is : s ≡ sent_of it
   pub sending : Sending past (way_of r f) it
 
 pub sent_from : (past : List Entry) (r : ℕ) (o : Option FrameView) (s : Sent) → sender past r o ≡ Some s → SentFrom past r o s
 sent_from past r None s h = cc
-sent_from past r (Some f) s h = go (slice_get (sent past (way_of r f)) (taken past (way_of r f))) refl h
+sent_from past r (Some f) s h = go (slice_get (frames_sent past (way_of r f)) (taken_count past (way_of r f))) refl h
   where
-    go : (x : Option Flying) → slice_get (sent past (way_of r f)) (taken past (way_of r f)) ≡ x → option_map sent_of x ≡ Some s → SentFrom past r (Some f) s
+    go : (x : Option Flying) → slice_get (frames_sent past (way_of r f)) (taken_count past (way_of r f)) ≡ x → option_map sent_of x ≡ Some s → SentFrom past r (Some f) s
     go None is k = cc
-    go (Some it) is k = record { f = f; takes_it = refl; it = it; next = is; s_is = sym (same_Some (sent_of it) s k); sending = sending past (way_of r f) (taken past (way_of r f)) it is }
+    go (Some it) is k = record { f = f; takes_it = refl; it = it; next = is; s_is = sym (same_Some (sent_of it) s k); sending = sending past (way_of r f) (taken_count past (way_of r f)) it is }
 
 pub sender_occurs : (past : List Entry) (r : ℕ) (o : Option FrameView) (s : Sent) → sender past r o ≡ Some s → Occurs past s.entry s.before
 sender_occurs past r o s h = let t = sent_from past r o s h in subst (λ (x : Sent). Occurs past x.entry x.before) (sym t.s_is) t.sending.occurs

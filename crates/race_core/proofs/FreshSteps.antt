@@ -29,6 +29,7 @@ use Rattle.node_model.specs.Evidence.{Standing, Asked}
 use Rattle.run_model.specs.Logs.{before_step, has_stepped, in_drop, is_step}
 use Rattle.node_model.specs.Look.{first_of, Made}
 use Rattle.annex_base.specs.Calls.{same_call}
+use Rattle.race_core.proofs.Below.{SentAreRead}
 use Rattle.p2p_wire.specs.declared.message.Message.TheVariants.{Put}
 use Rattle.p2p_wire.specs.Messages.{message_of, text_of}
 use Rattle.node_model.specs.SetUp.{SetUp}
@@ -203,10 +204,10 @@ fresh_before Puts old phase g fresh = (refl, go (is_fresh old) refl)
 fresh_before Gets old phase g fresh = absurd g
 fresh_before Drops old phase g fresh = absurd g
 
-puts_off : (s : SetUp) (past : List Entry) (e : Entry) (x : Work) (b : Steps s past e x) → OwnPast s past → b.by.w.part ≡ Puts → b.by.w.phase ≡ Fresh → is_fresh x.phase ≡ false
-puts_off s past e x b h part fresh =
+puts_off : SentAreRead → (s : SetUp) (past : List Entry) (e : Entry) (x : Work) (b : Steps s past e x) → OwnPast s past → b.by.w.part ≡ Puts → b.by.w.phase ≡ Fresh → is_fresh x.phase ≡ false
+puts_off reads_back s past e x b h part fresh =
     let none = unowned s past e x b h.run (λ d. absurd (let both : Puts ≡ Drops = sym part ∙ d in cc)) in
-    left s past e x b Puts part fresh (put_off (turn_at s past e b.by) none (put_read s past h.run b.by.w (step_runs s past e x b)))
+    left s past e x b Puts part fresh (put_off (turn_at s past e b.by) none (put_read reads_back s past h.run b.by.w (step_runs s past e x b)))
 
 drops_off : (s : SetUp) (past : List Entry) (e : Entry) (x : Work) (b : Steps s past e x) → OwnPast s past → b.by.w.part ≡ Drops → b.by.w.phase ≡ Fresh → is_fresh x.phase ≡ false
 drops_off s past e x b h part fresh =
@@ -214,8 +215,8 @@ drops_off s past e x b h part fresh =
     left s past e x b Drops part fresh (drop_off (turn_at s past e b.by) none)
 
 -- **a copy that is to begin has made no step**
-pub puts_unstepped : (s : SetUp) (past : List Entry) → OwnPast s past → (w : Work) → Member w (works past s.number) → w.part ≡ Puts → w.phase ≡ Fresh → has_stepped past s.number w.number ≡ false
-puts_unstepped s past h w m part fresh =
+pub puts_unstepped : SentAreRead → (s : SetUp) (past : List Entry) → OwnPast s past → (w : Work) → Member w (works past s.number) → w.part ≡ Puts → w.phase ≡ Fresh → has_stepped past s.number w.number ≡ false
+puts_unstepped reads_back s past h w m part fresh =
     invariant s (λ p x. OwnPast s p → x.part ≡ Puts → x.phase ≡ Fresh → has_stepped p s.number x.number ≡ false) (λ p e is x n was h part fresh. rw is (was (earlier s p e h) part fresh)) own past h.run w m h part fresh
   where
     own : (p : List Entry) (e : Entry) → OwnRun s (e ∷ p) → is_of s.number e ≡ true → ((x : Work) → Member x (works p s.number) → OwnPast s p → x.part ≡ Puts → x.phase ≡ Fresh → has_stepped p s.number x.number ≡ false)
@@ -227,7 +228,7 @@ puts_unstepped s past h w m part fresh =
         let now : is_fresh x.phase ≡ true = ap is_fresh fresh in
         let good = steps_good s p e x b (works_fit s p r.1 v (step_runs s p e x b)) in
         let old = fresh_before v.part v.phase x.phase (subst (λ q. GoodTo v.part v.phase q x.phase) part good) now in
-        let later = puts_off s p e x b (earlier s p e h) old.0 (fresh_is v.phase old.1) in
+        let later = puts_off reads_back s p e x b (earlier s p e h) old.0 (fresh_is v.phase old.1) in
         absurd (let both : true ≡ false = sym now ∙ later in cc)
 
 -- ---- drops

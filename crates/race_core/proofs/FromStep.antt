@@ -5,6 +5,7 @@ use Rattle.std.specs.Prelude.{reverse}
 use Rattle.annex_base.specs.Lists.{Each}
 use Rattle.annex_base.specs.declared.kinds.Word.{Word}
 use Rattle.annex_base.proofs.Conditions.{eqb_refl}
+use Rattle.race_core.proofs.Below.{SentAreRead}
 use Rattle.run_data.specs.declared.entry.By.{By}
 use Rattle.run_data.specs.declared.entry.Entry.{Entry}
 use Rattle.run_data.specs.declared.entry.EntryKind.{EntryKind}
@@ -32,27 +33,27 @@ use Rattle.race_core.proofs.Told.{some_option}
 abbrev pub StepIsOwn : Type 0
 StepIsOwn = ByStep (λ s past e. Own s.repos s.number past e)
 
-pub step_is_own : StepIsOwn
-step_is_own s past words e h b is part = record {
+pub step_is_own : SentAreRead → StepIsOwn
+step_is_own reads_back s past words e h b is part = record {
   known = known_step s past words e h b is part;
-  taken_from = taken_from_step s past words e h b is part;
-  sent_to = sent_to_step s past words e h b is part;
-  sends = sends_step s past words e h b is part;
+  taken_from = taken_from_step reads_back s past words e h b is part;
+  sent_to = sent_to_step reads_back s past words e h b is part;
+  sends = sends_step reads_back s past words e h b is part;
   one_request = one_request_step s past words e h b is part;
   one_answer = one_answer_step s past words e h b is part;
-  answered = answered_step s past words e h b is part;
-  awaits = awaits_step s past words e h b is part;
-  one_job = one_job_step s past words e h b is part;
+  answered = answered_step reads_back s past words e h b is part;
+  awaits = awaits_step reads_back s past words e h b is part;
+  one_job = one_job_step reads_back s past words e h b is part;
   share = share_step s past words e h b is part;
   shares_with = shares_with_step s past words e h b is part;
   look = look_step s past words e h b is part;
   release = release_step s past words e h b is part;
-  bar_put = bar_put_step s past words e h b is part;
-  removes = removes_step s past words e h b is part;
+  bar_put = bar_put_step reads_back s past words e h b is part;
+  removes = removes_step reads_back s past words e h b is part;
   obeys = obeys_step s past words e h b is part;
   no_script = no_script_step s past words e h b is part;
-  orders = orders_step s past words e h b is part;
-  ends = ends_step s past words e h b is part;
+  orders = orders_step reads_back s past words e h b is part;
+  ends = ends_step reads_back s past words e h b is part;
 }
 
 -- ---- an entry of a run
@@ -96,13 +97,14 @@ module _ (run : Run) (repos : Each IsSetUp run.repos) where
   pub own_past : (r : ℕ) (past : List Entry) → RunPast (set_up run) past → OwnPast (set_up run r) past
   own_past r past h = record { repos = repos; run = own_run r past h; bounds = all_bounded past h }
 
-  -- ---- runs
+-- ---- runs
 
+module _ (reads_back : SentAreRead) (run : Run) (repos : Each IsSetUp run.repos) where
   pub meets : (past : List Entry) (e : Entry) → RunPast (set_up run) past → RunStep (set_up run) past e → Meets run.repos past e
   meets past e h x = record {
     order = in_order (now past) e e.kind e.repo x.order.time_is;
     somebody = λ by key kind. somebody (now past) e by key e.repo (subst (λ (k : EntryKind). TimeIs (now past) e k e.repo) kind x.order.time_is);
-    own = λ r is. let p = part_of (set_up run) past e r x is in step_is_own (set_up run r) past p.words e (own_past r past h) (bounded past e x.order) is p.own;
+    own = λ r is. let p = part_of (set_up run) past e r x is in step_is_own reads_back (set_up run r) past p.words e (own_past run repos r past h) (bounded past e x.order) is p.own;
     frames = λ r f is takes. (part_of (set_up run) past e r x is).frames.takes f takes;
   }
 
@@ -111,12 +113,12 @@ module _ (run : Run) (repos : Each IsSetUp run.repos) where
   message_past (e ∷ past) h = (meets past e h.1 h.0, message_past past h.1)
 
 -- a run by steps is a run with messages
-pub runs_are_messages : (run : Run) → IsRun run → IsMessageRun run
-runs_are_messages run h = record { steps = message_past run h.repos (reverse run.entries) h.steps }
+pub runs_are_messages : SentAreRead → (run : Run) → IsRun run → IsMessageRun run
+runs_are_messages reads_back run h = record { steps = message_past reads_back run h.repos (reverse run.entries) h.steps }
 
 -- and so it is lawful, and safe
-pub runs_are_lawful : (run : Run) → IsRun run → IsLawful run
-runs_are_lawful run h = message_lawful run (runs_are_messages run h)
+pub runs_are_lawful : SentAreRead → (run : Run) → IsRun run → IsLawful run
+runs_are_lawful reads_back run h = message_lawful run (runs_are_messages reads_back run h)
 
-pub runs_are_safe : (run : Run) → IsRun run → IsSafe run
-runs_are_safe run h = message_safe run (runs_are_messages run h)
+pub runs_are_safe : SentAreRead → (run : Run) → IsRun run → IsSafe run
+runs_are_safe reads_back run h = message_safe run (runs_are_messages reads_back run h)

@@ -32,6 +32,7 @@ use Rattle.run_model.specs.States.{rows_at, works}
 use Rattle.node_model.specs.Calls.{to_release, to_read, to_resume}
 use Rattle.node_model.specs.Look.{Made}
 use Rattle.annex_base.specs.Calls.{same_call}
+use Rattle.race_core.proofs.Below.{SentAreRead}
 use Rattle.node_model.specs.JobStep.{Turn, by_me, end_with, ends, farewells, is_there, key_of, me, owns_share, quietly, says_to, sends_to, talk}
 use Rattle.node_model.specs.Requests.{asks, goes_to}
 use Rattle.node_model.specs.TransferStep.{first_get, next_source}
@@ -187,10 +188,10 @@ module _ (before : Turn) where
             (get_leaves (is_there t) (t.filled (key_of t)) (next_source t)))
 
 -- the step of a get that is to begin, where it has no share
-stepped_leaves : (s : SetUp) (past : List Entry) (e : Entry) (x : Stepped s past e) → OwnRun s past → Member x.w (works past s.number) → x.w.part ≡ Gets → x.w.phase ≡ Fresh
+stepped_leaves : SentAreRead → (s : SetUp) (past : List Entry) (e : Entry) (x : Stepped s past e) → OwnRun s past → Member x.w (works past s.number) → x.w.part ≡ Gets → x.w.phase ≡ Fresh
     → owns_share (turn_at s past e x) ≡ false → Leaves (turn_at s past e x) x.made x.made.kind
-stepped_leaves s past e x h runs part fresh none =
-    first_leaves (turn_at s past e x) none (get_read s past h x.w runs x.look.part x.small) x.made
+stepped_leaves reads_back s past e x h runs part fresh none =
+    first_leaves (turn_at s past e x) none (get_read reads_back s past h x.w runs x.look.part x.small) x.made
     (subst (λ (y : Turn). by_partner y (partner y.w.what.peer y.w.phase) ≡ Some x.made) same x.does)
   where
     same : turn_at s past e x ≡ t (turn_at s past e x)
@@ -219,22 +220,22 @@ leaves_is before m (ends_job j outcome) goes_on leaves = absurd (goes_on j outco
 leaves_is before m kind goes_on leaves = leaves
 
 -- a get that is to begin made no such step
-no_first : (s : SetUp) (past : List Entry) (e : Entry) (x : Work) (b : Steps s past e x) → OwnRun s past → has_stepped past s.number b.by.w.number ≡ false → b.by.w.part ≡ Gets → b.by.w.phase ≡ Fresh
+no_first : SentAreRead → (s : SetUp) (past : List Entry) (e : Entry) (x : Work) (b : Steps s past e x) → OwnRun s past → has_stepped past s.number b.by.w.number ≡ false → b.by.w.part ≡ Gets → b.by.w.phase ≡ Fresh
     → x.part ≡ Gets → is_fresh x.phase ≡ false
-no_first s past e x b h none part fresh is =
+no_first reads_back s past e x b h none part fresh is =
     let turn = turn_at s past e b.by in
     let m = b.by.made in
     let entry : e ≡ made_entry (t turn) m = b.by.is in
     let w_is : b.by.w ≡ (t turn).w = (λ i. record b.by.w { part = part i; phase = fresh i }) in
     let after : x ≡ moved (t turn) m m.kind = b.work_is ∙ (λ i. work_kind (rows_at past s.number) s.number (w_is i) (entry i) (entry i).kind) in
     let unowned : owns_share turn ≡ false = owns_none b.by.w.number (holds past s.number) (unheld past s.number b.by.w.number none) in
-    let leaves = stepped_leaves s past e b.by h (step_runs s past e x b) part fresh unowned in
+    let leaves = stepped_leaves reads_back s past e b.by h (step_runs s past e x b) part fresh unowned in
     let not_end : (j : ℕ) (outcome : Outcome) → m.kind ≢ ends_job j outcome = (λ j outcome k. b.goes_on j outcome (ap (λ (y : Entry). y.kind) entry ∙ k)) in
     ap (λ (y : Work). is_fresh y.phase) after ∙ leaves_is turn m m.kind not_end leaves (sym (ap (λ (y : Work). y.part) after) ∙ is)
 
 -- a get that is to begin has made no step
-pub no_step : (s : SetUp) (past : List Entry) → OwnRun s past → (w : Work) → Member w (works past s.number) → w.part ≡ Gets → w.phase ≡ Fresh → has_stepped past s.number w.number ≡ false
-no_step s past run w m part fresh =
+pub no_step : SentAreRead → (s : SetUp) (past : List Entry) → OwnRun s past → (w : Work) → Member w (works past s.number) → w.part ≡ Gets → w.phase ≡ Fresh → has_stepped past s.number w.number ≡ false
+no_step reads_back s past run w m part fresh =
     invariant s (λ p x. x.part ≡ Gets → x.phase ≡ Fresh → has_stepped p s.number x.number ≡ false) (λ p e is x n was part fresh. rw is (was part fresh)) own past run w m part fresh
   where
     own : (p : List Entry) (e : Entry) → OwnRun s (e ∷ p) → is_of s.number e ≡ true → ((x : Work) → Member x (works p s.number) → x.part ≡ Gets → x.phase ≡ Fresh → has_stepped p s.number x.number ≡ false)
@@ -247,5 +248,5 @@ no_step s past run w m part fresh =
         let now : is_fresh x.phase ≡ true = ap is_fresh fresh in
         let old = gets_before v.part v.phase x.part x.phase (steps_good s p e x b (works_fit s p r.1 v runs)) part now in
         let first : v.phase ≡ Fresh = fresh_is v.phase old.1 in
-        let later : is_fresh x.phase ≡ false = no_first s p e x b r.1 (was v runs old.0 first) old.0 first part in
+        let later : is_fresh x.phase ≡ false = no_first reads_back s p e x b r.1 (was v runs old.0 first) old.0 first part in
         absurd (let both : true ≡ false = sym now ∙ later in cc)

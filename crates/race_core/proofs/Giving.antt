@@ -19,7 +19,7 @@ use Rattle.run_model.specs.Frames.{taken_if}
 use Rattle.node_model.specs.SetUp.{SetUp}
 use Rattle.node_model.specs.Ends.{End, EndName, end_takes, frames, is_opening, sent_at, server_end, taken_at, takes_at}
 use Rattle.run_model.specs.States.{end_at, content, session, state_of}
-use Rattle.node_model.specs.Sessions.{Doing, Waits, Guards, Gives, Gave, Wants, Takes, Took, Session, doing_after, gave_bytes, gives, guards, line_in, reaches, said, sent_more, sent_one, session_after, session_took, took_bytes, took_message, takes_more, wanted, wants, new_session, sends_close, session_left}
+use Rattle.node_model.specs.Sessions.{Doing, Waits, Guards, Gives, Gave, Wants, Takes, Took, Session, doing_after, gave_bytes, gives, guards, line_in, reaches, message_said, sent_more, sent_one, session_after, session_took, took_bytes, took_message, takes_more, takes_from, wants, new_session, sends_close, session_left}
 use Rattle.node_model.specs.SessionStep.{Here, here, on_bytes, on_frame, on_message, on_text}
 use Rattle.run_model.specs.Run.{OwnPart, OwnRun}
 use Rattle.race_core.proofs.Counting.{Closes}
@@ -55,7 +55,7 @@ wants_not : (key : List ℕ) (good : Bool) (k : List ℕ) (told : Option Message
 wants_not key good k (Some (PutFrom n)) x = let no' : Wants k n ≡ Gives key x.0 x.1 good = x.2 in cc
 wants_not key good k told x = no_gift key good x
 
-wanted_gives : (key : List ℕ) (good : Bool) (n : ℕ) (was : Doing) → GivesIt key good (wanted n was) → GivesIt key good was
+wanted_gives : (key : List ℕ) (good : Bool) (n : ℕ) (was : Doing) → GivesIt key good (takes_from n was) → GivesIt key good was
 wanted_gives key good n (Wants k size) x = absurd (more_not key good k size n x)
 wanted_gives key good n was x = x
 
@@ -133,7 +133,7 @@ frame_gives : (h : Here) (size : List ℕ → Option ℕ) (was : Session) (sent 
 frame_gives h size was sent Opening key good new stays no' x = absurd (no_gift key good (subst (λ (z : Session). GivesIt key good z.doing) (new refl) x))
 frame_gives h size was sent Closing key good new stays no' x = absurd (no' refl)
 frame_gives h size was sent (Bytes n) key good new stays no' x = absurd (stays (bytes_close h n key good was.doing (took_gives key good n was.doing x)))
-frame_gives h size was sent (Line text) key good new stays no' x = (refl, text_gives h size was (said sent) (message_of text) key good stays x)
+frame_gives h size was sent (Line text) key good new stays no' x = (refl, text_gives h size was (message_said sent) (message_of text) key good stays x)
 
 one_gives : (was : Session) (body : FrameText) (key : List ℕ) (good : Bool) → GivesIt key good (sent_one was body).doing → GivesIt key good was.doing
 one_gives was Opening key good x = x

@@ -19,7 +19,7 @@ use Rattle.p2p_wire.specs.declared.message.Message.TheVariants.{LockContent, Unl
 use Rattle.p2p_wire.specs.Messages.{message_of}
 use Rattle.node_model.specs.Ends.{End, EndName, end_takes, is_opening, sent_at, server_end, takes_at}
 use Rattle.run_model.specs.States.{end_at, content, session, state_of}
-use Rattle.node_model.specs.Sessions.{Doing, Waits, Guards, Gives, Gave, Wants, Takes, Took, Session, doing_after, gave_bytes, gives, guards, new_session, reaches, said, sends_close, sent_more, sent_one, session_after, session_left, session_took, took_bytes, took_message, takes_more, wanted, wants}
+use Rattle.node_model.specs.Sessions.{Doing, Waits, Guards, Gives, Gave, Wants, Takes, Took, Session, doing_after, gave_bytes, gives, guards, new_session, reaches, message_said, sends_close, sent_more, sent_one, session_after, session_left, session_took, took_bytes, took_message, takes_more, takes_from, wants}
 use Rattle.node_model.specs.Calls.{to_lock}
 use Rattle.node_model.specs.Look.{failing}
 use Rattle.node_model.specs.SessionStep.{Here, Reply, bar_on, by_of, here, is_here, lock_answer, now_of, on_frame, on_lock, on_message, on_text, refuses}
@@ -38,7 +38,7 @@ takes_more-no key size left hold k e = go (left == 0) e
     go true g = cc
     go false g = cc
 
-wanted_guards : (n : ℕ) (was : Doing) (hold : ℕ) (key : List ℕ) → wanted n was ≡ Guards hold key → was ≡ Guards hold key
+wanted_guards : (n : ℕ) (was : Doing) (hold : ℕ) (key : List ℕ) → takes_from n was ≡ Guards hold key → was ≡ Guards hold key
 wanted_guards n (Wants k size) hold key e = absurd (takes_more-no k size n hold key e)
 wanted_guards n Waits hold key e = e
 wanted_guards n (Guards h k) hold key e = e
@@ -124,9 +124,9 @@ abbrev GuardsBy : Here → Session → FrameText → EntryKind → ℕ → List 
 GuardsBy h was body kind hold key = (is_opening body ≡ false) × ((was.doing ≡ Guards hold key) ⊎ Shared kind (by_of h) hold key)
 
 text_guards : (h : Here) (size : List ℕ → Option ℕ) (was : Session) (sent : List FrameView) (m : Option Message) (hold : ℕ) (key : List ℕ)
-    → (took_message size (on_text h was m).kind was (said sent) m).doing ≡ Guards hold key → (was.doing ≡ Guards hold key) ⊎ Shared (on_text h was m).kind (by_of h) hold key
+    → (took_message size (on_text h was m).kind was (message_said sent) m).doing ≡ Guards hold key → (was.doing ≡ Guards hold key) ⊎ Shared (on_text h was m).kind (by_of h) hold key
 text_guards h size was sent None hold key e = inl e
-text_guards h size was sent (Some m) hold key e = elim (doing_guards size (on_message h was.version was.doing m).kind was.doing (said sent) m hold key e) [
+text_guards h size was sent (Some m) hold key e = elim (doing_guards size (on_message h was.version was.doing m).kind was.doing (message_said sent) m hold key e) [
   | inl x ↦ inl x
   | inr x ↦ inr (lock x.0 x.1 x.2)
 ]

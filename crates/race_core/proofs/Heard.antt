@@ -16,7 +16,7 @@ use Rattle.run_model.specs.Past.{is_of, clock}
 use Rattle.p2p_wire.specs.declared.message.Message.TheVariants.{CheckPresent, LockContent, Success}
 use Rattle.run_model.specs.Said.{Said, Says, message_in}
 use Rattle.run_model.specs.Frames.{Flying, is_job, said_of, last_request, up_of, way_of}
-use Rattle.node_model.specs.Evidence.{Standing, Claimed, Ignored, Asked, Offer, Gives, Fails, candidates, gather, reached}
+use Rattle.node_model.specs.Evidence.{Standing, Claimed, Ignored, Asked, Offer, Gives, Fails, candidates, gather, reached_candidates}
 use Rattle.run_model.specs.Drops.{cause_with, is_waiting, newer_cause, or_closed, standing}
 
 -- a lock that it asked for at this time, or a look
@@ -89,4 +89,4 @@ still_waits repos past a j r = not (r == a) && is_waiting (standing repos past a
 -- the evidence of job j of a, a drop from the target, as it knows it
 abbrev pub known_evidence : Side → List RepoView → List Entry → ℕ → ℕ → ℕ → Need → List Evidence
 known_evidence side repos past a j target need =
-    gather side need (knows repos past a j) (reached (still_waits repos past a j) (candidates side (length repos) a target)) []
+    gather side need (knows repos past a j) (reached_candidates (still_waits repos past a j) (candidates side (length repos) a target)) []

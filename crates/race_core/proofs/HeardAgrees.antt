@@ -3,6 +3,7 @@ use Rattle.std.proofs.Common.{◌≡◌, ℕ, Bool, true, false, List, [], ◌�
 use Rattle.std.specs.Prelude.{option_map}
 use Rattle.std.proofs.lemmas.Bool.{true≢false}
 use Rattle.std.proofs.lemmas.Option.{same_Some}
+use Rattle.race_core.proofs.Below.{SentAreRead}
 use Rattle.run_data.specs.declared.entry.Entry.{Entry}
 use Rattle.run_data.specs.declared.entry.FrameView.{FrameView}
 use Rattle.run_data.specs.declared.entry.FrameText.{FrameText}
@@ -92,14 +93,14 @@ last_hears key target (GetsWord p start size) peer last on waits is = let x = is
 last_hears key target phase peer last on waits is = no_copy last (is waits)
 
 -- **heard, by the phase**: SUCCESS that a job takes tells it what its phase asks for
-pub takes_success : (s : SetUp) (past : List Entry) → OwnPast s past → (e : Entry) (f : FrameView) → f.up ≡ false
+pub takes_success : SentAreRead → (s : SetUp) (past : List Entry) → OwnPast s past → (e : Entry) (f : FrameView) → f.up ≡ false
     → (t : TakenBy s past e f) → message_in f.body ≡ Says Success → heard_answer (message_in f.body) (last_request past (up_of (way_of s.number f))) ≡ by_phase t.w.what.key t.w.phase
-takes_success s past past_is e f down t success =
+takes_success reads_back s past past_is e f down t success =
     let last = last_request past (up_of (way_of s.number f)) in
     let is : is_answer (message_in f.body) ≡ true = ap is_answer success in
     ap (λ (m : Said). heard_answer m last) success ∙ (success_hears last
     ∙ last_hears t.w.what.key t.w.what.peer t.w.phase t.peer (option_map asked_by last) t.on (awaits_true t.w.what.peer t.w.phase t.peer t.awaiting t.on)
-    (taken_last s past past_is e f down is t (option_map asked_by last) refl))
+    (taken_last reads_back s past past_is e f down is t (option_map asked_by last) refl))
 
 -- no other message tells of a copy
 pub takes_other : (m : Said) (last : Option Flying) → ((m ≡ Says Success) → ⊥) → heard_answer m last ≡ []
@@ -162,12 +163,12 @@ last_looks key target (GetsWord p start size) peer last on waits is = let x = is
 last_looks key target phase peer last on waits is = look_copy last (is waits)
 
 -- **a cause, by the phase**: FAILURE that a job takes is a cause where its phase asks for a look
-pub takes_failure : (s : SetUp) (past : List Entry) → OwnPast s past → (e : Entry) (f : FrameView) → f.up ≡ false
+pub takes_failure : SentAreRead → (s : SetUp) (past : List Entry) → OwnPast s past → (e : Entry) (f : FrameView) → f.up ≡ false
     → (t : TakenBy s past e f) → message_in f.body ≡ Says Failure → (from : Option Sent)
     → cause_said (message_in f.body) (option_map said_of (last_request past (up_of (way_of s.number f)))) from ≡ cause_if (refuses_look t.w.phase) from
-takes_failure s past past_is e f down t failure from =
+takes_failure reads_back s past past_is e f down t failure from =
     let last = last_request past (up_of (way_of s.number f)) in
     let is : is_answer (message_in f.body) ≡ true = ap is_answer failure in
     ap (λ (m : Said). cause_said m (option_map said_of last) from) failure ∙ (failure_says last from ∙ ap (λ b. cause_if b from)
     (last_looks t.w.what.key t.w.what.peer t.w.phase t.peer (option_map asked_by last) t.on (awaits_true t.w.what.peer t.w.phase t.peer t.awaiting t.on)
-    (taken_last s past past_is e f down is t (option_map asked_by last) refl)))
+    (taken_last reads_back s past past_is e f down is t (option_map asked_by last) refl)))

@@ -9,6 +9,7 @@ use Rattle.annex_base.specs.Lists.{Member}
 use Rattle.annex_base.specs.declared.kinds.Word.{Word}
 use Rattle.annex_base.proofs.Conditions.{eqb_refl}
 use Rattle.annex_base.proofs.Lists.{Member-filter_parts, list_any_member}
+use Rattle.race_core.proofs.Below.{SentAreRead}
 use Rattle.run_data.specs.declared.entry.By.TheVariants.{Script}
 use Rattle.run_data.specs.declared.entry.Entry.{Entry}
 use Rattle.run_data.specs.declared.entry.EntryKind.{EntryKind}
@@ -98,12 +99,12 @@ taken_cause past r peer f is down c says = go (f.peer == peer) (ap (λ n. n == p
     go true p true q o s = absurd (cc)
 
 -- **FAILURE to CHECKPRESENT**
-pub look_told : (s : SetUp) (past : List Entry) (e : Entry) (x : Stepped s past e) → OwnPast s past
+pub look_told : SentAreRead → (s : SetUp) (past : List Entry) (e : Entry) (x : Stepped s past e) → OwnPast s past
     → (f : FrameView) → e.taken ≡ Some f → line_in f.body ≡ Some Failure → (p : ℕ) → x.w.phase ≡ AsksLook p → (f.peer == s.number) ≡ false → Told (e ∷ past) s.number x.w.number f.peer
-look_told s past e x past_is f took told p phase other =
+look_told reads_back s past e x past_is f took told p phase other =
     let k = taken_of s past e x f took in
     let says : cause_said (message_in f.body) (option_map said_of (last_request past (up_of (way_of s.number f)))) None ≡ cause_if true None =
-    takes_failure s past past_is e f (Speaks.hears s past e x f took).1 k (said_is f.body Failure told) None ∙ ap (λ q. cause_if (refuses_look q) None) phase in
+    takes_failure reads_back s past past_is e f (Speaks.hears s past e x f took).1 k (said_is f.body Failure told) None ∙ ap (λ q. cause_if (refuses_look q) None) phase in
     told_now past e s.number x.w.number f.peer (shuts_with past e s.number x.w.number f.peer (stepped_own s past e x) other
     (inr (subst (λ o. option_is_none (cause_taken past s.number f.peer None o) ≡ false) (sym took) (taken_cause past s.number f.peer f refl (Speaks.hears s past e x f took).1 _ says))))
 

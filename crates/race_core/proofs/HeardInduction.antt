@@ -6,6 +6,7 @@ use Rattle.std.proofs.lemmas.Option.{same_Some}
 use Rattle.annex_base.specs.Lists.{Member}
 use Rattle.annex_base.proofs.Conditions.{eqb_refl, eqb_sym}
 use Rattle.annex_base.proofs.Lists.{find_member}
+use Rattle.race_core.proofs.Below.{SentAreRead}
 use Rattle.run_data.specs.declared.entry.By.{By}
 use Rattle.run_data.specs.declared.entry.By.TheVariants.{Job as by_job}
 use Rattle.run_data.specs.declared.entry.Entry.{Entry}
@@ -74,7 +75,7 @@ unasked_none (Ignored cause) h e = absurd (cc)
 
 -- ---- a step of the job
 
-module _ (s : SetUp) (past : List Entry) (e : Entry) (is : is_of s.number e ≡ true) (past_is : OwnPast s past)
+module _ (reads_back : SentAreRead) (s : SetUp) (past : List Entry) (e : Entry) (is : is_of s.number e ≡ true) (past_is : OwnPast s past)
     (others : (f : FrameView) → e.taken ≡ Some f → (f.peer == s.number) ≡ false) (x : Work) (b : Steps s past e x) (fit : Fits b.by.w.part b.by.w.phase) (was : HoldsOf s past b.by.w) where
   abbrev r : ℕ
   r = s.number
@@ -131,11 +132,11 @@ module _ (s : SetUp) (past : List Entry) (e : Entry) (is : is_of s.number e ≡ 
 
   -- SUCCESS of the peer
   got : (f : FrameView) (took : e.taken ≡ Some f) → line_in f.body ≡ Some Success → (peer : ℕ) (h : Jobs.Heard) (word : Heard) → by_phase v.what.key v.phase ≡ word ∷ [] → heard_as v.what.key (Some h) ≡ Some word
-      → gave_none (Some h) ≡ false → partner v.what.peer v.phase ≡ Some peer → v.part ≡ Drops → Listens s past e b.by fit ((peer, h) ∷ v.heard) → Listed'
+      → gave_none (Some h) ≡ false → partner v.what.peer v.phase ≡ Some peer → v.part ≡ Drops → Listens reads_back s past e b.by fit ((peer, h) ∷ v.heard) → Listed'
   got f took told peer h word says word_is given on part l =
       let k = taken_of s past e b.by f took in
       let same : f.peer ≡ peer = taken_peer s past e f k ∙ same_Some k.peer peer (sym k.on ∙ on) in
-      let tells : hears past e f.peer r v.number ≡ word ∷ [] = stepped_tells s past e b.by fit past_is f took told (others f took) ∙ says in
+      let tells : hears past e f.peer r v.number ≡ word ∷ [] = stepped_tells reads_back s past e b.by fit past_is f took told (others f took) ∙ says in
       record {
         lists = of_list ((peer, h) ∷ v.heard) l.list_is (lists_new s past e j peer h v.heard (λ c apart. else_none c (subst (λ n. (n == c) ≡ false) (sym same) apart) (c == r) refl)
             (subst (λ n. heard (e ∷ past) r v.number n ≡ heard_as v.what.key (Some h)) same (ap (λ ts. newer_heard ts (heard past r v.number f.peer)) tells ∙ sym word_is))
@@ -150,7 +151,7 @@ module _ (s : SetUp) (past : List Entry) (e : Entry) (is : is_of s.number e ≡ 
   -- no word of a copy by a frame
   module _ (bare : NoCopy v.what.key v.phase e.taken) where
     silent : (c : ℕ) → (c == r) ≡ false → hears past e c r v.number ≡ []
-    silent c other = stepped_silent s past e b.by fit past_is bare c other
+    silent c other = stepped_silent reads_back s past e b.by fit past_is bare c other
 
     shared : (hold end : ℕ) (owner : By) (key : List ℕ) → e.kind ≡ Share hold end owner key → Listed'
     shared hold end owner key kind =
@@ -205,7 +206,7 @@ module _ (s : SetUp) (past : List Entry) (e : Entry) (is : is_of s.number e ≡ 
           let cand : Candidate s past j v.heard peer = subst (Asking s past j v.heard) phase (was.asking part) in
           record {
             lists = of_list ((peer, Unseen) ∷ v.heard) list (none_new s past e j peer Unseen v.heard all_silent refl cand.unheard
-                (λ other. subst (λ n. Told (e ∷ past) r v.number n) same (look_told s past e b.by past_is f took (says ∙ ap (λ q. Some q) failure) peer phase (others f took))) was.lists);
+                (λ other. subst (λ n. Told (e ∷ past) r v.number n) same (look_told reads_back s past e b.by past_is f took (says ∙ ap (λ q. Some q) failure) peer phase (others f took))) was.lists);
             start = no_start part (on_later v.what.peer v.phase peer on);
           }
         where
@@ -237,9 +238,9 @@ module _ (s : SetUp) (past : List Entry) (e : Entry) (is : is_of s.number e ≡ 
     ]
     | inr w ↦ elim w [
       | inl g ↦ got g.f g.took g.told g.peer (Held g.since) (Locked_at g.since v.what.key) (ap (by_phase v.what.key) g.phase_is) refl refl (ap (partner v.what.peer) g.phase_is)
-          (lock_part v.part g.peer g.since (subst (Fits v.part) g.phase_is fit)) (lock_listens s past e b.by fit g)
+          (lock_part v.part g.peer g.since (subst (Fits v.part) g.phase_is fit)) (lock_listens reads_back s past e b.by fit g)
       | inr g ↦ got g.f g.took g.told g.peer Seen (Seen_there v.what.key) (ap (by_phase v.what.key) g.phase_is) refl refl (ap (partner v.what.peer) g.phase_is)
-          (look_part v.part g.peer (subst (Fits v.part) g.phase_is fit)) (look_listens s past e b.by fit g)
+          (look_part v.part g.peer (subst (Fits v.part) g.phase_is fit)) (look_listens reads_back s past e b.by fit g)
     ]
   ]
     where
@@ -366,13 +367,13 @@ stays_shut s past e run is w b peer other shut = go (end_at past s.number (job_e
 
 -- ---- over the past
 
-module _ (s : SetUp) where
+module _ (reads_back : SentAreRead) (s : SetUp) where
   -- an entry of the repository that is no step of the job tells it nothing
   own_still : (past : List Entry) (e : Entry) → OwnPast s (e ∷ past) → is_of s.number e ≡ true → (j : ℕ) → is_step j e.kind ≡ false → (c : ℕ) → hears past e c s.number j ≡ []
   own_still past e h is j still c =
       let own = h.run.0 is in
       let before = earlier s past e h in
-      still_tells s past own.0 e own.1 (works_fit s past before.run) before j still c
+      still_tells reads_back s past own.0 e own.1 (works_fit s past before.run) before j still c
 
   -- nothing was told to a job that hasn't begun
   future_heard : (past : List Entry) → OwnPast s past → (j : ℕ) → begun past s.number < j → (c : ℕ) → heard past s.number j c ≡ None
@@ -413,6 +414,6 @@ module _ (s : SetUp) where
       own p e run is was x (inr (inr b)) k =
           let before = earlier s p e k in
           let mine = k.run.0 is in
-          holds_step s p e is before
-          (λ f took. ne_eqb f.peer s.number (taken_from_step s p mine.0 e before k.bounds.0 is mine.1 f took)) x b (works_fit s p before.run b.by.w (step_runs s p e x b))
+          holds_step reads_back s p e is before
+          (λ f took. ne_eqb f.peer s.number (taken_from_step reads_back s p mine.0 e before k.bounds.0 is mine.1 f took)) x b (works_fit s p before.run b.by.w (step_runs s p e x b))
           (was b.by.w (step_runs s p e x b) before)

@@ -22,7 +22,7 @@ use Rattle.p2p_wire.specs.declared.message.Message.TheVariants.{AlreadyHave, Dat
 use Rattle.p2p_wire.specs.Messages.{message_of}
 use Rattle.node_model.specs.Ends.{end_after, EndName}
 use Rattle.node_model.specs.Jobs
-use Rattle.node_model.specs.Jobs.{AsksLock, AsksLook, Drops, Fresh, GetsData, GetsWord, Gets, Greets, Next, Orders, Part, Phase, Puts, PutsAnswer, PutsOffer, Rows, Work, claims, closed_part, fault_of, fault_phase, first_look, gained, hears_frame, job_end, learns, listens, quiet, running, says, says_some, sends, talks, talks_on, target_of, took, took_line, transferred, unreleased, word_taken, work_kind}
+use Rattle.node_model.specs.Jobs.{AsksLock, AsksLook, Drops, Fresh, GetsData, GetsWord, Gets, Greets, Next, Orders, Part, Phase, Puts, PutsAnswer, PutsOffer, Rows, Work, claims, closed_part, fault_of, fault_phase, first_look, after_gain, hears_frame, job_end, learns, listens, quiet, running, says, says_some, sends, talks, talks_on, target_of, took, took_line, after_transfer, after_failed_release, word_taken, work_kind}
 use Rattle.run_data.specs.declared.entry.By.{By}
 use Rattle.run_data.specs.declared.job.Cause.{Cause}
 use Rattle.node_model.specs.Slots.{Running}
@@ -36,7 +36,7 @@ use Rattle.race_core.proofs.PhaseFacts.{readies_place}
 abbrev pub SameList : Work → Work → Type 0
 SameList w x = x.heard ≡ w.heard
 
-pub transferred_list : (w : Work) (o : Outcome) → SameList w (transferred w o)
+pub transferred_list : (w : Work) (o : Outcome) → SameList w (after_transfer w o)
 transferred_list w o = if_either (SameList w) (Jobs.is_move w.what.kind) (record w { part = Drops; phase = Fresh; fills = false }) (record w { phase = Jobs.Ends o; fills = false }) (λ e. refl) (λ e. refl)
 
 word_list : (w : Work) (word : Option Message) (phase : Phase) → SameList w (word_taken w word phase)
@@ -196,11 +196,11 @@ on_changed rows r w y e s (Some peer) on =
     end_in : Running → EndName
     end_in j = record { peer = peer; slot = j.slot; client = true }
 
-pub unreleased_list : (w : Work) (time : ℕ) (phase : Phase) → SameList w (unreleased w time phase)
+pub unreleased_list : (w : Work) (time : ℕ) (phase : Phase) → SameList w (after_failed_release w time phase)
 unreleased_list w time Jobs.AsksTime = refl
 unreleased_list w time phase = refl
 
-pub gained_list : (w : Work) (phase : Phase) → SameList w (gained w phase)
+pub gained_list : (w : Work) (phase : Phase) → SameList w (after_gain w phase)
 gained_list w (GetsWord peer start size) = transferred_list w (outcomes.Got (Some peer) (Some start))
 gained_list w phase = refl
 

@@ -6,6 +6,7 @@ use Rattle.std.proofs.lemmas.Option.{same_Some}
 use Rattle.annex_base.specs.Lists.{Member}
 use Rattle.annex_base.specs.declared.kinds.Word.{Word}
 use Rattle.annex_base.proofs.Conditions.{eqb_refl}
+use Rattle.race_core.proofs.Below.{SentAreRead}
 use Rattle.run_data.specs.declared.entry.By.TheVariants.{Script, Job as by_job, Peer}
 use Rattle.run_data.specs.declared.entry.Entry.{Entry}
 use Rattle.run_data.specs.declared.entry.EntryKind.{EntryKind}
@@ -50,14 +51,14 @@ taken_peer s past e f t =
     (and_left ((f.peer == t.peer) && (f.slot == t.w.slot)) (same_bool true (if f.up then false else true)) t.of_end))
 
 -- what SUCCESS tells the job of its partner
-pub success_tells : (s : SetUp) (past : List Entry) → OwnPast s past → (e : Entry) (f : FrameView) → e.taken ≡ Some f → f.up ≡ false
+pub success_tells : SentAreRead → (s : SetUp) (past : List Entry) → OwnPast s past → (e : Entry) (f : FrameView) → e.taken ≡ Some f → f.up ≡ false
     → (t : TakenBy s past e f) → message_in f.body ≡ Says Success → is_job s.number t.w.number e ≡ true → (t.peer == s.number) ≡ false
     → hears past e t.peer s.number t.w.number ≡ by_phase t.w.what.key t.w.phase
-success_tells s past past_is e f took down t success its other =
+success_tells reads_back s past past_is e f took down t success its other =
     let peer : (f.peer == t.peer) ≡ true = ap (λ n. n == t.peer) (taken_peer s past e f t) ∙ eqb_refl t.peer in
     rw (other, its, took) (subst (λ (b : Bool). (if b && not f.up then heard_answer (message_in f.body) (last_request past (up_of (way_of s.number f))) else []) ≡ by_phase t.w.what.key t.w.phase) (sym peer)
     (subst (λ (b : Bool). (if not b then heard_answer (message_in f.body) (last_request past (up_of (way_of s.number f))) else []) ≡ by_phase t.w.what.key t.w.phase) (sym down)
-    (takes_success s past past_is e f down t success)))
+    (takes_success reads_back s past past_is e f down t success)))
 
 either_none : (b : Bool) → (let none : List Heard = [] in if b then none else none) ≡ []
 either_none true = refl
@@ -131,7 +132,7 @@ only_look Gets peer f = absurd f
 only_look Puts peer f = absurd f
 only_look Drops peer f = refl
 
-module _ (s : SetUp) (past : List Entry) (e : Entry) (x : Stepped s past e) (fit : Fits x.w.part x.w.phase) where
+module _ (reads_back : SentAreRead) (s : SetUp) (past : List Entry) (e : Entry) (x : Stepped s past e) (fit : Fits x.w.part x.w.phase) where
   abbrev t : Turn
   t = turn_at s past e x
 
@@ -180,7 +181,7 @@ module _ (s : SetUp) (past : List Entry) (e : Entry) (x : Stepped s past e) (fit
         let k = taken_of s past e x f took in
         let same : f.peer ≡ k.peer = taken_peer s past e f k in
         subst (λ c. hears past e c s.number x.w.number ≡ by_phase x.w.what.key x.w.phase) (sym same)
-        (success_tells s past past_is e f took (Speaks.hears s past e x f took).1 k (said_is f.body Success told) (stepped_own s past e x) (subst (λ c. (c == s.number) ≡ false) same other))
+        (success_tells reads_back s past past_is e f took (Speaks.hears s past e x f took).1 k (said_is f.body Success told) (stepped_own s past e x) (subst (λ c. (c == s.number) ≡ false) same other))
 
     -- nothing of others, where it is told of no copy
     pub stepped_silent : NoCopy x.w.what.key x.w.phase e.taken → (c : ℕ) → (c == s.number) ≡ false → hears past e c s.number x.w.number ≡ []
@@ -222,9 +223,9 @@ still_own j time (Share hold end (Peer peer slot) key) still = refl
 still_own j time kind still = refl
 
 -- nor any other
-pub still_tells : (s : SetUp) (past : List Entry) (words : ℕ → Option Word) (e : Entry) → OwnPart s past words e → ((w : Work) → Member w (works past s.number) → Fits w.part w.phase)
+pub still_tells : SentAreRead → (s : SetUp) (past : List Entry) (words : ℕ → Option Word) (e : Entry) → OwnPart s past words e → ((w : Work) → Member w (works past s.number) → Fits w.part w.phase)
     → OwnPast s past → (j : ℕ) → is_step j e.kind ≡ false → (c : ℕ) → hears past e c s.number j ≡ []
-still_tells s past words e own fit past_is j still c = go (c == s.number) refl
+still_tells reads_back s past words e own fit past_is j still c = go (c == s.number) refl
   where
     nothing : List Heard
     nothing = []
@@ -242,10 +243,10 @@ still_tells s past words e own fit past_is j still c = go (c == s.number) refl
         let number : x.w.number ≡ j = eqb-true x.w.number j (subst (λ o. option_is o j ≡ true) (stepped_job s past e x) ((and_parts (is_of s.number e) (option_is (job_of e.kind) j) its).1)) in
         let talks : e.kind ≡ Talk (Some x.w.number) → ⊥ = λ kind. true≢false (sym (subst (λ n. (x.w.number == n) ≡ true) number (eqb_refl x.w.number)) ∙ subst (λ k. is_step j k ≡ false) kind still) in
         subst (λ n. hears past e c s.number n ≡ []) number (elim (told_or x.w.what.key x.w.phase e.taken) [
-          | inl bare ↦ stepped_silent s past e x w_fit past_is bare c other
+          | inl bare ↦ stepped_silent reads_back s past e x w_fit past_is bare c other
           | inr got ↦ elim got [
-            | inl g ↦ absurd (talks (lock_listens s past e x w_fit g).kind_is)
-            | inr g ↦ absurd (talks (look_listens s past e x w_fit g).kind_is)
+            | inl g ↦ absurd (talks (lock_listens reads_back s past e x w_fit g).kind_is)
+            | inr g ↦ absurd (talks (look_listens reads_back s past e x w_fit g).kind_is)
           ]
         ])
 

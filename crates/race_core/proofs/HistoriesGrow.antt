@@ -12,7 +12,7 @@ use Rattle.run_data.specs.declared.job.JobKind.{JobKind}
 use Rattle.run_model.specs.Past.{begun, is_of}
 use Rattle.node_model.specs.Slots.{is_begin, job_of}
 use Rattle.node_model.specs.Rows.{option_is}
-use Rattle.run_model.specs.Frames.{Way, taken, way_of}
+use Rattle.run_model.specs.Frames.{Way, taken_count, way_of}
 use Rattle.node_model.specs.SetUp.{SetUp}
 use Rattle.run_model.specs.States.{works, state_of}
 use Rattle.node_model.specs.AnyTime.{IsPeer, MayCome}
@@ -82,7 +82,7 @@ module _ (s : SetUp) (got more : Way → List Letter) where
   all w = got w ++ more w
 
   next_more : (past : List Entry) (w : Way) (e : Entry) (f : FrameView) → TakesNext (got w) past w e f → TakesNext (all w) past w e f
-  next_more past w e f x = record { letter = x.letter; next = slice_get-left (got w) (more w) (taken past w) x.letter x.next; seq_is = x.seq_is; body_is = x.body_is; later = x.later }
+  next_more past w e f x = record { letter = x.letter; next = slice_get-left (got w) (more w) (taken_count past w) x.letter x.next; seq_is = x.seq_is; body_is = x.body_is; later = x.later }
 
   word_more : (j c : ℕ) (past : List Entry) → Kept s got past → word_got got past s.number j c ≡ word_got all past s.number j c
   word_more j c [] h = refl
@@ -96,7 +96,7 @@ module _ (s : SetUp) (got more : Way → List Letter) where
       read : (was : Option Word) (o : Option FrameView) → e.taken ≡ o → word_read got past s.number c o was ≡ word_read all past s.number c o was
       read was None is = refl
       read was (Some f) is = let x = h.0.takes f is in ap (λ y. if f.peer == c then word_in y else was)
-          (x.next ∙ sym (slice_get-left (got (way_of s.number f)) (more (way_of s.number f)) (taken past (way_of s.number f)) x.letter x.next))
+          (x.next ∙ sym (slice_get-left (got (way_of s.number f)) (more (way_of s.number f)) (taken_count past (way_of s.number f)) x.letter x.next))
 
   pub kept_more : (past : List Entry) → Kept s got past → Kept s all past
   kept_more [] h = tt
@@ -123,7 +123,7 @@ turn_kept s p got more e past h same x = (
 )
 
 -- where as many letters came as were taken, the next to come is the next to be taken
-pub takes_last : (got : List Letter) (past : List Entry) (w : Way) (e : Entry) (f : FrameView) (x : Letter) → length got ≡ taken past w → f.seq ≡ taken past w + 1 → x.body ≡ f.body
+pub takes_last : (got : List Letter) (past : List Entry) (w : Way) (e : Entry) (f : FrameView) (x : Letter) → length got ≡ taken_count past w → f.seq ≡ taken_count past w + 1 → x.body ≡ f.body
     → earlier x.sender (stamp_of e) ≡ true → TakesNext (got ++ x ∷ []) past w e f
 takes_last got past w e f x count seq body later = record { letter = x; next = subst (λ k. slice_get (got ++ x ∷ []) k ≡ Some x) count (last got); seq_is = seq; body_is = body; later = later }
   where

@@ -4,6 +4,7 @@ use Rattle.std.proofs.Common.{◌≡◌, ℕ, ◌+◌, true, false, List, length
 use Rattle.std.specs.Prelude.{slice_get}
 use Rattle.std.proofs.lemmas.Option.{same_Some}
 use Rattle.annex_base.specs.Lists.{Each}
+use Rattle.race_core.proofs.Below.{SentAreRead}
 use Rattle.run_data.specs.declared.entry.Entry.{Entry}
 use Rattle.run_data.specs.declared.entry.FrameView.{FrameView}
 use Rattle.run_data.specs.declared.run.Run.{Run}
@@ -11,7 +12,7 @@ use Rattle.run_data.specs.Repos.{IsSetUp}
 use Rattle.p2p_wire.specs.declared.message.Message.TheVariants.{Get, Invalid}
 use Rattle.run_model.specs.Past.{is_of}
 use Rattle.run_model.specs.Said.{Says, is_request, message_in}
-use Rattle.run_model.specs.Frames.{Flying, MayTake, Way, last_request, said_of, sender_of, sent, taken, taken_if, up_of, way_of}
+use Rattle.run_model.specs.Frames.{Flying, MayTake, Way, last_request, said_of, sender_of, frames_sent, taken_count, taken_if, up_of, way_of}
 use Rattle.run_model.specs.Causes.{TookGet}
 use Rattle.run_model.specs.Run.{RunPast, RunStep, set_up}
 use Rattle.run_model.specs.States.{content}
@@ -33,8 +34,8 @@ on_way-same : (before : List Entry) (g : FrameView) (v u : Way) → v ≡ u → 
 on_way-same before g v u same comes = (
   record {
     it = comes.it;
-    next = subst (λ w. slice_get (sent before w) (taken before w) ≡ Some comes.it) same comes.next;
-    seq_is = subst (λ w. g.seq ≡ taken before w + 1) same comes.seq_is;
+    next = subst (λ w. slice_get (frames_sent before w) (taken_count before w) ≡ Some comes.it) same comes.next;
+    seq_is = subst (λ w. g.seq ≡ taken_count before w + 1) same comes.seq_is;
     body_is = comes.body_is;
   },
   refl,
@@ -50,7 +51,7 @@ pub record InvalidOf (past : List Entry) (r : ℕ) (f : FrameView) : Type 0 wher
   pub asked_is : said_of request ≡ Says (Get start file key)
   pub took : TookGet past (sender_of (way_of r f)) start key request
 
-module _ (run : Run) (repos : Each IsSetUp run.repos) where
+module _ (reads_back : SentAreRead) (run : Run) (repos : Each IsSetUp run.repos) where
   invalid_of : (past : List Entry) (e : Entry) (a : ℕ) (f : FrameView) → RunPast (set_up run) past → RunStep (set_up run) past e → is_of a e ≡ true → e.taken ≡ Some f → f.up ≡ false
       → message_in f.body ≡ Says Invalid → (t : MayTake past (way_of a f) f) → InvalidOf past a f
   invalid_of past e a f h step is takes up says' t =
@@ -58,13 +59,13 @@ module _ (run : Run) (repos : Each IsSetUp run.repos) where
       let x = t.it.entry in
       let before = t.it.before in
       let r = sender_of w in
-      let all = message_past run repos past h in
-      let s = sending past w (taken past w) t.it t.next in
+      let all = message_past reads_back run repos past h in
+      let s = sending past w (taken_count past w) t.it t.next in
       let at = step_at run past x before h s.occurs in
       let part = part_of (set_up run) before x r at.0 s.repo_is in
       let g_up : t.it.frame.up ≡ false = up_at w x t.it.frame false s.sends up in
       let g_says : message_in t.it.frame.body ≡ Says Invalid = message_at t.it.frame.body f.body (Says Invalid) t.body_is says' in
-      let turn : InvalidInTurn r before t.it.frame = invalids_turn (set_up run r) before part.words x t.it.frame (own_past run repos r before at.1) part.own (sends_member w x t.it.frame s.sends) g_up g_says in
+      let turn : InvalidInTurn r before t.it.frame = invalids_turn reads_back (set_up run r) before part.words x t.it.frame (own_past run repos r before at.1) part.own (sends_member w x t.it.frame s.sends) g_up g_says in
       let way : way_from r t.it.frame ≡ w = way_sent w t.it.frame (sends_on w x t.it.frame s.sends) in
       let up_way : way_of r turn.f ≡ up_of w = way_up r turn.f t.it.frame w way turn.back turn.from_client in
       let occurs = occurs_earlier past x turn.entry before turn.before s.occurs turn.occurs in
@@ -74,7 +75,7 @@ module _ (run : Run) (repos : Each IsSetUp run.repos) where
       let turn' : length (answers before w) ≡ taken_if is_request turn.before (up_of w) =
       subst (λ v. length (answers before v) ≡ taken_if is_request turn.before (up_of w)) way (subst (λ v. length (answers before (way_from r t.it.frame)) ≡ taken_if is_request turn.before v) up_way turn.turn) in
       let answer : is_answer (message_in f.body) ≡ true = ap is_answer says' in
-      let awaits = ((meets run repos past e h step).own a is).awaits f takes up answer in
+      let awaits = ((meets reads_back run repos past e h step).own a is).awaits f takes up answer in
       let found = turn_of past w f turn.f (prefixes run.repos past w all) (prefixes run.repos past (up_of w) all) (one_answers run.repos past w all) t answer awaits turn.entry turn.before occurs turn' asked.0 (ap is_request turn.asked_is) in
       record {
         request = comes.it;

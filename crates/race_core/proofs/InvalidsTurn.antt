@@ -6,6 +6,7 @@ use Rattle.annex_base.specs.Lists.{Member}
 use Rattle.annex_base.specs.declared.kinds.Call.TheVariants as calls
 use Rattle.annex_base.specs.declared.kinds.Word.{Word}
 use Rattle.annex_base.proofs.Conditions.{if_either}
+use Rattle.race_core.proofs.Below.{SentAreRead}
 use Rattle.run_data.specs.declared.entry.Entry.{Entry}
 use Rattle.run_data.specs.declared.entry.EntryKind.{EntryKind}
 use Rattle.run_data.specs.declared.entry.EntryKind.TheVariants.{Fault, Talk}
@@ -193,13 +194,13 @@ module _ (s : SetUp) (past : List Entry) (e : Entry) (p q : ℕ) (run : OwnRun s
     short = get.found;
   }
 
-pub invalids_turn : (s : SetUp) (past : List Entry) (words : ℕ → Option Word) (e : Entry) (g : FrameView) → OwnPast s past → OwnPart s past words e
+pub invalids_turn : SentAreRead → (s : SetUp) (past : List Entry) (words : ℕ → Option Word) (e : Entry) (g : FrameView) → OwnPast s past → OwnPart s past words e
     → Member g e.sent → g.up ≡ false → message_in g.body ≡ Says Invalid → InvalidInTurn s.number past g
-invalids_turn s past words e g is own m u says' = go (server_does s past words e own)
+invalids_turn reads_back s past words e g is own m u says' = go (server_does s past words e own)
   where
     by : (p q : ℕ) → TakesHere s past (server_end p q) e ⊎ GivesHere s past (server_end p q) e → InvalidInTurn s.number past g
     by p q (inl x) = absurd (frame_not (here s (state_of s past) x.k (server_end p q)) (session past s.number (server_end p q)) x.f.body g.body (member_frames (server_end p q) (_) (_) g (subst (Member g) x.sent_is m)).0 says')
-    by p q (inr x) = gives_turn s past e p q is.run (all_read s past is) x g m says'
+    by p q (inr x) = gives_turn s past e p q is.run (all_read reads_back s past is) x g m says'
 
     go : ServerDoes s past e → InvalidInTurn s.number past g
     go (inl x) = by x.0 x.1 x.3

@@ -7,6 +7,7 @@ use Rattle.std.proofs.lemmas.Bool.{true≢false, and_parts, eqb-true}
 use Rattle.std.proofs.lemmas.Bool.Decides.{nat_tests}
 use Rattle.annex_base.specs.Lists.{Each, Member}
 use Rattle.annex_base.proofs.Lists.{Each-member, list_any_found}
+use Rattle.race_core.proofs.Below.{SentAreRead}
 use Rattle.drop_proof.specs.declared.evidence.Evidence.{Evidence}
 use Rattle.drop_proof.specs.declared.evidence.Kind.TheVariants.{Locked, Recent}
 use Rattle.run_data.specs.declared.entry.By.{By}
@@ -24,7 +25,7 @@ use Rattle.run_model.specs.Said.{Said, Says, message_in}
 use Rattle.run_model.specs.Frames.{Sent, is_job, sender, sender_of, taker_of, way_of}
 use Rattle.node_model.specs.Slots.{job_of}
 use Rattle.node_model.specs.Evidence.{Gives, Standing}
-use Rattle.run_model.specs.Drops.{Lock, Look, Vouch, asked, reply, standing, tells, told_by, vouch}
+use Rattle.run_model.specs.Drops.{Lock, Look, Vouch, offer_from, reply, standing, tells, told_by, vouch}
 use Rattle.run_model.specs.Safety.{Removal, past_at}
 use Rattle.run_model.specs.Run.{IsRun}
 use Rattle.race_core.specs.Items.{AsksLock, IsFor, IsHeld, IsToldBy, SendsUp, WasSeen}
@@ -194,7 +195,7 @@ held_by run key place judge c end hold since owner messages one told end_is last
     record {
       asking = ask.asked_it.entry;
       before = ask.asked_it.before;
-      asked = ask.asked_it.occurs;
+      offer_from = ask.asked_it.occurs;
       asks = ask.asks;
       end_is = end_is ∙ ap (λ n. n + hold_time) (end_then run.repos judge.past judge.repo judge.job since one ask.asked_it);
       hold = t.hold;
@@ -210,20 +211,20 @@ held_by run key place judge c end hold since owner messages one told end_is last
     }
 
 -- what the item's repository offered
-item_asked : (run : Run) (key : List ℕ) (place : ℕ) (e : Entry) (x : Removal) (judge : Judge) (item : Evidence) → IsRun run → slice_get run.entries place ≡ Some e → removal_at run key place e ≡ Some x
-    → judge_at run place e ≡ Some judge → Member item x.items → asked run.repos judge.past judge.repo judge.job item.repo ≡ Gives item.kind
-item_asked run key place e x judge item h at is judge_is m =
-    let d = dropped run key place e x judge h at is judge_is in
-    Each-member (λ (i : Evidence). asked run.repos judge.past judge.repo judge.job i.repo ≡ Gives i.kind) x.items item
-    (subst (Each (λ (i : Evidence). asked run.repos judge.past judge.repo judge.job i.repo ≡ Gives i.kind)) (sym d.items_are) (evidence_asked x.side run.repos judge.past judge.repo judge.job d.r x.need)) m
+item_asked : SentAreRead → (run : Run) (key : List ℕ) (place : ℕ) (e : Entry) (x : Removal) (judge : Judge) (item : Evidence) → IsRun run → slice_get run.entries place ≡ Some e → removal_at run key place e ≡ Some x
+    → judge_at run place e ≡ Some judge → Member item x.items → offer_from run.repos judge.past judge.repo judge.job item.repo ≡ Gives item.kind
+item_asked reads_back run key place e x judge item h at is judge_is m =
+    let d = dropped reads_back run key place e x judge h at is judge_is in
+    Each-member (λ (i : Evidence). offer_from run.repos judge.past judge.repo judge.job i.repo ≡ Gives i.kind) x.items item
+    (subst (Each (λ (i : Evidence). offer_from run.repos judge.past judge.repo judge.job i.repo ≡ Gives i.kind)) (sym d.items_are) (evidence_asked x.side run.repos judge.past judge.repo judge.job d.r x.need)) m
 
 -- a locked item of a removal stands on a lock that was asked for, and on a hold that is there
-pub item_held : (run : Run) (key : List ℕ) (place : ℕ) (e : Entry) (x : Removal) (judge : Judge) (item : Evidence) (end : ℕ) → IsRun run → slice_get run.entries place ≡ Some e → removal_at run key place e ≡ Some x
+pub item_held : SentAreRead → (run : Run) (key : List ℕ) (place : ℕ) (e : Entry) (x : Removal) (judge : Judge) (item : Evidence) (end : ℕ) → IsRun run → slice_get run.entries place ≡ Some e → removal_at run key place e ≡ Some x
     → judge_at run place e ≡ Some judge → Member item x.items → item.kind ≡ Locked end → IsHeld run key place judge item.repo end
-item_held run key place e x judge item end h at is judge_is m kind = go (offer_locked ask stand said end gives)
+item_held reads_back run key place e x judge item end h at is judge_is m kind = go (offer_locked ask stand said end gives)
   where
     d : Dropped run.repos (past_at run place) key e x judge
-    d = dropped run key place e x judge h at is judge_is
+    d = dropped reads_back run key place e x judge h at is judge_is
 
     ask : ℕ → ℕ
     ask = clock run.repos judge.past judge.repo
@@ -234,8 +235,8 @@ item_held run key place e x judge item end h at is judge_is m kind = go (offer_l
     said : Option Vouch
     said = reply judge.past judge.repo judge.job item.repo
 
-    gives : asked run.repos judge.past judge.repo judge.job item.repo ≡ Gives (Locked end)
-    gives = item_asked run key place e x judge item h at is judge_is m ∙ ap (λ k. Gives k) kind
+    gives : offer_from run.repos judge.past judge.repo judge.job item.repo ≡ Gives (Locked end)
+    gives = item_asked reads_back run key place e x judge item h at is judge_is m ∙ ap (λ k. Gives k) kind
 
     go : (hold since : ℕ) × ((owner : By) × ((k : List ℕ) × (said ≡ Some (Lock hold since owner k)))) → IsHeld run key place judge item.repo end
     go (hold, since, (owner, (k, told))) =
@@ -243,7 +244,7 @@ item_held run key place e x judge item end h at is judge_is m kind = go (offer_l
         let told' : reply judge.past judge.repo judge.job item.repo ≡ Some (Lock hold since owner key) = told ∙ ap (λ z. Some (Lock hold since owner z)) same in
         let v : Vouch = Lock hold since owner key in
         let end_is = offer_end (clock run.repos judge.past judge.repo) (standing run.repos judge.past judge.repo judge.job item.repo) (reply judge.past judge.repo judge.job item.repo) hold since end owner key gives told' in
-        let recorded = (facts_at run place h).lasting item.repo judge.repo judge.job v (d.later item.repo v (reply_vouched judge.past judge.repo judge.job item.repo v told')) in
+        let recorded = (facts_at reads_back run place h).lasting item.repo judge.repo judge.job v (d.later item.repo v (reply_vouched judge.past judge.repo judge.job item.repo v told')) in
         elim recorded [
           | inl last ↦ held_by run key place judge item.repo end hold since owner d.messages d.one_clock told' end_is last
           | inr ended ↦ absurd (true≢false (sym ended ∙ d.open'))
@@ -281,18 +282,18 @@ seen_by repos judge c key run h = by_vouch (vouches_by p x c judge.repo judge.jo
           free = found.0.free;
           asking = t.0.it.entry;
           before = t.0.it.before;
-          asked = t.0.sending.occurs;
+          offer_from = t.0.sending.occurs;
           job_is = t.0.is_asked;
           asks = sends_up p c judge.repo judge.job y.f (Says (CheckPresent key)) y.from_client y.asked_is t.0;
           told = elim given.told [ inl same ↦ absurd (own.taken_from y.f y.takes_it (asker_is p c judge.repo judge.job y.f t.0 ∙ sym same)) | inr k ↦ k ];
         }
 
 -- a recent item of a removal was seen, and its drop told of it
-pub item_seen : (run : Run) (key : List ℕ) (place : ℕ) (e : Entry) (x : Removal) (judge : Judge) (item : Evidence) → IsRun run → slice_get run.entries place ≡ Some e → removal_at run key place e ≡ Some x
+pub item_seen : SentAreRead → (run : Run) (key : List ℕ) (place : ℕ) (e : Entry) (x : Removal) (judge : Judge) (item : Evidence) → IsRun run → slice_get run.entries place ≡ Some e → removal_at run key place e ≡ Some x
     → judge_at run place e ≡ Some judge → Member item x.items → item.kind ≡ Recent → WasSeen judge item.repo key
-item_seen run key place e x judge item h at is judge_is m kind =
-    let d = dropped run key place e x judge h at is judge_is in
-    let gives = item_asked run key place e x judge item h at is judge_is m ∙ ap (λ k. Gives k) kind in
+item_seen reads_back run key place e x judge item h at is judge_is m kind =
+    let d = dropped reads_back run key place e x judge h at is judge_is in
+    let gives = item_asked reads_back run key place e x judge item h at is judge_is m ∙ ap (λ k. Gives k) kind in
     let o = offer_recent (clock run.repos judge.past judge.repo) (standing run.repos judge.past judge.repo judge.job item.repo) (reply judge.past judge.repo judge.job item.repo) gives in
     let same : o.0 ≡ key = d.told item.repo (Look o.0) o.1 in
     seen_by run.repos judge item.repo key d.messages (o.1 ∙ ap (λ k. Some (Look k)) same)

@@ -5,6 +5,7 @@ use Rattle.std.proofs.lemmas.Bool.{eqb-true}
 use Rattle.std.proofs.lemmas.Option.{same_Some}
 use Rattle.annex_base.specs.Lists.{Member}
 use Rattle.annex_base.proofs.Conditions.{eqb_refl, if_is}
+use Rattle.race_core.proofs.Below.{SentAreRead}
 use Rattle.drop_proof.specs.declared.rule.Need.{Need}
 use Rattle.drop_proof.specs.declared.rule.Side.{Side}
 use Rattle.drop_proof.specs.declared.rule.Side.TheVariants.{Local, Remote}
@@ -181,8 +182,8 @@ pub orderer_read : (run : Run) (place a j target : ℕ) (deadline : Option ℕ) 
 orderer_read run place a j target deadline need key h x = let y = orderer_works run place a j target deadline need key h x in work_read run place a j key h y.w y.runs y.number_is y.key_is
 
 -- an order is all that its entry sends
-pub order_alone : (run : Run) (place a j target : ℕ) (deadline : Option ℕ) (need : Need) (key : List ℕ) → IsRun run → (x : IsAt run place a (Order j target deadline need key)) → (g : FrameView) × (x.entry.sent ≡ g ∷ [])
-order_alone run place a j target deadline need key h x =
+pub order_alone : SentAreRead → (run : Run) (place a j target : ℕ) (deadline : Option ℕ) (need : Need) (key : List ℕ) → IsRun run → (x : IsAt run place a (Order j target deadline need key)) → (g : FrameView) × (x.entry.sent ≡ g ∷ [])
+order_alone reads_back run place a j target deadline need key h x =
     let p = part_at run place a x.entry h x.entry_is x.repo_is in
-    let o = order_stands_on (set_up run a) (past_at run place) p.words x.entry (own_at run place a h) p.own j target deadline need key x.kind_is in
+    let o = order_stands_on reads_back (set_up run a) (past_at run place) p.words x.entry (own_at run place a h) p.own j target deadline need key x.kind_is in
     (_, ap (λ (e : Entry). e.sent) o.by.is ∙ o.sent_is)

@@ -35,7 +35,7 @@ use Rattle.node_model.specs.Look.{Look, Made, failing, waiting}
 use Rattle.node_model.specs.SessionStep.{bytes_left}
 use Rattle.node_model.specs.Knows.{enough_by, next_by}
 use Rattle.node_model.specs.JobStep.{Turn, hears, attempts, bar_there, by_me, clock_of, end_with, ends, farewell, farewells, has_lock, is_there, key_of, me, owns_share, quietly, says_to, sends_to, talk, turn_of, wrong, others_of}
-use Rattle.node_model.specs.DropStep.{asks_copy, asks_lock, asks_target, bars, expired, first_drop, first_end, held_until, in_time, lacking, need_now, orders, removes, required_there, row_refusal, takes_drop, takes_time, target, times, tries_own}
+use Rattle.node_model.specs.DropStep.{asks_copy, asks_lock, asks_target, bars, expiry, first_drop, first_end, held_until, in_time, lacking, need_now, orders, removes, required_there, row_refusal, takes_drop, takes_time, target, times, tries_own}
 use Rattle.node_model.specs.Requests.{asks, goes_to}
 use Rattle.node_model.specs.TransferStep.{content_of, first_get, first_put, gains, next_get, next_source, puts_from, puts_piece, takes_bytes, takes_get, takes_put}
 use Rattle.node_model.specs.Turns.{awaits, by_partner, first_step, goes, goes_on, has_room, is_awaiting, job_step, judges, needs, next_step, outcome_of, slot_step, takes, takes_answer, takes_frame, takes_text, with_partner}
@@ -145,8 +145,8 @@ first_says t Puts = attempts_says t (calls.Has ∷ []) None (first_put t (is_the
 first_says t Drops = first_drop_says t (side_of t.w)
 
 removes_says : (t : Turn) → Says t (removes t)
-removes_says t = if_either (Says t) (in_time (clock_of t) (first_end t)) (attempts t (calls.Remove ∷ []) None (quietly (Gone (by_me t) (key_of t)) None)) (ends t None (expired (clock_of t) (first_end t)))
-    (λ e. attempts_says t (calls.Remove ∷ []) None (quietly (Gone (by_me t) (key_of t)) None) tt) (λ e. ends_says t None (expired (clock_of t) (first_end t)))
+removes_says t = if_either (Says t) (in_time (clock_of t) (first_end t)) (attempts t (calls.Remove ∷ []) None (quietly (Gone (by_me t) (key_of t)) None)) (ends t None (expiry (clock_of t) (first_end t)))
+    (λ e. attempts_says t (calls.Remove ∷ []) None (quietly (Gone (by_me t) (key_of t)) None) tt) (λ e. ends_says t None (expiry (clock_of t) (first_end t)))
 
 judges_says : (t : Turn) (enough : Bool) (next : Option ℕ) (side : Side) → Says t (judges t enough next side)
 judges_says t false (Some peer) side = goes_to_says t peer

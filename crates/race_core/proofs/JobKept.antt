@@ -25,14 +25,14 @@ use Rattle.p2p_wire.specs.declared.message.Message.TheVariants.{AlreadyHave, Dat
 use Rattle.p2p_wire.specs.Messages.{message_of}
 use Rattle.node_model.specs.Ends.{end_after}
 use Rattle.node_model.specs.Jobs
-use Rattle.node_model.specs.Jobs.{AsksLock, AsksLook, Drops, Fresh, GetsData, GetsWord, Gets, Greets, Orders, Part, Phase, Puts, PutsAnswer, PutsOffer, Rows, Work, claims, closed_part, fault_of, fault_phase, first_look, gained, hears_frame, job_end, learns, listens, quiet, running, says, says_some, sends, talks, talks_on, target_of, took, took_line, transferred, unreleased, word_taken, work_after, work_kind, works_after}
+use Rattle.node_model.specs.Jobs.{AsksLock, AsksLook, Drops, Fresh, GetsData, GetsWord, Gets, Greets, Orders, Part, Phase, Puts, PutsAnswer, PutsOffer, Rows, Work, claims, closed_part, fault_of, fault_phase, first_look, after_gain, hears_frame, job_end, learns, listens, quiet, running, says, says_some, sends, talks, talks_on, target_of, took, took_line, after_transfer, after_failed_release, word_taken, work_after, work_kind, works_after}
 use Rattle.run_model.specs.States.{rows_at, works}
 
 -- it is the same job
 abbrev pub Same : Work → Work → Type 0
 Same w x = running x ≡ running w
 
-transferred_kept : (w : Work) (o : Outcome) → Same w (transferred w o)
+transferred_kept : (w : Work) (o : Outcome) → Same w (after_transfer w o)
 transferred_kept w o = if_either (Same w) (Jobs.is_move w.what.kind) (record w { part = Drops; phase = Fresh; fills = false }) (record w { phase = Jobs.Ends o; fills = false }) (λ e. refl) (λ e. refl)
 
 closed_kept : (r : ℕ) (w : Work) (peer : ℕ) (part : Part) → Same w (closed_part r w peer part)
@@ -119,7 +119,7 @@ fault_kept : (r : ℕ) (w : Work) (part : Part) (side : Side) (phase : Phase) �
 fault_kept r w Drops Remote Fresh = refl
 fault_kept r w part side phase = refl
 
-unreleased_kept : (w : Work) (time : ℕ) (phase : Phase) → Same w (unreleased w time phase)
+unreleased_kept : (w : Work) (time : ℕ) (phase : Phase) → Same w (after_failed_release w time phase)
 unreleased_kept w time Jobs.AsksTime = refl
 unreleased_kept w time phase = refl
 
@@ -128,7 +128,7 @@ call_kept r w time PutFile = refl
 call_kept r w time Unhold = unreleased_kept w time w.phase
 call_kept r w time call = fault_kept r w w.part (Jobs.side_of w) w.phase
 
-gained_kept : (w : Work) (phase : Phase) → Same w (gained w phase)
+gained_kept : (w : Work) (phase : Phase) → Same w (after_gain w phase)
 gained_kept w (GetsWord peer start size) = transferred_kept w (outcomes.Got (Some peer) (Some start))
 gained_kept w phase = refl
 

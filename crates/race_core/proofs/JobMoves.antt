@@ -23,7 +23,7 @@ use Rattle.node_model.specs.Rows.{option_is}
 use Rattle.node_model.specs.Ends.{end_after}
 use Rattle.node_model.specs.Sessions.{line_in}
 use Rattle.node_model.specs.Jobs
-use Rattle.node_model.specs.Jobs.{AsksTime, Drops, Ends, Fresh, Gets, GetsBytes, GetsWord, Greets, Orders, Part, Phase, Puts, Rows, Work, claims, closed_part, fault_of, fault_phase, first_look, gets_bytes, gets_more, hears_frame, job_end, learns, listens, partner, put_from, puts_answer, puts_bytes, puts_more, quiet, says, says_some, sends, side_of, taken_message, talks, talks_on, target_of, took, took_line, transferred, unreleased, word_taken, work_kind}
+use Rattle.node_model.specs.Jobs.{AsksTime, Drops, Ends, Fresh, Gets, GetsBytes, GetsWord, Greets, Orders, Part, Phase, Puts, Rows, Work, claims, closed_part, fault_of, fault_phase, first_look, gets_bytes, gets_more, hears_frame, job_end, learns, listens, partner, put_from, puts_answer, puts_bytes, puts_more, quiet, says, says_some, sends, side_of, taken_message, talks, talks_on, target_of, took, took_line, after_transfer, after_failed_release, word_taken, work_kind}
 use Rattle.race_core.proofs.PhaseFacts.{readies_place}
 use Rattle.run_data.specs.declared.job.SourceCause.{SourceCause}
 use Rattle.race_core.proofs.TalkFacts.{Fits}
@@ -124,7 +124,7 @@ module _ (target : Option ℕ) where
         line None = stays w (f ∷ fs) w refl (λ p on. on)
         line (Some m) = says_moves time f fs taken m
 
-    transferred_moves : (sent : List FrameView) (o : Outcome) → Moves target w sent (transferred w o)
+    transferred_moves : (sent : List FrameView) (o : Outcome) → Moves target w sent (after_transfer w o)
     transferred_moves sent o = if_either (Moves target w sent) (Jobs.is_move w.what.kind) (record w { part = Drops; phase = Fresh; fills = false }) (record w { phase = Ends o; fills = false })
         (λ e. away w sent (record w { part = Drops; phase = Fresh; fills = false }) refl refl) (λ e. away w sent (record w { phase = Ends o; fills = false }) refl refl)
 
@@ -197,7 +197,7 @@ module _ (target : Option ℕ) where
     fault_moves sent r Drops Remote Fresh = away w sent (_) refl refl
     fault_moves sent r part side phase = away w sent (_) refl refl
 
-    unheld_moves : (sent : List FrameView) (time : ℕ) (phase : Phase) → Moves target w sent (unreleased w time phase)
+    unheld_moves : (sent : List FrameView) (time : ℕ) (phase : Phase) → Moves target w sent (after_failed_release w time phase)
     unheld_moves sent time AsksTime = away w sent (_) refl refl
     unheld_moves sent time phase = stays w sent w refl (λ p on. on)
 

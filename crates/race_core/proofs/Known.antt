@@ -14,8 +14,8 @@ use Rattle.run_model.specs.Past.{clock}
 use Rattle.run_model.specs.Said.{Said, Says, CloseIt, message_in}
 use Rattle.run_model.specs.Frames.{Sent, is_job, said_of, last_request, sender, up_of, way_of}
 use Rattle.std.specs.List.{list_any}
-use Rattle.run_model.specs.Drops.{Vouch, Lock, Look, asked, cause_said, cause_taken, cause_with, evidence, is_waiting, newer_cause, offer, or_closed, option_is_none, reply, shuts, standing, tells_cause, told_cause, waits}
-use Rattle.node_model.specs.Evidence.{Standing, Claimed, Ignored, Asked, Offer, Gives, Fails, candidates, gather, pick, reached}
+use Rattle.run_model.specs.Drops.{Vouch, Lock, Look, offer_from, cause_said, cause_taken, cause_with, evidence, is_waiting, newer_cause, offer, or_closed, option_is_none, reply, shuts, standing, tells_cause, told_cause, waits}
+use Rattle.node_model.specs.Evidence.{Standing, Claimed, Ignored, Asked, Offer, Gives, Fails, candidates, gather, pick, reached_candidates}
 use Rattle.race_core.proofs.Heard.{heard_cause, known_evidence, known_offer, knows, still_waits}
 use Rattle.race_core.proofs.Own.{MessagePast}
 use Rattle.race_core.proofs.Told.{heard_of, reply_heard}
@@ -86,18 +86,18 @@ offer_same clock Asked None = refl
 offer_same clock Asked (Some (Lock hold since owner key)) = refl
 offer_same clock Asked (Some (Look key)) = refl
 
-pub asked_known : (repos : List RepoView) (past : List Entry) (a j r : ℕ) → MessagePast repos past → asked repos past a j r ≡ knows repos past a j r
+pub asked_known : (repos : List RepoView) (past : List Entry) (a j r : ℕ) → MessagePast repos past → offer_from repos past a j r ≡ knows repos past a j r
 asked_known repos past a j r run = offer_same (clock repos past a) (standing repos past a j r) (reply past a j r) ∙ ap (λ o. known_offer (clock repos past a) (standing repos past a j r) o) (reply_heard repos past a j r run)
 
 waits_known : (repos : List RepoView) (past : List Entry) (a j r : ℕ) → MessagePast repos past → waits repos past a j r ≡ still_waits repos past a j r
 waits_known repos past a j r run = ap (λ b. not (r == a) && b) (waiting_same (standing repos past a j r) (reply past a j r) (told_cause past a j r) (heard_cause past a j r) (cause_known past a j r)
     ∙ ap (λ o. is_waiting (standing repos past a j r) o (heard_cause past a j r)) (reply_heard repos past a j r run))
 
-pub reached_same : (w v : ℕ → Bool) → ((c : ℕ) → w c ≡ v c) → (cs : List ℕ) → reached w cs ≡ reached v cs
+pub reached_same : (w v : ℕ → Bool) → ((c : ℕ) → w c ≡ v c) → (cs : List ℕ) → reached_candidates w cs ≡ reached_candidates v cs
 reached_same w v h [] = refl
 reached_same w v h (c ∷ cs) = go (reached_same w v h cs) (w c) (v c) (h c)
   where
-    go : reached w cs ≡ reached v cs → (a b : Bool) → a ≡ b → (if a then [] else c ∷ reached w cs) ≡ (if b then [] else c ∷ reached v cs)
+    go : reached_candidates w cs ≡ reached_candidates v cs → (a b : Bool) → a ≡ b → (if a then [] else c ∷ reached_candidates w cs) ≡ (if b then [] else c ∷ reached_candidates v cs)
     go ih true true e = refl
     go ih false false e = ap (λ xs. c ∷ xs) ih
     go ih true false e = cc
@@ -119,5 +119,5 @@ gather_same side need f g h (c ∷ cs) items = go (λ more. gather_same side nee
 -- the evidence is what the job knows
 pub evidence_known : (side : Side) (repos : List RepoView) (past : List Entry) (a j target : ℕ) (need : Need) → MessagePast repos past → evidence side repos past a j target need ≡ known_evidence side repos past a j target need
 evidence_known side repos past a j target need run =
-    gather_same side need (asked repos past a j) (knows repos past a j) (λ c. asked_known repos past a j c run) (reached (waits repos past a j) (candidates side (length repos) a target)) []
+    gather_same side need (offer_from repos past a j) (knows repos past a j) (λ c. asked_known repos past a j c run) (reached_candidates (waits repos past a j) (candidates side (length repos) a target)) []
     ∙ ap (λ cs. gather side need (knows repos past a j) cs []) (reached_same (waits repos past a j) (still_waits repos past a j) (λ c. waits_known repos past a j c run) (candidates side (length repos) a target))

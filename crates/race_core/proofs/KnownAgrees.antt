@@ -10,7 +10,7 @@ use Rattle.run_data.specs.declared.entry.Entry.{Entry}
 use Rattle.run_model.specs.Past.{begun_job, clock}
 use Rattle.run_data.specs.Repos.{id_of}
 use Rattle.run_model.specs.Logs.{read_at, settings_of}
-use Rattle.node_model.specs.Evidence.{Standing, Claimed, Ignored, Asked, Offer, Gives, Fails, gather, pick, reached, standing_by}
+use Rattle.node_model.specs.Evidence.{Standing, Claimed, Ignored, Asked, Offer, Gives, Fails, gather, pick, reached_candidates, standing_by}
 use Rattle.run_model.specs.Drops.{key_in, standing}
 use Rattle.race_core.proofs.Heard
 use Rattle.race_core.proofs.Heard.{Heard, Locked_at, Seen_there, heard, known_evidence, known_offer, still_waits}
@@ -84,12 +84,12 @@ gather_more side need f (c ∷ xs) ys items e = go (λ zs h. gather_more side ne
     go more false Fails h = more items h
 
 -- who waits for fewer reaches more
-reached_more : (f g : ℕ → Bool) → ((c : ℕ) → g c ≡ true → f c ≡ true) → (cs : List ℕ) → (rest : List ℕ) × (reached g cs ≡ reached f cs ++ rest)
+reached_more : (f g : ℕ → Bool) → ((c : ℕ) → g c ≡ true → f c ≡ true) → (cs : List ℕ) → (rest : List ℕ) × (reached_candidates g cs ≡ reached_candidates f cs ++ rest)
 reached_more f g weaker [] = ([], refl)
 reached_more f g weaker (c ∷ cs) = go (reached_more f g weaker cs) (f c) refl (g c) refl
   where
-    go : (rest : List ℕ) × (reached g cs ≡ reached f cs ++ rest) → (a : Bool) → f c ≡ a → (b : Bool) → g c ≡ b → (rest : List ℕ) × (reached g (c ∷ cs) ≡ reached f (c ∷ cs) ++ rest)
-    go more true x b y = (reached g (c ∷ cs), rw x refl)
+    go : (rest : List ℕ) × (reached_candidates g cs ≡ reached_candidates f cs ++ rest) → (a : Bool) → f c ≡ a → (b : Bool) → g c ≡ b → (rest : List ℕ) × (reached_candidates g (c ∷ cs) ≡ reached_candidates f (c ∷ cs) ++ rest)
+    go more true x b y = (reached_candidates g (c ∷ cs), rw x refl)
     go more false x true y = absurd (true≢false (sym (weaker c y) ∙ x))
     go more false x false y = (more.0, rw (x, y) (ap (λ zs. c ∷ zs) more.1))
 
@@ -102,6 +102,6 @@ known_agrees s past w x enough =
     let need = need_of st w in
     let cs = candidates_of s w in
     let more = reached_more (is_to_ask s st w) (still_waits s.repos past s.number w.number) x.waits_too cs in
-    gather_same side need (Heard.knows s.repos past s.number w.number) (Knowing.knows s st w) (knows_same s past w x) (reached (still_waits s.repos past s.number w.number) cs) []
+    gather_same side need (Heard.knows s.repos past s.number w.number) (Knowing.knows s st w) (knows_same s past w x) (reached_candidates (still_waits s.repos past s.number w.number) cs) []
     ∙ (ap (λ zs. gather side need (Knowing.knows s st w) zs []) more.1
-    ∙ gather_more side need (Knowing.knows s st w) (reached (is_to_ask s st w) cs) more.0 [] enough)
+    ∙ gather_more side need (Knowing.knows s st w) (reached_candidates (is_to_ask s st w) cs) more.0 [] enough)

@@ -1,10 +1,10 @@
+-- The lemmas of this crate.
+pub mod Below
 pub mod Heard
 pub mod Knowing
 pub mod Own
 pub mod ServerAnswers
 pub mod Ways
-pub mod Branches
-pub mod LogFiles
 pub mod LogLemmas
 pub mod OwnPasts
 pub mod Reading
@@ -45,7 +45,6 @@ pub mod TurnFits
 pub mod InTurn
 pub mod SessionSays
 pub mod SessionAnswers
-pub mod NumbersRead
 pub mod SessionTimes
 pub mod SessionReads
 pub mod JobEnds

@@ -18,7 +18,7 @@ use Rattle.run_data.specs.declared.run.Run.{Run}
 use Rattle.run_data.specs.declared.run.TreeMark.{TreeMark}
 use Rattle.run_model.specs.Past.{Always, Occurs, is_of, now}
 use Rattle.node_model.specs.Rows.{option_is}
-use Rattle.run_model.specs.Frames.{Flying, Way, flying, on_way, sender_of, sent, taken, taker_of, takes, way_of}
+use Rattle.run_model.specs.Frames.{Flying, Way, flying, on_way, sender_of, frames_sent, taken_count, taker_of, takes, way_of}
 use Rattle.node_model.specs.Slots.{job_of}
 use Rattle.race_core.proofs.OwnPasts.{Bare, bare, mine, own_by, own_sent}
 use Rattle.node_model.specs.SetUp.{SetUp}
@@ -91,8 +91,8 @@ paths_new marks base r j h (e ∷ es) = go (paths_new marks base r j h es) (is_o
 
 -- ---- what was sent
 
-pub take_own : (r : ℕ) (w : Way) → taker_of w ≡ r → (past : List Entry) → taken past w ≡ taken (mine r past) w
-take_own r w same past = own_by r (λ p. taken p w) (λ e p is. rw (subst (λ x. is_of x e ≡ false) (sym same) is) refl)
+pub take_own : (r : ℕ) (w : Way) → taker_of w ≡ r → (past : List Entry) → taken_count past w ≡ taken_count (mine r past) w
+take_own r w same past = own_by r (λ p. taken_count p w) (λ e p is. rw (subst (λ x. is_of x e ≡ false) (sym same) is) refl)
     (λ e p is ih. rw (subst (λ x. is_of x e ≡ true) (sym same) is) (ap (λ n. if takes w e.taken then n + 1 else n) ih)) past
 
 abbrev letter_bare : Bare → Letter
@@ -103,15 +103,15 @@ bare_letters [] = refl
 bare_letters (x ∷ xs) = ap (λ ys. letter_of x ∷ ys) (bare_letters xs)
 
 pub letters_own : (w : Way) (past : List Entry) → letters past w ≡ letters (mine (sender_of w) past) w
-letters_own w past = bare_letters (sent past w) ∙ ap (map letter_bare) (own_sent (sender_of w) w refl past) ∙ sym (bare_letters (sent (mine (sender_of w) past) w))
+letters_own w past = bare_letters (frames_sent past w) ∙ ap (map letter_bare) (own_sent (sender_of w) w refl past) ∙ sym (bare_letters (frames_sent (mine (sender_of w) past) w))
 
 -- a frame that an earlier entry sent was sent before
 sent_within : (past : List Entry) (e : Entry) (before : List Entry) → Always Ordered past → Occurs past e before
-    → (w : Way) (k : ℕ) (it : Flying) → slice_get (sent past w) k ≡ Some it → stands_before it.entry e ≡ true → slice_get (sent before w) k ≡ Some it
+    → (w : Way) (k : ℕ) (it : Flying) → slice_get (frames_sent past w) k ≡ Some it → stands_before it.entry e ≡ true → slice_get (frames_sent before w) k ≡ Some it
 sent_within [] e before h o w k it g l = absurd o
 sent_within (y ∷ past) e before h o w k it g l = go (λ g o. sent_within past e before h.1 o w k it g l) o
   where
-    newer : (stands_before e y ≡ true) ⊎ (e ≡ y) → slice_get (sent past w) k ≡ Some it
+    newer : (stands_before e y ≡ true) ⊎ (e ≡ y) → slice_get (frames_sent past w) k ≡ Some it
     newer after = here (is_of (sender_of w) y) g
       where
         never : it.entry ≡ y → ⊥
@@ -120,15 +120,15 @@ sent_within (y ∷ past) e before h o w k it g l = go (λ g o. sent_within past 
           | inr m ↦ never_earlier (stamp_of y) (subst (λ (x : Entry). stands_before x y ≡ true) same (subst (λ (x : Entry). stands_before it.entry x ≡ true) m l))
         ]
 
-        here : (b : Bool) → slice_get (if b then sent past w ++ map (flying y past) (on_way w y) else sent past w) k ≡ Some it → slice_get (sent past w) k ≡ Some it
+        here : (b : Bool) → slice_get (if b then frames_sent past w ++ map (flying y past) (on_way w y) else frames_sent past w) k ≡ Some it → slice_get (frames_sent past w) k ≡ Some it
         here false g = g
-        here true g = elim (get_append (sent past w) (map (flying y past) (on_way w y)) k it g) [
+        here true g = elim (get_append (frames_sent past w) (map (flying y past) (on_way w y)) k it g) [
           | inl s ↦ s
           | inr m ↦ let t = map_member (flying y past) it (on_way w y) m in absurd (never (ap (λ (x : Flying). x.entry) t.1.1))
         ]
 
-    go : (slice_get (sent past w) k ≡ Some it → Occurs past e before → slice_get (sent before w) k ≡ Some it) → ((e ≡ y) × (before ≡ past)) ⊎ Occurs past e before → slice_get (sent before w) k ≡ Some it
-    go ih (inl o) = subst (λ (p : List Entry). slice_get (sent p w) k ≡ Some it) (sym o.1) (newer (inr o.0))
+    go : (slice_get (frames_sent past w) k ≡ Some it → Occurs past e before → slice_get (frames_sent before w) k ≡ Some it) → ((e ≡ y) × (before ≡ past)) ⊎ Occurs past e before → slice_get (frames_sent before w) k ≡ Some it
+    go ih (inl o) = subst (λ (p : List Entry). slice_get (frames_sent p w) k ≡ Some it) (sym o.1) (newer (inr o.0))
     go ih (inr o) = ih (newer (inl (occurs_before past y e before h o))) o
 
 -- ---- words
@@ -137,8 +137,8 @@ sent_within (y ∷ past) e before h o w k it g l = go (λ g o. sent_within past 
 pub record Reads (got : Way → List Letter) (before : List Entry) (r : ℕ) (f : FrameView) : Type 0 where
   pub it : Flying
   pub letter : Letter
-  pub next : slice_get (sent before (way_of r f)) (taken before (way_of r f)) ≡ Some it
-  pub from : slice_get (got (way_of r f)) (taken (mine r before) (way_of r f)) ≡ Some letter
+  pub next : slice_get (frames_sent before (way_of r f)) (taken_count before (way_of r f)) ≡ Some it
+  pub from : slice_get (got (way_of r f)) (taken_count (mine r before) (way_of r f)) ≡ Some letter
   pub same : letter_of it ≡ letter
 
 abbrev pub ReadsIts : (Way → List Letter) → ℕ → List Entry → Entry → Type 0
@@ -263,24 +263,24 @@ module _ (run : Run) (news : List (List Entry)) (got : ℕ → Way → List Lett
   -- the letter that it takes is that of the frame whose turn it is
   record Found (before : List Entry) (r : ℕ) (f : FrameView) : Type 0 where
     pub reads : Reads (got r) before r f
-    pub seq_is : f.seq ≡ taken before (way_of r f) + 1
+    pub seq_is : f.seq ≡ taken_count before (way_of r f) + 1
     pub body_is : reads.it.frame.body ≡ f.body
 
   found : (e : Entry) (before : List Entry) → Occurs past e before → (r : ℕ) → e.repo ≡ Some r → (f : FrameView) → e.taken ≡ Some f → Found before r f
   found e before o r is f takes =
       let w : Way = way_of r f in
       let t : TakesNext (got r w) (mine r before) w e f = (kept_step e before o r is).takes f takes in
-      let count : taken before w ≡ taken (mine r before) w = take_own r w (taker_way r f) before in
+      let count : taken_count before w ≡ taken_count (mine r before) w = take_own r w (taker_way r f) before in
       let c : Came (got r w) (history run news (sender_of w)) w = may.came r (sender_of w) w (known e before o r is) (taker_way r f) refl in
       let there : letters past w ≡ got r w ++ c.rest = letters_own w past ∙ ap (λ p. letters p w) (mine_is (sender_of w)) ∙ c.is in
-      let in_all : slice_get (letters past w) (taken (mine r before) w) ≡ Some t.letter =
-      subst (λ xs. slice_get xs (taken (mine r before) w) ≡ Some t.letter) (sym there) (slice_get-left (got r w) c.rest (taken (mine r before) w) t.letter t.next) in
-      let x = get_map letter_of (sent past w) (taken (mine r before) w) t.letter in_all in
+      let in_all : slice_get (letters past w) (taken_count (mine r before) w) ≡ Some t.letter =
+      subst (λ xs. slice_get xs (taken_count (mine r before) w) ≡ Some t.letter) (sym there) (slice_get-left (got r w) c.rest (taken_count (mine r before) w) t.letter t.next) in
+      let x = get_map letter_of (frames_sent past w) (taken_count (mine r before) w) t.letter in_all in
       record {
         reads = record {
           it = x.0;
           letter = t.letter;
-          next = subst (λ k. slice_get (sent before w) k ≡ Some x.0) (sym count) (sent_within past e before ordered o w (taken (mine r before) w) x.0 x.1 (subst (λ (y : Letter). earlier y.sender (stamp_of e) ≡ true) (sym x.2) t.later));
+          next = subst (λ k. slice_get (frames_sent before w) k ≡ Some x.0) (sym count) (sent_within past e before ordered o w (taken_count (mine r before) w) x.0 x.1 (subst (λ (y : Letter). earlier y.sender (stamp_of e) ≡ true) (sym x.2) t.later));
           from = t.next;
           same = x.2;
         };

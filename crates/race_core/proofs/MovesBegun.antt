@@ -4,6 +4,7 @@ use Rattle.std.specs.Prelude.{◌==◌, ◌&&◌, ◌||◌, not, option_map}
 use Rattle.std.proofs.lemmas.Bool.{and_from, or_right}
 use Rattle.annex_base.specs.Lists.{Member}
 use Rattle.annex_base.proofs.Conditions.{eqb_refl}
+use Rattle.race_core.proofs.Below.{SentAreRead}
 use Rattle.run_data.specs.declared.entry.By.{By}
 use Rattle.run_data.specs.declared.entry.Entry.{Entry}
 use Rattle.run_data.specs.declared.entry.EntryKind.{EntryKind}
@@ -47,13 +48,13 @@ valid_said (Some x) time e =
     ap Some (said_is x.frame.body Valid line)
 
 -- where a job takes the answer to VALID, that is the last request on the connection
-last_valid : (s : SetUp) (past : List Entry) (e : Entry) → OwnPast s (e ∷ past) → (x : Stepped s past e) (f : FrameView) → e.taken ≡ Some f → is_answer (message_in f.body) ≡ true
+last_valid : SentAreRead → (s : SetUp) (past : List Entry) (e : Entry) → OwnPast s (e ∷ past) → (x : Stepped s past e) (f : FrameView) → e.taken ≡ Some f → is_answer (message_in f.body) ≡ true
     → (peer start : ℕ) → x.w.phase ≡ PutsAnswer peer start → option_map said_of (last_request past (up_of (way_of s.number f))) ≡ Some (Says Valid)
-last_valid s past e h x f took answer peer start is =
+last_valid reads_back s past e h x f took answer peer start is =
     let before = earlier s past e h in
     let y = taken_of s past e x f took in
     let last = option_map asked_by (last_request past (up_of (way_of s.number f))) in
-    let now : LastIs x.w.what.key x.w.what.peer x.w.phase y.peer last = taken_last s past before e f (hears s past e x f took).1 answer y last refl in
+    let now : LastIs x.w.what.key x.w.what.peer x.w.phase y.peer last = taken_last reads_back s past before e f (hears s past e x f took).1 answer y last refl in
     let on : Some peer ≡ Some y.peer = subst (λ (q : Phase). partner x.w.what.peer q ≡ Some y.peer) is y.on in
     let same : peer ≡ y.peer = cc in
     let valid = subst (λ (q : Phase). LastIs x.w.what.key x.w.what.peer q y.peer last) is now same in
@@ -71,19 +72,19 @@ has_said (PutsOffer peer) AlreadyHave asked has last = refl
 has_said (PutsAnswer peer start) Success asked has last = rw (last peer start refl) refl
 has_said phase m asked has last = absurd has
 
-module _ (s : SetUp) where
+module _ (reads_back : SentAreRead) (s : SetUp) where
   talk_begins : (past : List Entry) (e : Entry) → OwnPast s (e ∷ past) → (x : Stepped s past e) → Member x.w (works past s.number)
       → (e.sent ≡ []) × (FirstTurn x.w e.taken ⊎ TakenTurn x.w e.taken)
       → ((is_quiet e.taken e.sent && not (has_stepped past s.number x.w.number)) || hears_has_it past s.number e.taken) ≡ true
   talk_begins past e h x runs (sent, inl at) =
-      rw (at.2, sent, no_step s past h.run.1 x.w runs at.0 at.1) refl
+      rw (at.2, sent, no_step reads_back s past h.run.1 x.w runs at.0 at.1) refl
   talk_begins past e h x runs (sent, inr at) =
       let f = at.0 in
       let has = at.2 in
       let asked = option_map said_of (last_request past (up_of (way_of s.number f))) in
       let answer : is_answer (message_in f.body) ≡ true = ap is_answer (said_is f.body has.0 has.1) ∙ has_answers x.w.phase has.0 has.2 in
       let said : has_it (message_in f.body) asked ≡ true =
-      subst (λ q. has_it q asked ≡ true) (sym (said_is f.body has.0 has.1)) (has_said x.w.phase has.0 asked has.2 (λ peer start is. last_valid s past e h x f at.1 answer peer start is)) in
+      subst (λ q. has_it q asked ≡ true) (sym (said_is f.body has.0 has.1)) (has_said x.w.phase has.0 asked has.2 (λ peer start is. last_valid reads_back s past e h x f at.1 answer peer start is)) in
       let down : f.up ≡ false = (hears s past e x f at.1).1 in
       let heard : hears_has_it past s.number e.taken ≡ true = subst (λ o. hears_has_it past s.number o ≡ true) (sym at.1) (and_from (not f.up) (has_it (message_in f.body) asked) (ap not down) said) in
       or_right (is_quiet e.taken e.sent && not (has_stepped past s.number x.w.number)) (hears_has_it past s.number e.taken) heard

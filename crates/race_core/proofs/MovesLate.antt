@@ -5,6 +5,7 @@ use Rattle.std.specs.Prelude.{if◌then◌else◌, ◌==◌, ◌&&◌, not, opti
 use Rattle.std.proofs.lemmas.Bool.{or_from, and_right}
 use Rattle.annex_base.specs.Lists.{Member}
 use Rattle.annex_base.proofs.Conditions.{if_either}
+use Rattle.race_core.proofs.Below.{SentAreRead}
 use Rattle.run_data.specs.declared.entry.Entry.{Entry}
 use Rattle.run_data.specs.declared.entry.EntryKind.{EntryKind}
 use Rattle.run_data.specs.declared.entry.EntryKind.TheVariants.{Begin, Gain, Share, Bar, Order, Gone, Talk, Fault, End as ends_job}
@@ -29,7 +30,7 @@ use Rattle.run_model.specs.States.{rows_at, works}
 use Rattle.node_model.specs.Sessions.{line_in}
 use Rattle.node_model.specs.Ends.{EndName, end_after}
 use Rattle.node_model.specs.Jobs
-use Rattle.node_model.specs.Jobs.{Drops, Ends, Fresh, Greets, Next, Opens, Part, Phase, Puts, PutsAnswer, PutsOffer, Work, closed_part, first_part, job_end, talks_on, transferred, work_kind}
+use Rattle.node_model.specs.Jobs.{Drops, Ends, Fresh, Greets, Next, Opens, Part, Phase, Puts, PutsAnswer, PutsOffer, Work, closed_part, first_part, job_end, talks_on, after_transfer, work_kind}
 use Rattle.node_model.specs.Look.{Made}
 use Rattle.node_model.specs.JobStep.{Turn, end_with, me, wrong}
 use Rattle.node_model.specs.JobStep
@@ -77,7 +78,7 @@ wrong_dead t f peer x part is =
     shut : (end_after (job_end y peer) (t.ends (job_end y peer)) e).opened ≡ false
     shut = subst (λ (a : EndName). (end_after a (t.ends a) e).opened ≡ false) (sym same) (rw ((answers_here t.w peer f (end_with t peer) Closing x.of_end).sends_here) refl)
 
-transferred_dead : (w : Work) (o : Outcome) → (transferred w o).part ≡ Puts → is_live (transferred w o).phase ≡ false
+transferred_dead : (w : Work) (o : Outcome) → (after_transfer w o).part ≡ Puts → is_live (after_transfer w o).phase ≡ false
 transferred_dead w o = if_either (λ (x : Work). x.part ≡ Puts → is_live x.phase ≡ false) (Jobs.is_move w.what.kind) (record w { part = Drops; phase = Fresh; fills = false }) (record w { phase = Ends o; fills = false })
     (λ h part. absurd (let both : Drops ≡ Puts = part in cc)) (λ h part. refl)
 
@@ -175,7 +176,7 @@ live_fits phase e = absurd (cc)
 word_unfit : (peer start size : ℕ) → Fits Puts (Jobs.GetsWord peer start size) → ⊥
 word_unfit peer start size f = f
 
-module _ (s : SetUp) (p : List Entry) (e : Entry) (h : OwnPast s (e ∷ p)) (is : is_of s.number e ≡ true) (x : Work) (b : Steps s p e x) (v_part : b.by.w.part ≡ Puts) where
+module _ (reads_back : SentAreRead) (s : SetUp) (p : List Entry) (e : Entry) (h : OwnPast s (e ∷ p)) (is : is_of s.number e ≡ true) (x : Work) (b : Steps s p e x) (v_part : b.by.w.part ≡ Puts) where
   abbrev v : Work
   v = b.by.w
 
@@ -199,7 +200,7 @@ module _ (s : SetUp) (p : List Entry) (e : Entry) (h : OwnPast s (e ∷ p)) (is 
       go true at = refl
       go false at = absurd (elim (live_fits v.phase at) [
         | inl z ↦ (let both : true ≡ false = sym live ∙ ap is_live (ended_stays s p e x b z.0 z.1) in cc)
-        | inr next ↦ puts_go_on s p before v runs v_part next
+        | inr next ↦ puts_go_on reads_back s p before v runs v_part next
       ])
 
   -- and takes no such answer
@@ -232,7 +233,7 @@ module _ (s : SetUp) (p : List Entry) (e : Entry) (h : OwnPast s (e ∷ p)) (is 
       go true at = sent e.sent refl
         where
           sent : (fs : List FrameView) → e.sent ≡ fs → (is_quiet e.taken e.sent && not (has_stepped p s.number v.number)) ≡ false
-          sent [] none = absurd (let both : true ≡ false = sym live ∙ (first_step_off s p e x b before v_part (fresh_is v.phase at)).1 none in cc)
+          sent [] none = absurd (let both : true ≡ false = sym live ∙ (first_step_off reads_back s p e x b before v_part (fresh_is v.phase at)).1 none in cc)
           sent (g ∷ gs) some = rw (ap (is_quiet e.taken) some ∙ never e.taken) refl
             where
               never : (o : Option FrameView) → is_quiet o (g ∷ gs) ≡ false
@@ -263,8 +264,8 @@ module _ (s : SetUp) (p : List Entry) (e : Entry) (h : OwnPast s (e ∷ p)) (is 
 abbrev pub Under : SetUp → List Entry → Work → Type 0
 Under s past w = w.part ≡ Puts → is_live w.phase ≡ true → in_drop past s.number w.number ≡ false
 
-pub puts_under : (s : SetUp) (past : List Entry) → OwnPast s past → (w : Work) → Member w (works past s.number) → Under s past w
-puts_under s past h w m = invariant s (λ p x. OwnPast s p → Under s p x) (λ p e is x n was h part live. in_other p s.number x.number e is (was (earlier s p e h) part live)) own past h.run w m h
+pub puts_under : SentAreRead → (s : SetUp) (past : List Entry) → OwnPast s past → (w : Work) → Member w (works past s.number) → Under s past w
+puts_under reads_back s past h w m = invariant s (λ p x. OwnPast s p → Under s p x) (λ p e is x n was h part live. in_other p s.number x.number e is (was (earlier s p e h) part live)) own past h.run w m h
   where
     own : (p : List Entry) (e : Entry) → OwnRun s (e ∷ p) → is_of s.number e ≡ true → ((x : Work) → Member x (works p s.number) → OwnPast s p → Under s p x) → (x : Work) → Origin s p e x → OwnPast s (e ∷ p) → Under s (e ∷ p) x
     own p e r is was x (inl b) h part live =
@@ -279,22 +280,22 @@ puts_under s past h w m = invariant s (λ p x. OwnPast s p → Under s p x) (λ 
     own p e r is was x (inr (inr b)) h part live =
         let v = b.by.w in
         let v_part = puts_was v.part v.phase x.phase (subst (λ q. GoodTo v.part v.phase q x.phase) part (steps_good s p e x b (works_fit s p r.1 v (step_runs s p e x b)))) in
-        let old = was v (step_runs s p e x b) (earlier s p e h) v_part (was_live s p e h is x b v_part part live) in
-        subst (λ n. in_drop (e ∷ p) s.number n ≡ false) (sym (step_number s p e x b)) (in_more p s.number v.number e old (starts_not s p e h is x b v_part part live))
+        let old = was v (step_runs s p e x b) (earlier s p e h) v_part (was_live reads_back s p e h is x b v_part part live) in
+        subst (λ n. in_drop (e ∷ p) s.number n ≡ false) (sym (step_number s p e x b)) (in_more p s.number v.number e old (starts_not reads_back s p e h is x b v_part part live))
 
 -- **moves are late**
-pub moves_late : (s : SetUp) → MovesLate s
-moves_late s past e h is w x part drops =
+pub moves_late : SentAreRead → (s : SetUp) → MovesLate s
+moves_late reads_back s past e h is w x part drops =
     let v = x.by.w in
     let before = earlier s past e h in
     let runs = step_runs s past e w x in
     let good = steps_good s past e w x (works_fit s past before.run v runs) in
     let fresh : w.phase ≡ Fresh = subst (λ q. GoodTo Puts v.phase q w.phase) drops (subst (λ q. GoodTo q v.phase w.part w.phase) part good) in
-    puts_under s past before v runs part (go before runs fresh (is_live v.phase) refl)
+    puts_under reads_back s past before v runs part (go before runs fresh (is_live v.phase) refl)
   where
     go : OwnPast s past → Member x.by.w (works past s.number) → w.phase ≡ Fresh → (c : Bool) → is_live x.by.w.phase ≡ c → c ≡ true
     go before runs fresh true at = refl
     go before runs fresh false at = absurd (elim (live_fits x.by.w.phase at) [
       | inl z ↦ (let both : Fresh ≡ Ends z.0 = sym fresh ∙ ended_stays s past e w x z.0 z.1 in cc)
-      | inr next ↦ puts_go_on s past before x.by.w runs part next
+      | inr next ↦ puts_go_on reads_back s past before x.by.w runs part next
     ])

@@ -16,7 +16,7 @@ use Rattle.run_model.specs.Past.{begun, is_of}
 use Rattle.run_model.specs.Logs.{before_step, in_drop, is_drop, is_step, starts_drop}
 use Rattle.node_model.specs.SetUp.{SetUp}
 use Rattle.node_model.specs.Jobs
-use Rattle.node_model.specs.Jobs.{Drops, Gets, Part, Phase, Puts, Work, is_move, running, unreleased, work_kind}
+use Rattle.node_model.specs.Jobs.{Drops, Gets, Part, Phase, Puts, Work, is_move, running, after_failed_release, work_kind}
 use Rattle.run_model.specs.States.{rows_at, works}
 use Rattle.node_model.specs.AnyTime.{IsPeer}
 use Rattle.run_model.specs.Run.{OwnRun}
@@ -102,7 +102,7 @@ move_no_drop : (kind : JobKind) → is_move kind ≡ true → is_drop kind ≡ f
 move_no_drop kinds.Drop e = absurd (cc)
 move_no_drop kind e = refl
 
-unreleased_stuck : (w : Work) (time : ℕ) (phase : Phase) → w.phase ≡ phase → Stuck w → Stuck (unreleased w time phase)
+unreleased_stuck : (w : Work) (time : ℕ) (phase : Phase) → w.phase ≡ phase → Stuck w → Stuck (after_failed_release w time phase)
 unreleased_stuck w time Jobs.AsksTime is (inl end) = absurd (let no_end : is_end Jobs.AsksTime ≡ true = subst (λ p. is_end p ≡ true) is end in cc)
 unreleased_stuck w time Jobs.AsksTime is (inr none) = absurd (let no_next : Jobs.AsksTime ≡ Jobs.Next = sym is ∙ none.1 in cc)
 unreleased_stuck w time phase is stuck = stuck
@@ -139,11 +139,11 @@ moved_on s past e x b j outcome k = b.goes_on j outcome (ap (λ (y : Entry). y.k
 stuck_stays : (s : SetUp) (past : List Entry) (e : Entry) (x : Work) (b : Steps s past e x) → b.by.w.part ≢ Drops → Stuck b.by.w → (x.part ≡ b.by.w.part) × Stuck x
 stuck_stays s past e x b apart stuck = elim (stuck_ends (turn_at s past e b.by) apart b.by.made stuck b.by.does) [
   | inl end ↦ absurd (moved_on s past e x b end.0 end.1 end.2)
-  | inr fault ↦ (let after : x ≡ unreleased b.by.w b.by.look.time b.by.w.phase = entry_moved s past e x b ∙ ap (moved (turn_at s past e b.by) b.by.made) fault.1 in
+  | inr fault ↦ (let after : x ≡ after_failed_release b.by.w b.by.look.time b.by.w.phase = entry_moved s past e x b ∙ ap (moved (turn_at s past e b.by) b.by.made) fault.1 in
       (ap (λ (y : Work). y.part) after ∙ same b.by.w b.by.look.time b.by.w.phase, subst Stuck (sym after) (unreleased_stuck b.by.w b.by.look.time b.by.w.phase refl stuck)))
 ]
   where
-    same : (w : Work) (time : ℕ) (phase : Phase) → (unreleased w time phase).part ≡ w.part
+    same : (w : Work) (time : ℕ) (phase : Phase) → (after_failed_release w time phase).part ≡ w.part
     same w time Jobs.AsksTime = refl
     same w time phase = refl
 

@@ -6,6 +6,7 @@ use Rattle.std.specs.List.{range_with_len}
 use Rattle.std.proofs.lemmas.Bool.{or_left, or_right}
 use Rattle.annex_base.specs.Lists.{Each, Member}
 use Rattle.annex_base.proofs.Lists.{Each-member, Each-weaker, Each-from_members}
+use Rattle.race_core.proofs.Below.{SentAreRead}
 use Rattle.drop_proof.specs.declared.evidence.Evidence.{Evidence}
 use Rattle.drop_proof.specs.declared.evidence.Kind.{Kind}
 use Rattle.drop_proof.specs.declared.evidence.Kind.TheVariants.{Locked, Trusted, Recent}
@@ -35,15 +36,15 @@ full_kind (Locked end) f = inl refl
 full_kind Trusted f = inr refl
 full_kind Recent f = absurd (cc)
 
-module _ (run : Run) (key : List ℕ) (place : ℕ) (e : Entry) (x : Removal) (h : IsRun run) (at : slice_get run.entries place ≡ Some e) (is : removal_at run key place e ≡ Some x) where
+module _ (reads_back : SentAreRead) (run : Run) (key : List ℕ) (place : ℕ) (e : Entry) (x : Removal) (h : IsRun run) (at : slice_get run.entries place ≡ Some e) (is : removal_at run key place e ≡ Some x) where
   apart : Apart (repos_in x.items)
   apart =
-      let w = judged_by run key place e x h at is in
+      let w = judged_by reads_back run key place e x h at is in
       subst (λ items. Apart (repos_in items)) (sym w.2.items_are) (evidence_apart x.side run.repos w.0.past w.0.repo w.0.job w.2.r x.need)
 
   others : (r : ℕ) → is_of r e ≡ true → Each (λ (i : Evidence). i.repo ≢ r) x.items
   others r own =
-      let w = judged_by run key place e x h at is in
+      let w = judged_by reads_back run key place e x h at is in
       let d = w.2 in
       let same : d.r ≡ r = same_repo e d.r r d.repo_is own in
       subst (λ (q : ℕ). Each (λ (i : Evidence). i.repo ≢ q) x.items) same
@@ -53,7 +54,7 @@ module _ (run : Run) (key : List ℕ) (place : ℕ) (e : Entry) (x : Removal) (h
 
   below : Each (λ (i : Evidence). i.repo < length run.repos) x.items
   below =
-      let w = judged_by run key place e x h at is in
+      let w = judged_by reads_back run key place e x h at is in
       let d = w.2 in
       subst (Each (λ (i : Evidence). i.repo < length run.repos)) (sym d.items_are)
       (evidence_each (λ (i : Evidence). i.repo < length run.repos) (λ c. c < length run.repos) x.side run.repos w.0.past w.0.repo w.0.job d.r x.need (λ c kind lt g. lt)
@@ -66,8 +67,8 @@ module _ (run : Run) (key : List ℕ) (place : ℕ) (e : Entry) (x : Removal) (h
   -- a locked item has its copy after the removal, and a trusted one its claim
   counted : (i : Evidence) → Member i x.items → is_full i ≡ true → (present (past_at run (place + 1)) i.repo key || claim_at run key (place + 1) i.repo) ≡ true
   counted i m full = elim (full_kind i.kind full) [
-    | inl l ↦ or_left (present (past_at run (place + 1)) i.repo key) (claim_at run key (place + 1) i.repo) (locked_left run key place e x i h at is m l)
-    | inr t ↦ or_right (present (past_at run (place + 1)) i.repo key) (claim_at run key (place + 1) i.repo) (trusted_left run key place e x i h at is m t)
+    | inl l ↦ or_left (present (past_at run (place + 1)) i.repo key) (claim_at run key (place + 1) i.repo) (locked_left reads_back run key place e x i h at is m l)
+    | inr t ↦ or_right (present (past_at run (place + 1)) i.repo key) (claim_at run key (place + 1) i.repo) (trusted_left reads_back run key place e x i h at is m t)
   ]
 
   left : count_by is_full x.items ≤ count_at run key (place + 1)
@@ -75,29 +76,29 @@ module _ (run : Run) (key : List ℕ) (place : ℕ) (e : Entry) (x : Removal) (h
       (Each-from_members (λ i. is_full i ≡ true → (present (past_at run (place + 1)) i.repo key || claim_at run key (place + 1) i.repo) ≡ true) x.items counted)
 
   enough : max x.need.n x.need.m ≤ length x.items
-  enough = let w = judged_by run key place e x h at is in enough_items x.side x.need x.items w.2.enough
+  enough = let w = judged_by reads_back run key place e x h at is in enough_items x.side x.need x.items w.2.enough
 
 -- the items of a removal are of distinct repositories
-pub items_distinct : (run : Run) (key : List ℕ) (place : ℕ) (e : Entry) (x : Removal) → IsRun run → slice_get run.entries place ≡ Some e → removal_at run key place e ≡ Some x
+pub items_distinct : SentAreRead → (run : Run) (key : List ℕ) (place : ℕ) (e : Entry) (x : Removal) → IsRun run → slice_get run.entries place ≡ Some e → removal_at run key place e ≡ Some x
     → AllPairs (λ i k. i.repo ≢ k.repo) x.items
-items_distinct run key place e x h at is = apart_pairs x.items (apart run key place e x h at is)
+items_distinct reads_back run key place e x h at is = apart_pairs x.items (apart reads_back run key place e x h at is)
 
 -- none of them the one that loses the content
-pub never_the_target : (run : Run) (key : List ℕ) (place r : ℕ) (e : Entry) (x : Removal) (item : Evidence) → IsRun run → slice_get run.entries place ≡ Some e → removal_at run key place e ≡ Some x
+pub never_the_target : SentAreRead → (run : Run) (key : List ℕ) (place r : ℕ) (e : Entry) (x : Removal) (item : Evidence) → IsRun run → slice_get run.entries place ≡ Some e → removal_at run key place e ≡ Some x
     → is_of r e ≡ true → Member item x.items → item.repo ≢ r
-never_the_target run key place r e x item h at is own m = Each-member (λ (i : Evidence). i.repo ≢ r) x.items item (others run key place e x h at is r own) m
+never_the_target reads_back run key place r e x item h at is own m = Each-member (λ (i : Evidence). i.repo ≢ r) x.items item (others reads_back run key place e x h at is r own) m
 
-pub of_the_run : (run : Run) (key : List ℕ) (place : ℕ) (e : Entry) (x : Removal) (item : Evidence) → IsRun run → slice_get run.entries place ≡ Some e → removal_at run key place e ≡ Some x
+pub of_the_run : SentAreRead → (run : Run) (key : List ℕ) (place : ℕ) (e : Entry) (x : Removal) (item : Evidence) → IsRun run → slice_get run.entries place ≡ Some e → removal_at run key place e ≡ Some x
     → Member item x.items → item.repo < length run.repos
-of_the_run run key place e x item h at is m = Each-member (λ (i : Evidence). i.repo < length run.repos) x.items item (below run key place e x h at is) m
+of_the_run reads_back run key place e x item h at is m = Each-member (λ (i : Evidence). i.repo < length run.repos) x.items item (below reads_back run key place e x h at is) m
 
 -- a removal leaves at least as many copies and claims as its drop had locked and trusted items
-pub evidence_left : (run : Run) (key : List ℕ) (place : ℕ) (e : Entry) (x : Removal) → IsRun run → slice_get run.entries place ≡ Some e → removal_at run key place e ≡ Some x
+pub evidence_left : SentAreRead → (run : Run) (key : List ℕ) (place : ℕ) (e : Entry) (x : Removal) → IsRun run → slice_get run.entries place ≡ Some e → removal_at run key place e ≡ Some x
     → count_by is_full x.items ≤ count_at run key (place + 1)
-evidence_left run key place e x h at is = left run key place e x h at is
+evidence_left reads_back run key place e x h at is = left reads_back run key place e x h at is
 
 -- and where all its items were so, at least as many as its need
-pub need_left : (run : Run) (key : List ℕ) (place : ℕ) (e : Entry) (x : Removal) → IsRun run → slice_get run.entries place ≡ Some e → removal_at run key place e ≡ Some x
+pub need_left : SentAreRead → (run : Run) (key : List ℕ) (place : ℕ) (e : Entry) (x : Removal) → IsRun run → slice_get run.entries place ≡ Some e → removal_at run key place e ≡ Some x
     → ((item : Evidence) → Member item x.items → is_full item ≡ true) → max x.need.n x.need.m ≤ count_at run key (place + 1)
-need_left run key place e x h at is full =
-    omega (arith, left run key place e x h at is, enough run key place e x h at is, all_full x.items (Each-from_members (λ i. is_full i ≡ true) x.items full))
+need_left reads_back run key place e x h at is full =
+    omega (arith, left reads_back run key place e x h at is, enough reads_back run key place e x h at is, all_full x.items (Each-from_members (λ i. is_full i ≡ true) x.items full))

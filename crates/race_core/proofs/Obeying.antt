@@ -17,7 +17,7 @@ use Rattle.p2p_wire.specs.declared.message.Message.TheVariants.{Timestamp}
 use Rattle.p2p_wire.specs.Messages.{order_of}
 use Rattle.run_model.specs.Said.{Says, is_request, message_in}
 use Rattle.race_core.proofs.Ways.{is_answer, answers, down_of, way_from}
-use Rattle.run_model.specs.Frames.{Flying, MayTake, Way, is_job, on_way, requests, says, sender_of, sent, sent_of, taken, taken_if, taker_of, up_of, way_of}
+use Rattle.run_model.specs.Frames.{Flying, MayTake, Way, is_job, on_way, requests, says, sender_of, frames_sent, sent_of, taken_count, taken_if, taker_of, up_of, way_of}
 use Rattle.run_model.specs.Drops.{done, evidence}
 use Rattle.race_core.specs.Lawful.{FoundRemote, IsFresh}
 use Rattle.race_core.proofs.Own.{MayObey, MayOrder, Meets, MessagePast, SaidByClock}
@@ -68,7 +68,7 @@ pub record Ordered (repos : List RepoView) (past : List Entry) (r a : ℕ) (key 
 pub ordered_by : (repos : List RepoView) (past : List Entry) (e : Entry) (r a : ℕ) (key : List ℕ) (k : Takes repos past e r a key) → (t : MayTake past (way_of r k.f) k.f) → Ordered repos past r a key k.f k.deadline t.it
 ordered_by repos past e r a key k t =
     let w = way_of r k.f in
-    let s = sending past w (taken past w) t.it t.next in
+    let s = sending past w (taken_count past w) t.it t.next in
     let is_a : is_of a t.it.entry ≡ true = subst (λ q. is_of q t.it.entry ≡ true) (sender_way r k.f ∙ k.peer_is) s.repo_is in
     let own = own_at repos past t.it.entry t.it.before a k.run s.occurs is_a in
     let message : message_in t.it.frame.body ≡ Says (order_of k.deadline key) = message_at t.it.frame.body k.f.body (Says (order_of k.deadline key)) t.body_is k.asked_is in
@@ -97,7 +97,7 @@ timestamp repos past x p a r f seconds run o is takes peer told =
     let m = occurs_always (Meets repos) past x p run o in
     let t = m.frames a f is takes in
     let w = way_of a f in
-    let s = sending p w (taken p w) t.it t.next in
+    let s = sending p w (taken_count p w) t.it t.next in
     let is_r : is_of r t.it.entry ≡ true = subst (λ q. is_of q t.it.entry ≡ true) (sender_way a f ∙ peer) s.repo_is in
     let before = always_before (Meets repos) past x p run o in
     let own = own_at repos p t.it.entry t.it.before r before s.occurs is_r in
@@ -170,7 +170,7 @@ filter_take p (suc n) (x ∷ xs) = go (filter_take p n xs) (p x)
 
 taken_count : (repos : List RepoView) (past : List Entry) (w : Way) → MessagePast repos past → taken_if is_answer past w ≤ length (answers past w)
 taken_count repos past w run = let t = taken_of is_answer past w (prefixes repos past w run) in
-    subst (λ n. n ≤ length (answers past w)) (sym t.count) (filter_take (of_flying is_answer) (taken past w) (sent past w))
+    subst (λ n. n ≤ length (answers past w)) (sym t.count) (filter_take (of_flying is_answer) (taken_count past w) (frames_sent past w))
 
 pub ordered_open : (repos : List RepoView) (past : List Entry) (e : Entry) (r a : ℕ) (key : List ℕ) (k : Takes repos past e r a key) → (t : MayTake past (way_of r k.f) k.f) → (o : Ordered repos past r a key k.f k.deadline t.it) → done past a o.j ≡ false
 ordered_open repos past e r a key k t o = elim (cases_Bool (done past a o.j)) [ inl h ↦ absurd (ended (done_occurs past a o.j h)) | inr h ↦ h ]

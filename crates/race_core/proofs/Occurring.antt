@@ -11,7 +11,7 @@ use Rattle.run_data.specs.declared.entry.EntryKind.TheVariants.{End}
 use Rattle.run_data.specs.declared.entry.FrameView.{FrameView}
 use Rattle.run_data.specs.declared.job.Outcome.{Outcome}
 use Rattle.run_data.specs.declared.run.RepoView.{RepoView}
-use Rattle.run_model.specs.Past.{Occurs, is_of, made}
+use Rattle.run_model.specs.Past.{Occurs, is_of, entry_count}
 use Rattle.node_model.specs.Rows.{is_lost_ordered}
 use Rattle.run_model.specs.Said.{Said, is_request}
 use Rattle.run_model.specs.Frames.{Way, flying, on_way, says, sender_of, sent_if, taken_if, taker_of, takes_if, up_of}
@@ -33,23 +33,23 @@ occurs_order (e ∷ past) x y p q (inl o) (inr u) = inr (inr (subst (λ (z : Lis
 occurs_order (e ∷ past) x y p q (inr o) (inl u) = inr (inl (subst (λ (z : List Entry). Occurs z x p) (sym u.1) o))
 occurs_order (e ∷ past) x y p q (inr o) (inr u) = occurs_order past x y p q o u
 
-made_more : (e : Entry) (past : List Entry) (r : ℕ) → made past r ≤ made (e ∷ past) r
+made_more : (e : Entry) (past : List Entry) (r : ℕ) → entry_count past r ≤ entry_count (e ∷ past) r
 made_more e past r = go (is_of r e)
   where
-    go : (b : Bool) → made past r ≤ (if b then made past r + 1 else made past r)
+    go : (b : Bool) → entry_count past r ≤ (if b then entry_count past r + 1 else entry_count past r)
     go true = omega arith
     go false = omega arith
 
-made_own : (e : Entry) (past : List Entry) (r : ℕ) → is_of r e ≡ true → made past r < made (e ∷ past) r
+made_own : (e : Entry) (past : List Entry) (r : ℕ) → is_of r e ≡ true → entry_count past r < entry_count (e ∷ past) r
 made_own e past r is = rw is (omega arith)
 
 -- each entry of a repository has another number
-occurs_made : (past : List Entry) (x : Entry) (p : List Entry) (r : ℕ) → Occurs past x p → is_of r x ≡ true → made p r < made past r
+occurs_made : (past : List Entry) (x : Entry) (p : List Entry) (r : ℕ) → Occurs past x p → is_of r x ≡ true → entry_count p r < entry_count past r
 occurs_made [] x p r o is = absurd o
-occurs_made (e ∷ past) x p r (inl o) is = subst (λ (q : List Entry). made q r < made (e ∷ past) r) (sym o.1) (made_own e past r (subst (λ (y : Entry). is_of r y ≡ true) o.0 is))
+occurs_made (e ∷ past) x p r (inl o) is = subst (λ (q : List Entry). entry_count q r < entry_count (e ∷ past) r) (sym o.1) (made_own e past r (subst (λ (y : Entry). is_of r y ≡ true) o.0 is))
 occurs_made (e ∷ past) x p r (inr o) is = omega (arith, occurs_made past x p r o is, made_more e past r)
 
-pub occurs_same : (past : List Entry) (x y : Entry) (p q : List Entry) (r : ℕ) → Occurs past x p → Occurs past y q → is_of r x ≡ true → is_of r y ≡ true → made p r ≡ made q r → (x ≡ y) × (p ≡ q)
+pub occurs_same : (past : List Entry) (x y : Entry) (p q : List Entry) (r : ℕ) → Occurs past x p → Occurs past y q → is_of r x ≡ true → is_of r y ≡ true → entry_count p r ≡ entry_count q r → (x ≡ y) × (p ≡ q)
 occurs_same past x y p q r o u is js same = elim (occurs_order past x y p q o u) [
   | inl s ↦ s
   | inr (inl s) ↦ absurd (omega (arith, occurs_made q x p r s is, same))

@@ -8,6 +8,7 @@ use Rattle.std.proofs.lemmas.List.Elements.{filter-append}
 use Rattle.annex_base.specs.Lists.{Each, Member}
 use Rattle.annex_base.specs.declared.kinds.Word.{Word}
 use Rattle.annex_base.proofs.Lists.{Each-filter, Each-member, Member-filter_from, Member-filter_parts, Member-append_left, Member-flat_map, Member-map}
+use Rattle.race_core.proofs.Below.{SentAreRead}
 use Rattle.run_data.specs.declared.entry.Entry.{Entry}
 use Rattle.run_data.specs.declared.entry.EntryKind.{EntryKind}
 use Rattle.run_data.specs.declared.entry.EntryKind.TheVariants.{Begin, Crash, End as ends_job}
@@ -153,7 +154,7 @@ session_still s past a e client x = go x.3
 
 -- ---- a job's entry
 
-module _ (s : SetUp) (past : List Entry) (e : Entry) (x : Stepped s past e) where
+module _ (reads_back : SentAreRead) (s : SetUp) (past : List Entry) (e : Entry) (x : Stepped s past e) where
   -- it takes a frame of an open end
   pub takes_open : (f : FrameView) → e.taken ≡ Some f → (end_at past s.number (end_of f)).opened ≡ true
   takes_open f took = go (stepped_found s past e x).frame
@@ -196,7 +197,7 @@ module _ (s : SetUp) (past : List Entry) (e : Entry) (x : Stepped s past e) wher
           let m = Member-filter_parts (sends_at a) e.sent y.0 y.1 in
           let at : from_end y.0 ≡ a = same_end-is (from_end y.0) a m.1 in
           let called = Each-member (λ g. is_opening g.body ≡ true → Called (turn_at s past e x) g.peer) e.sent y.0 (stepped_calls s past e x) m.0 y.2 in
-          inr (subst (λ (z : EndName). Member z.peer (others s)) at (called_other s past e run x y.0.peer called), sym (speaks s past e x y.0 m.0).0 ∙ ap (λ (z : EndName). z.slot) at)
+          inr (subst (λ (z : EndName). Member z.peer (others s)) at (called_other reads_back s past e run x y.0.peer called), sym (speaks s past e x y.0 m.0).0 ∙ ap (λ (z : EndName). z.slot) at)
 
   -- the end of the job shuts the ends of its slot
   pub ends_shut : is_of s.number e ≡ true → (job : ℕ) (outcome : Outcome) → e.kind ≡ ends_job job outcome → (a : EndName) → a.client ≡ true → a.slot ≡ x.w.slot → Member a.peer (others s) → (end_at (e ∷ past) s.number a).opened ≡ false
@@ -272,7 +273,7 @@ pub record Runs (s : SetUp) (past : List Entry) (a : EndName) : Type 0 where
 abbrev pub OpenRuns : SetUp → List Entry → Type 0
 OpenRuns s past = (a : EndName) → a.client ≡ true → (end_at past s.number a).opened ≡ true → Runs s past a
 
-module _ (s : SetUp) (past : List Entry) (e : Entry) (words : ℕ → Option Word) (run : OwnRun s past) (is : is_of s.number e ≡ true) (own : OwnPart s past words e) (old : OpenRuns s past) (a : EndName) (client : a.client ≡ true) (now : (end_at (e ∷ past) s.number a).opened ≡ true) where
+module _ (reads_back : SentAreRead) (s : SetUp) (past : List Entry) (e : Entry) (words : ℕ → Option Word) (run : OwnRun s past) (is : is_of s.number e ≡ true) (own : OwnPart s past words e) (old : OpenRuns s past) (a : EndName) (client : a.client ≡ true) (now : (end_at (e ∷ past) s.number a).opened ≡ true) where
   no_crash : (end_at past s.number a).opened ≡ true → (clock : ℕ) → e.kind ≡ Crash clock → ⊥
   no_crash o clock kind =
       let x = old a client o in
@@ -305,7 +306,7 @@ module _ (s : SetUp) (past : List Entry) (e : Entry) (words : ℕ → Option Wor
     ends_mine job outcome kind = (subst (JobKind (turn_at s past e x) x.made) (sym (ap (λ (y : Entry). y.kind) x.is) ∙ kind) (stepped_found s past e x).found).number_is
 
     job_runs : Runs s (e ∷ past) a
-    job_runs = elim (job_opened s past e x run is a now) [
+    job_runs = elim (job_opened reads_back s past e x run is a now) [
       | inl o ↦ (let z = old a client o in stays_on z (λ job outcome kind same. was z job outcome kind same) job_stands)
       | inr y ↦ (let z : Runs s past a = record { peer = y.0; job = running x.w; runs = mine; slot = y.1 } in stays_on z (λ job outcome kind same. was z job outcome kind same) job_stands)
     ]
@@ -315,7 +316,7 @@ module _ (s : SetUp) (past : List Entry) (e : Entry) (words : ℕ → Option Wor
         was z job outcome kind same =
             let one : z.job ≡ running x.w = same_job (jobs past s.number) (jobs_numbered s past run).falling z.job (running x.w) z.runs mine (same ∙ ends_mine job outcome kind) in
             let slot : a.slot ≡ x.w.slot = sym z.slot ∙ ap (λ (j : Running). j.slot) one in
-            true≢false (sym now ∙ ends_shut s past e x is job outcome kind a client slot z.peer)
+            true≢false (sym now ∙ ends_shut reads_back s past e x is job outcome kind a client slot z.peer)
 
   after_runs : Runs s (e ∷ past) a
   after_runs = elim (who s past words e own) [
@@ -327,9 +328,9 @@ module _ (s : SetUp) (past : List Entry) (e : Entry) (words : ℕ → Option Wor
   ]
 
 -- E: an open end of a client is with another repository, and a job runs in its slot
-pub open_runs : (s : SetUp) → (past : List Entry) → OwnRun s past → OpenRuns s past
-open_runs s past run = own_induction s (OpenRuns s) (λ a client o. absurd (true≢false (sym o))) other
-    (λ p e words r is part old a client o. after_runs s p e words r is part old a client o) past run
+pub open_runs : SentAreRead → (s : SetUp) → (past : List Entry) → OwnRun s past → OpenRuns s past
+open_runs reads_back s past run = own_induction s (OpenRuns s) (λ a client o. absurd (true≢false (sym o))) other
+    (λ p e words r is part old a client o. after_runs reads_back s p e words r is part old a client o) past run
   where
     other : (past : List Entry) (e : Entry) → is_of s.number e ≡ false → OpenRuns s past → OpenRuns s (e ∷ past)
     other past e is old a client o =
@@ -353,8 +354,8 @@ used_slot (x ∷ xs) j (inr m) = go (x.slot == j.slot) (used_slot xs j m)
     go true u = refl
     go false u = u
 
-pub shut : (s : SetUp) → Shut s
-shut s past run job what peer few = go (end_at past s.number a).opened refl
+pub shut : SentAreRead → (s : SetUp) → Shut s
+shut reads_back s past run job what peer few = go (end_at past s.number a).opened refl
   where
     js : List Running
     js = map running (works past s.number)
@@ -365,14 +366,14 @@ shut s past run job what peer few = go (end_at past s.number a).opened refl
     go : (b : Bool) → (end_at past s.number a).opened ≡ b → b ≡ false
     go false o = refl
     go true o =
-        let x = open_runs s past run a refl o in
+        let x = open_runs reads_back s past run a refl o in
         let used : uses js x.job.slot ≡ true = used_slot js x.job (subst (Member x.job) (sym (jobs_are past s.number)) x.runs) in
         let free : uses js (free_slot js) ≡ false = free_is js (subst (λ n. n < 4) (sym (length-map (works past s.number) running)) few) in
         absurd (true≢false (sym (subst (λ n. uses js n ≡ true) x.slot used) ∙ free))
 
 -- ---- whom a job speaks with
 
-module _ (s : SetUp) (past : List Entry) (words : ℕ → Option Word) (e : Entry) (run : OwnRun s past) (own : OwnPart s past words e) (x : Stepped s past e) where
+module _ (reads_back : SentAreRead) (s : SetUp) (past : List Entry) (words : ℕ → Option Word) (e : Entry) (run : OwnRun s past) (own : OwnPart s past words e) (x : Stepped s past e) where
   pub job_sends_to : (g : FrameView) → Member g e.sent → Member g.peer (others s)
   job_sends_to g m = go (client_sends s past words e own g m up)
     where
@@ -380,8 +381,8 @@ module _ (s : SetUp) (past : List Entry) (words : ℕ → Option Word) (e : Entr
       up = (speaks s past e x g m).1
 
       go : SentWell (end_at past s.number (from_end g)) g → Member g.peer (others s)
-      go (inl y) = (open_runs s past run (from_end g) up y.0).peer
-      go (inr y) = called_other s past e run x g.peer (Each-member (λ h. is_opening h.body ≡ true → Called (turn_at s past e x) h.peer) e.sent g (stepped_calls s past e x) m (ap is_opening y.2))
+      go (inl y) = (open_runs reads_back s past run (from_end g) up y.0).peer
+      go (inr y) = called_other reads_back s past e run x g.peer (Each-member (λ h. is_opening h.body ≡ true → Called (turn_at s past e x) h.peer) e.sent g (stepped_calls s past e x) m (ap is_opening y.2))
 
   pub job_takes_from : (f : FrameView) → e.taken ≡ Some f → Member f.peer (others s)
-  job_takes_from f took = (open_runs s past run (end_of f) (ap (λ b. if b then false else true) (hears s past e x f took).1) (takes_open s past e x f took)).peer
+  job_takes_from f took = (open_runs reads_back s past run (end_of f) (ap (λ b. if b then false else true) (hears s past e x f took).1) (takes_open reads_back s past e x f took)).peer

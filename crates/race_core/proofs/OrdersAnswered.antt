@@ -8,6 +8,7 @@ use Rattle.annex_base.specs.declared.kinds.Call.TheVariants.{Unhold}
 use Rattle.annex_base.specs.declared.kinds.Word.{Word}
 use Rattle.annex_base.proofs.Lists.{Each-filter, Each-member, Member-filter_from, find_member, filter_none}
 use Rattle.annex_base.proofs.Conditions.{eqb_refl}
+use Rattle.race_core.proofs.Below.{SentAreRead}
 use Rattle.drop_proof.specs.declared.rule.Side.TheVariants.{Remote}
 use Rattle.run_data.specs.declared.entry.Entry.{Entry}
 use Rattle.run_data.specs.declared.entry.EntryKind.{EntryKind}
@@ -287,7 +288,7 @@ drops_stay Drops old Puts phase g is = absurd g
 drops_stay Gets old to phase g is = absurd (cc)
 drops_stay Puts old to phase g is = absurd (cc)
 
-module _ (s : SetUp) (past : List Entry) (e : Entry) (h : OwnPast s (e ∷ past)) (is : is_of s.number e ≡ true) (x : Work) (b : Steps s past e x) where
+module _ (reads_back : SentAreRead) (s : SetUp) (past : List Entry) (e : Entry) (h : OwnPast s (e ∷ past)) (is : is_of s.number e ≡ true) (x : Work) (b : Steps s past e x) where
   abbrev r : ℕ
   r = s.number
 
@@ -391,7 +392,7 @@ module _ (s : SetUp) (past : List Entry) (e : Entry) (h : OwnPast s (e ∷ past)
         side = ap (λ (q : Job). Jobs.drop_side q.kind q.peer) same_what ∙ gives.side;
         part = drops_stay v.part v.phase x.part x.phase (steps_good s past e x b fits) gives.part_is;
         peer = ap (λ (q : Job). q.peer) same_what ∙ peer_is ∙ ap (λ (f : FrameView). Some f.peer) (sym frame_is);
-        epoch = asked_epoch past r e g ((all_keep s (e ∷ past) h g.peer g.slot).0 is) now.sent now.up (order_asks g.body now.deadline now.key now.line)
+        epoch = asked_epoch past r e g ((all_keep reads_back s (e ∷ past) h g.peer g.slot).0 is) now.sent now.up (order_asks g.body now.deadline now.key now.line)
             ∙ sym (ap (λ (b : Bool). (if b then end_after (order_end g) (end_at past r (order_end g)) e else end_at past r (order_end g)).epoch) is);
       }),
     )
@@ -416,12 +417,12 @@ module _ (s : SetUp) (past : List Entry) (e : Entry) (h : OwnPast s (e ∷ past)
       slot_same = sym slot_is
 
       way_is : way_of r f ≡ down_way r (order_end g) g.epoch
-      way_is = taken_way s past (earlier s past e h) e f down answer taker
+      way_is = taken_way reads_back s past (earlier s past e h) e f down answer taker
           ∙ (λ i. down_way r (client_end (peer_same i) (slot_same i)) (end_at past r (client_end (peer_same i) (slot_same i))).epoch)
           ∙ ap (down_way r (order_end g)) (sym ordered.epoch)
 
       balance : length (requests past (up_way r (order_end g) g.epoch)) ≡ taken_if is_answer past (down_way r (order_end g) g.epoch) + 1
-      balance = subst (λ (w : Way). length (requests past (up_of w)) ≡ taken_if is_answer past w + 1) way_is (taken_awaits s past (earlier s past e h) e f down answer taker)
+      balance = subst (λ (w : Way). length (requests past (up_of w)) ≡ taken_if is_answer past w + 1) way_is (taken_awaits reads_back s past (earlier s past e h) e f down answer taker)
 
       hit : hits is_answer g.epoch (taken_at (order_end g) e.taken) ≡ true
       hit = ap (λ (q : Option FrameView). hits is_answer g.epoch (taken_at (order_end g) q)) took ∙ ap (λ (c : Bool). hits is_answer g.epoch (if c then Some f else None)) at_end
@@ -471,7 +472,7 @@ module _ (s : SetUp) (past : List Entry) (e : Entry) (h : OwnPast s (e ∷ past)
 
 -- ---- over the run
 
-module _ (s : SetUp) where
+module _ (reads_back : SentAreRead) (s : SetUp) where
   abbrev At : List Entry → Work → Type 0
   At p x = OwnPast s p → Ordered s p x
 
@@ -502,7 +503,7 @@ module _ (s : SetUp) where
       before (inr (inr b)) old =
           let h' = earlier s p e h in
           let z = was b.by.w (step_runs s p e x b) h' g (subst (λ n. SentOrder p s.number n g) (step_number s p e x b) old) in
-          ordered_then s p e h is x b g z.0 z.1
+          ordered_then reads_back s p e h is x b g z.0 z.1
 
       at : Origin s p e x → NowOrders e s.number x.number g → (g.slot ≡ x.slot) × OrderIs s (e ∷ p) x g x.phase
       at (inl b) now =
@@ -513,7 +514,7 @@ module _ (s : SetUp) where
           absurd (let both : true ≡ false = sym (orders_step p e x.number y) ∙ b.still in cc)
       at (inr (inr b)) now =
           let y = orderer s p (r.0 is).0 e x.number g (r.0 is).1 now in
-          orders_now s p e h is x b g now y.order
+          orders_now reads_back s p e h is x b g now y.order
 
   -- **J5**: each order that a running job has sent awaits its answer, or has it, or is lost
   pub orders_stand : (past : List Entry) → OwnPast s past → (w : Work) → Member w (works past s.number) → Ordered s past w

@@ -15,7 +15,7 @@ use Rattle.run_data.specs.declared.entry.FrameText.TheVariants.{Opening, Closing
 use Rattle.p2p_wire.specs.declared.message.Message.{Message}
 use Rattle.p2p_wire.specs.declared.message.Message.TheVariants.{AuthSuccess, Version, CheckPresent, LockContent, UnlockContent, Remove, RemoveBefore, GetTimestamp, Timestamp, Get, Put, PutFrom, AlreadyHave, Data, Valid, Invalid, Success, Failure, Error}
 use Rattle.p2p_wire.specs.Messages.{alone, key_in, message_by, message_of, number_in, order_of, rest_in, text_in, text_of, then_in, with_file, with_key, with_number, with_one, word_in}
-use Rattle.race_core.proofs.NumbersRead.{rest_reads, word_reads}
+use Rattle.annex_base.proofs.Words.{digits-before_space, digits-from_space}
 use Rattle.node_model.specs.SetUp.{SetUp}
 use Rattle.node_model.specs.Sessions.{line_in}
 use Rattle.run_model.specs.States.{state_of, works}
@@ -106,7 +106,7 @@ IsBefore n key o = (x : Message) → o ≡ Some x → x ≡ RemoveBefore n key
 
 before_as : (n : ℕ) (key : List ℕ) → n < 2 ^ 64 → IsBefore n key (message_of (text_of (RemoveBefore n key)))
 before_as n key small = short_cases (IsBefore n key) (text_of (RemoveBefore n key)) (λ x e. absurd (cc))
-    (rw (rest_reads (decimal n) key (digits_decimal numerals n small), word_reads (decimal n) key (digits_decimal numerals n small), digits_value-decimal numerals n small)
+    (rw (digits-from_space (decimal n) key (digits_decimal numerals n small), digits-before_space (decimal n) key (digits_decimal numerals n small), digits_value-decimal numerals n small)
     (go (nat_lt n (2 ^ 63) && bytes_eq (decimal n) (decimal n)) (is_none (first_fault key))))
   where
     go : (a b : Bool) → IsBefore n key (option_and_then (λ k. option_map (RemoveBefore k) (if b then Some key else None)) (if a then Some n else None))

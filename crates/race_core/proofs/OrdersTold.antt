@@ -8,6 +8,7 @@ use Rattle.annex_base.specs.declared.kinds.Call.{Call}
 use Rattle.annex_base.specs.declared.kinds.Call.TheVariants.{PutFile, Unhold}
 use Rattle.annex_base.specs.declared.kinds.Word.{Word}
 use Rattle.annex_base.proofs.Conditions.{if_either, eqb_refl}
+use Rattle.race_core.proofs.Below.{SentAreRead}
 use Rattle.drop_proof.specs.declared.rule.Side.{Side}
 use Rattle.drop_proof.specs.declared.rule.Side.TheVariants.{Local, Remote}
 use Rattle.run_data.specs.declared.entry.Entry.{Entry}
@@ -32,7 +33,7 @@ use Rattle.run_model.specs.States.{rows_at, works}
 use Rattle.node_model.specs.Ends.{end_after}
 use Rattle.node_model.specs.Sessions.{line_in}
 use Rattle.node_model.specs.Jobs
-use Rattle.node_model.specs.Jobs.{AsksTime, Drops, Ends, Fresh, Gets, GetsBytes, GetsWord, Greets, Orders, Part, Phase, Puts, Rows, Work, claims, closed_part, fault_of, fault_phase, first_look, gets_bytes, hears_frame, job_end, learns, listens, partner, put_from, puts_answer, puts_bytes, quiet, says, says_some, sends, side_of, taken_message, talks, talks_on, target_of, took, took_line, transferred, unreleased, word_taken, work_kind}
+use Rattle.node_model.specs.Jobs.{AsksTime, Drops, Ends, Fresh, Gets, GetsBytes, GetsWord, Greets, Orders, Part, Phase, Puts, Rows, Work, claims, closed_part, fault_of, fault_phase, first_look, gets_bytes, hears_frame, job_end, learns, listens, partner, put_from, puts_answer, puts_bytes, quiet, says, says_some, sends, side_of, taken_message, talks, talks_on, target_of, took, took_line, after_transfer, after_failed_release, word_taken, work_kind}
 use Rattle.node_model.specs.JobStep.{Turn, wrong}
 use Rattle.node_model.specs.DropStep.{first_end, takes_time, times}
 use Rattle.node_model.specs.Turns.{takes_answer}
@@ -135,7 +136,7 @@ sends_order w time taken f fs = go f.body refl
 
 -- ---- what is heard
 
-transferred_off : (w : Work) (o : Outcome) → ordered_end o ≡ false → has_order (transferred w o).phase ≡ false
+transferred_off : (w : Work) (o : Outcome) → ordered_end o ≡ false → has_order (after_transfer w o).phase ≡ false
 transferred_off w o n = if_either (λ (x : Work). has_order x.phase ≡ false) (Jobs.is_move w.what.kind) (record w { part = Drops; phase = Fresh; fills = false }) (record w { phase = Ends o; fills = false }) (λ e. refl) (λ e. n)
 
 look_off : (r : ℕ) (w : Work) (part : Part) (here : Bool) (bar : Option ℕ) → has_order (first_look r w part here bar).phase ≡ false
@@ -217,7 +218,7 @@ fault_kept r w part side phase = ended w.part
     ended Gets = refl
     ended Puts = refl
 
-unheld_kept : (w : Work) (time : ℕ) (phase : Phase) → has_order (unreleased w time phase).phase ≡ true → has_order w.phase ≡ true
+unheld_kept : (w : Work) (time : ℕ) (phase : Phase) → has_order (after_failed_release w time phase).phase ≡ true → has_order w.phase ≡ true
 unheld_kept w time AsksTime e = absurd (true≢false (sym e))
 unheld_kept w time phase e = e
 
@@ -279,7 +280,7 @@ time_small t f peer n Remote is kind k o = go (nat_lt n (2 ^ 61)) k
     go true k = refl
     go false k = absurd (true≢false (sym o ∙ ap is_order (sym k)))
 
-module _ (s : SetUp) (past : List Entry) (words : ℕ → Option Word) (e : Entry) (h : OwnPast s past) (own : OwnPart s past words e) (j peer : ℕ) (deadline : Option ℕ) (need : Need) (key : List ℕ) (kind : e.kind ≡ Order j peer deadline need key) where
+module _ (reads_back : SentAreRead) (s : SetUp) (past : List Entry) (words : ℕ → Option Word) (e : Entry) (h : OwnPast s past) (own : OwnPart s past words e) (j peer : ℕ) (deadline : Option ℕ) (need : Need) (key : List ℕ) (kind : e.kind ≡ Order j peer deadline need key) where
   by : Stepped s past e
   by = stepped_of s past words e own j (Order j peer deadline need key) kind (eqb_refl j)
 
@@ -293,7 +294,7 @@ module _ (s : SetUp) (past : List Entry) (words : ℕ → Option Word) (e : Entr
   read = go deadline found.timed kind
     where
       speak : ClientSteps.Speaks t
-      speak = works_speak s past by.look h by.small by.w (stepped_runs s past e by)
+      speak = works_speak reads_back s past by.look h by.small by.w (stepped_runs s past e by)
 
       go : (d : Option ℕ) → HasDeadline t by.made d → e.kind ≡ Order j peer d need key → message_of (text_of (order_of d by.w.what.key)) ≡ Some (order_of d by.w.what.key)
       go None timed k = speak.remove
@@ -301,7 +302,7 @@ module _ (s : SetUp) (past : List Entry) (words : ℕ → Option Word) (e : Entr
           let taken : e.taken ≡ Some f = ap (λ (y : Entry). y.taken) by.is ∙ took_it in
           let fit = works_fit s past h.run by.w (stepped_runs s past e by) in
           let q = (taken_of s past e by f taken).peer in
-          let made : by.made ≡ takes_time t f q n (side_of by.w) = made_as s past e by fit f taken ∙ takes_line t q f (Timestamp n) AsksTime phase told ∙ ap (λ (x : Part). takes_answer t f q x AsksTime (Timestamp n)) found.part_is in
+          let made : by.made ≡ takes_time t f q n (side_of by.w) = made_as reads_back s past e by fit f taken ∙ takes_line t q f (Timestamp n) AsksTime phase told ∙ ap (λ (x : Part). takes_answer t f q x AsksTime (Timestamp n)) found.part_is in
           let small : nat_lt n (2 ^ 61) ≡ true = time_small t f q n (side_of by.w) found.side (Order j peer (Some d) need key) (sym (ap (λ m. m.kind) made) ∙ sym (ap (λ (y : Entry). y.kind) by.is) ∙ k) refl in
           subst (λ z. message_of (text_of (RemoveBefore z by.w.what.key)) ≡ Some (RemoveBefore z by.w.what.key)) (sym same) (speak.before n first small end soon)
 
@@ -331,9 +332,9 @@ order_kind : (kind : EntryKind) → is_order kind ≡ true → (j peer : ℕ) ×
 order_kind (Order j peer deadline need key) e = (j, peer, deadline, need, key, refl)
 order_kind kind e = absurd (true≢false (sym e))
 
-sent_order : (s : SetUp) (past : List Entry) → OwnPast s past → (j : ℕ) → Has past s.number j ≡ true → (g : FrameView) × SentOrder past s.number j g
-sent_order s [] h j e = absurd (true≢false (sym e))
-sent_order s (x ∷ past) h j e = go (λ old. sent_order s past (earlier s past x h) j old) (is_job s.number j x && is_order x.kind) refl e
+sent_order : SentAreRead → (s : SetUp) (past : List Entry) → OwnPast s past → (j : ℕ) → Has past s.number j ≡ true → (g : FrameView) × SentOrder past s.number j g
+sent_order reads_back s [] h j e = absurd (true≢false (sym e))
+sent_order reads_back s (x ∷ past) h j e = go (λ old. sent_order reads_back s past (earlier s past x h) j old) (is_job s.number j x && is_order x.kind) refl e
   where
     go : (Has past s.number j ≡ true → (g : FrameView) × SentOrder past s.number j g) → (b : Bool) → (is_job s.number j x && is_order x.kind) ≡ b → (b || Has past s.number j) ≡ true → (g : FrameView) × SentOrder (x ∷ past) s.number j g
     go more false is o = let z = more o in (z.0, record { x = z.1.x; before = z.1.before; stands = inr z.1.stands; mine = z.1.mine; sent = z.1.sent; up = z.1.up; deadline = z.1.deadline; key = z.1.key; line = z.1.line })
@@ -342,19 +343,19 @@ sent_order s (x ∷ past) h j e = go (λ old. sent_order s past (earlier s past 
         let own = (h.run.0 (and_parts (is_of s.number x) (option_is (job_of x.kind) j) both.0).0) in
         let k = order_kind x.kind both.1 in
         let at : k.0 ≡ j = same (subst (λ q. option_is (job_of q) j ≡ true) k.5 (and_parts (is_of s.number x) (option_is (job_of x.kind) j) both.0).1) in
-        packed s past own.0 x (earlier s past x h) own.1 k.0 k.1 k.2 k.3 k.4 k.5 j at
+        packed reads_back s past own.0 x (earlier s past x h) own.1 k.0 k.1 k.2 k.3 k.4 k.5 j at
       where
         same : {a b : ℕ} → (a == b) ≡ true → a ≡ b
         same {a = a} {b = b} e = eqb-true a b e
 
 -- **OrdersTold**, by own parts alone
-pub orders_told : (s : SetUp) (past : List Entry) → OwnPast s past → OrdersTold s past
-orders_told s past h w m true at = orders_entry s past h.run w m (ap has_order at)
-orders_told s past h w m false at = go (Has past s.number w.number) refl
+pub orders_told : SentAreRead → (s : SetUp) (past : List Entry) → OwnPast s past → OrdersTold s past
+orders_told reads_back s past h w m true at = orders_entry s past h.run w m (ap has_order at)
+orders_told reads_back s past h w m false at = go (Has past s.number w.number) refl
   where
     go : (b : Bool) → Has past s.number w.number ≡ b → b ≡ false
     go false e = refl
     go true e =
-        let z = sent_order s past h w.number e in
-        let o : Rattle.race_core.proofs.OrdersAnswered.OrderIs s past w z.0 (Ends (Refused (refusals.Lost false))) = subst (Rattle.race_core.proofs.OrdersAnswered.OrderIs s past w z.0) at (orders_stand s past h w m z.0 z.1).1 in
+        let z = sent_order reads_back s past h w.number e in
+        let o : Rattle.race_core.proofs.OrdersAnswered.OrderIs s past w z.0 (Ends (Refused (refusals.Lost false))) = subst (Rattle.race_core.proofs.OrdersAnswered.OrderIs s past w z.0) at (orders_stand reads_back s past h w m z.0 z.1).1 in
         absurd o

@@ -24,7 +24,7 @@ use Rattle.run_data.specs.declared.entry.FrameView.{FrameView}
 use Rattle.run_data.specs.declared.job.Outcome.{Outcome}
 use Rattle.run_data.specs.declared.run.RepoView.{RepoView}
 use Rattle.run_data.specs.declared.run.Run.{Run}
-use Rattle.run_model.specs.Past.{Always, Decision, Occurs, bar, begun_job, clock, decided, holds, is_of, made, now, clock_set}
+use Rattle.run_model.specs.Past.{Always, Decision, Occurs, bar, begun_job, clock, decision, holds, is_of, entry_count, now, clock_set}
 use Rattle.node_model.specs.Rows.{is_blocked, is_lost_ordered}
 use Rattle.p2p_wire.specs.declared.message.Message.TheVariants.{CheckPresent, LockContent, UnlockContent, Timestamp, Success}
 use Rattle.p2p_wire.specs.Messages.{order_of}
@@ -65,7 +65,7 @@ pub record SharesWith (r : ℕ) (e : Entry) (peer slot : ℕ) (key : List ℕ) :
 pub record MayShare (repos : List RepoView) (r : ℕ) (past : List Entry) (e : Entry) (hold end : ℕ) (key : List ℕ) : Type 0 where
   pub row : Free past r key
   pub end_is : end ≡ clock repos past r e.time + hold_time
-  pub number_is : hold ≡ made past r + 1
+  pub number_is : hold ≡ entry_count past r + 1
 
 -- an entry that sends SUCCESS down answers in turn: every request that was taken before has its answer, and the one that it takes
 -- now was granted as it asks
@@ -155,7 +155,7 @@ OneClock repos r past j = (x : Entry) (before : List Entry) → Occurs past x be
 pub record MayBar (repos : List RepoView) (r : ℕ) (past : List Entry) (e : Entry) (j : ℕ) (need : Need) (key : List ℕ) : Type 0 where
   pub row : Free past r key
   pub unheld : is_blocked (holds past r) key (clock repos past r e.time) ≡ false
-  pub first : decided past r j ≡ None
+  pub first : decision past r j ≡ None
   pub open' : done past r j ≡ false
   pub nothing_asked : has_asked past r j ≡ false
   pub dropping : in_drop past r j ≡ true
@@ -175,8 +175,8 @@ pub record MayRemove (repos : List RepoView) (r : ℕ) (past : List Entry) (e : 
   pub barred : bar past r key ≡ Some j
   pub one_clock : OneClock repos r past j
   pub heard_of : HeardOf past r j key
-  pub enough : (d : Decision) → decided past r j ≡ Some d → is_enough Local d.need (known_evidence Local repos past r j r d.need) ≡ true
-  pub in_time : (d : Decision) → decided past r j ≡ Some d → InTimeBy (clock repos past r e.time) (known_evidence Local repos past r j r d.need)
+  pub enough : (d : Decision) → decision past r j ≡ Some d → is_enough Local d.need (known_evidence Local repos past r j r d.need) ≡ true
+  pub in_time : (d : Decision) → decision past r j ≡ Some d → InTimeBy (clock repos past r e.time) (known_evidence Local repos past r j r d.need)
 
 -- the entry takes the target's timestamp, answers on the same opening of the connection, and makes the deadline of it: the whole
 -- seconds that are left until the first end

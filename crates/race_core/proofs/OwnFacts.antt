@@ -18,7 +18,7 @@ use Rattle.run_model.specs.Past.{Occurs, is_of, now}
 use Rattle.node_model.specs.Rows.{option_is}
 use Rattle.p2p_wire.specs.declared.message.Message.TheVariants.{CheckPresent, LockContent}
 use Rattle.run_model.specs.Said.{Said, Says, message_in}
-use Rattle.run_model.specs.Frames.{Flying, is_job, says, sender, sent_of, taken, way_of}
+use Rattle.run_model.specs.Frames.{Flying, is_job, says, sender, sent_of, taken_count, way_of}
 use Rattle.node_model.specs.Slots.{job_of}
 use Rattle.run_model.specs.Drops.{Vouch, Lock, Look, asked_at, asker, asker_by, asker_of, is_asker, key_of, look_of, vouch, vouch_kind, vouches}
 use Rattle.race_core.specs.Lawful.{Free, since_of}
@@ -56,7 +56,7 @@ asked_by repos past e r a j f m is takes yes' =
     let from : sender past r e.taken ≡ Some (sent_of t.it) = ap (λ o. sender past r o) takes ∙ ap (λ o. option_map sent_of o) t.next in
     let parts = asker_parts a j t.it.entry.repo (job_of t.it.entry.kind) t.it.entry.time (subst (λ o. is_asker a j (asker_by o) ≡ true) from yes') in
     let job : is_job a j t.it.entry ≡ true = and_from (is_of a t.it.entry) (option_is (job_of t.it.entry.kind) j) (subst (λ o. option_is o a ≡ true) (sym parts.0) (eqb_refl a)) (subst (λ o. option_is o j ≡ true) (sym parts.1) (eqb_refl j)) in (
-      record { it = t.it; sending = sending past (way_of r f) (taken past (way_of r f)) t.it t.next; body_is = t.body_is; is_asked = job },
+      record { it = t.it; sending = sending past (way_of r f) (taken_count past (way_of r f)) t.it t.next; body_is = t.body_is; is_asked = job },
       ap (λ o. asked_at (asker_by o)) from ∙ at t.it.entry.repo (job_of t.it.entry.kind) t.it.entry.time parts.0 parts.1,
     )
   where

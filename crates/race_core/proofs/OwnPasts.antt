@@ -11,10 +11,10 @@ use Rattle.run_data.specs.declared.entry.FrameView.{FrameView}
 use Rattle.run_data.specs.declared.run.RepoView.{RepoView}
 use Rattle.run_data.specs.Repos.{id_of}
 use Rattle.run_data.specs.declared.entry.EntryKind.TheVariants.{Bar, Begin, Gain, Talk}
-use Rattle.run_model.specs.Past.{Decision, bar, begun_job, begun_job_after, decided, decided_after, holds, is_of, jobs, jobs_after, made, present}
+use Rattle.run_model.specs.Past.{Decision, bar, begun_job, begun_job_after, decision, decided_after, holds, is_of, jobs, jobs_after, entry_count, present}
 use Rattle.node_model.specs.Rows.{option_is, bar_after, holds_after, present_after}
 use Rattle.run_model.specs.Said.{Said, is_request, message_in}
-use Rattle.run_model.specs.Frames.{Flying, Way, flying, last_of, last_request, said_of, on_way, requests, says, sender_of, sent, sent_if, taken_if, taker_of, takes_if, up_of, way_of}
+use Rattle.run_model.specs.Frames.{Flying, Way, flying, last_of, last_request, said_of, on_way, requests, says, sender_of, frames_sent, sent_if, taken_if, taker_of, takes_if, up_of, way_of}
 use Rattle.trust_groups.specs.Settings.{settings}
 use Rattle.run_model.specs.Logs.{added_by, before_step, ends_transfer, ever, has_it, has_stepped, hears_has_it, in_drop, is_quiet, is_step, need_read, read_at, settings_of, starts_drop}
 use Rattle.node_model.specs.Look.{first_of}
@@ -54,8 +54,8 @@ own_holds r past = own_fold r (λ p. holds p r) (λ x e. holds_after x e.kind) (
 pub own_jobs : (r : ℕ) (past : List Entry) → jobs past r ≡ jobs (mine r past) r
 own_jobs r past = own_fold r (λ p. jobs p r) (λ x e. jobs_after x e.kind) (λ e p. refl) past
 
-pub own_made : (r : ℕ) (past : List Entry) → made past r ≡ made (mine r past) r
-own_made r past = own_fold r (λ p. made p r) (λ x e. x + 1) (λ e p. refl) past
+pub own_made : (r : ℕ) (past : List Entry) → entry_count past r ≡ entry_count (mine r past) r
+own_made r past = own_fold r (λ p. entry_count p r) (λ x e. x + 1) (λ e p. refl) past
 
 pub own_begun : (r j : ℕ) (past : List Entry) → begun_job past r j ≡ begun_job (mine r past) r j
 own_begun r j past = own_fold r (λ p. begun_job p r j) (λ x e. begun_job_after j x e.kind) (λ e p. refl) past
@@ -80,8 +80,8 @@ decided_stated place place' j was was' (Bar job need key) h = go (job == j)
     go false = h
 decided_stated place place' j was was' _ h = h
 
-pub own_decided : (r j : ℕ) (past : List Entry) → stated (decided past r j) ≡ stated (decided (mine r past) r j)
-own_decided r j past = own_by r (λ p. stated (decided p r j)) (λ e p is. rw is refl) (λ e p is ih. rw is (decided_stated (length p) (length (mine r p)) j (decided p r j) (decided (mine r p) r j) e.kind ih)) past
+pub own_decided : (r j : ℕ) (past : List Entry) → stated (decision past r j) ≡ stated (decision (mine r past) r j)
+own_decided r j past = own_by r (λ p. stated (decision p r j)) (λ e p is. rw is refl) (λ e p is ih. rw is (decided_stated (length p) (length (mine r p)) j (decision p r j) (decision (mine r p) r j) e.kind ih)) past
 
 -- ---- frames
 
@@ -101,8 +101,8 @@ bare_flying : (e : Entry) (p q : List Entry) (gs : List FrameView) → map bare 
 bare_flying e p q [] = refl
 bare_flying e p q (g ∷ gs) = ap (λ zs. record { frame = g; entry = e } ∷ zs) (bare_flying e p q gs)
 
-pub own_sent : (r : ℕ) (w : Way) → sender_of w ≡ r → (past : List Entry) → map bare (sent past w) ≡ map bare (sent (mine r past) w)
-own_sent r w same past = own_by r (λ p. map bare (sent p w)) (λ e p is. rw (not_mine e is) refl) (λ e p is ih. here e p (mine r p) (is_mine e is) ih) past
+pub own_sent : (r : ℕ) (w : Way) → sender_of w ≡ r → (past : List Entry) → map bare (frames_sent past w) ≡ map bare (frames_sent (mine r past) w)
+own_sent r w same past = own_by r (λ p. map bare (frames_sent p w)) (λ e p is. rw (not_mine e is) refl) (λ e p is ih. here e p (mine r p) (is_mine e is) ih) past
   where
     not_mine : (e : Entry) → is_of r e ≡ false → is_of (sender_of w) e ≡ false
     not_mine e is = subst (λ q. is_of q e ≡ false) (sym same) is
@@ -110,9 +110,9 @@ own_sent r w same past = own_by r (λ p. map bare (sent p w)) (λ e p is. rw (no
     is_mine : (e : Entry) → is_of r e ≡ true → is_of (sender_of w) e ≡ true
     is_mine e is = subst (λ q. is_of q e ≡ true) (sym same) is
 
-    here : (e : Entry) (p q : List Entry) → is_of (sender_of w) e ≡ true → map bare (sent p w) ≡ map bare (sent q w) → map bare (sent (e ∷ p) w) ≡ map bare (sent (e ∷ q) w)
-    here e p q is ih = rw is (map_append bare (sent p w) (map (flying e p) (on_way w e)) ∙ ap (λ xs. xs ++ map bare (map (flying e p) (on_way w e))) ih
-        ∙ ap (λ ys. map bare (sent q w) ++ ys) (bare_flying e p q (on_way w e)) ∙ sym (map_append bare (sent q w) (map (flying e q) (on_way w e))))
+    here : (e : Entry) (p q : List Entry) → is_of (sender_of w) e ≡ true → map bare (frames_sent p w) ≡ map bare (frames_sent q w) → map bare (frames_sent (e ∷ p) w) ≡ map bare (frames_sent (e ∷ q) w)
+    here e p q is ih = rw is (map_append bare (frames_sent p w) (map (flying e p) (on_way w e)) ∙ ap (λ xs. xs ++ map bare (map (flying e p) (on_way w e))) ih
+        ∙ ap (λ ys. map bare (frames_sent q w) ++ ys) (bare_flying e p q (on_way w e)) ∙ sym (map_append bare (frames_sent q w) (map (flying e q) (on_way w e))))
 
 bare_filter : (q : Said → Bool) (xs : List Flying) → map bare (filter (λ x. says q x.frame) xs) ≡ filter (λ x. says q x.frame) (map bare xs)
 bare_filter q [] = refl
@@ -124,7 +124,7 @@ bare_filter q (x ∷ xs) = go (bare_filter q xs) (says q x.frame)
     go ih false = ih
 
 pub own_sent_if : (q : Said → Bool) (r : ℕ) (w : Way) → sender_of w ≡ r → (past : List Entry) → map bare (sent_if q past w) ≡ map bare (sent_if q (mine r past) w)
-own_sent_if q r w same past = bare_filter q (sent past w) ∙ ap (filter (λ x. says q x.frame)) (own_sent r w same past) ∙ sym (bare_filter q (sent (mine r past) w))
+own_sent_if q r w same past = bare_filter q (frames_sent past w) ∙ ap (filter (λ x. says q x.frame)) (own_sent r w same past) ∙ sym (bare_filter q (frames_sent (mine r past) w))
 
 pub own_count : (q : Said → Bool) (r : ℕ) (w : Way) → sender_of w ≡ r → (past : List Entry) → length (sent_if q past w) ≡ length (sent_if q (mine r past) w)
 own_count q r w same past = sym (length-map (sent_if q past w) bare) ∙ ap length (own_sent_if q r w same past) ∙ length-map (sent_if q (mine r past) w) bare
@@ -212,7 +212,7 @@ own_in_drop r j past = own_by r (λ p. in_drop p r j)
     (λ e p is. or_nothing (in_drop p r j) (is_of r e && starts_drop p r j e e.kind) (rw is refl))
     (λ e p is ih. ap (λ b. b || (is_of r e && starts_drop p r j e e.kind)) ih ∙ ap (λ b. in_drop (mine r p) r j || (is_of r e && b)) (own_starts r j e e.kind p)) past
 
-first_none : {X : Type 0} (o : Option X) → first_of o None ≡ o
+pub first_none : {X : Type 0} (o : Option X) → first_of o None ≡ o
 first_none None = refl
 first_none (Some x) = refl
 

@@ -4,11 +4,11 @@ use Rattle.std.specs.Prelude.{filter, if◌then◌else◌, ◌&&◌}
 use Rattle.annex_base.proofs.Functions.{funext}
 use Rattle.run_data.specs.declared.entry.Entry.{Entry}
 use Rattle.run_data.specs.declared.run.RepoView.{RepoView}
-use Rattle.run_model.specs.Past.{bar, begun, holds, is_of, made, present, clock_set, set_after}
+use Rattle.run_model.specs.Past.{bar, begun, holds, is_of, entry_count, present, clock_set, set_after}
 use Rattle.node_model.specs.Rows.{bar_after, holds_after, present_after, content_after}
 use Rattle.node_model.specs.Slots.{is_begin}
 use Rattle.node_model.specs.Clocks.{runs_on, wall}
-use Rattle.run_model.specs.Logs.{added_by, branch, branch_after, ever, kept, read_at, settings_of}
+use Rattle.run_model.specs.Logs.{added_by, branch, branch_after, ever, lines_of_file, read_at, settings_of}
 use Rattle.trust_groups.specs.Settings.{settings}
 use Rattle.union_merge.specs.Branch.{lines_at}
 use Rattle.node_model.specs.SetUp.{SetUp}
@@ -47,8 +47,8 @@ module _ (r : ℕ) where
   own_holds : (past : List Entry) → holds past r ≡ holds (own r past) r
   own_holds past = by_own r (λ p. holds p r) (λ p was e. holds_after was e.kind) (λ e p. refl) (λ p was e. refl) past
 
-  own_made : (past : List Entry) → made past r ≡ made (own r past) r
-  own_made past = by_own r (λ p. made p r) (λ p was e. was + 1) (λ e p. refl) (λ p was e. refl) past
+  own_made : (past : List Entry) → entry_count past r ≡ entry_count (own r past) r
+  own_made past = by_own r (λ p. entry_count p r) (λ p was e. was + 1) (λ e p. refl) (λ p was e. refl) past
 
   own_begun : (past : List Entry) → begun past r ≡ begun (own r past) r
   own_begun past = by_own r (λ p. begun p r) (λ p was e. if is_begin e.kind then was + 1 else was) (λ e p. both (is_of r e) (is_begin e.kind) (begun p r)) (λ p was e. refl) past
@@ -84,7 +84,7 @@ module _ (r : ℕ) where
   own_branch : (past : List Entry) → branch past r ≡ branch (own r past) r
   own_branch past = by_own r (λ p. branch p r) (λ p was e. branch_after was e.kind e.lines) (λ e p. refl) (λ p was e. refl) past
 
-  kept_same : (past : List Entry) → kept past r ≡ kept (own r past) r
+  kept_same : (past : List Entry) → lines_of_file past r ≡ lines_of_file (own r past) r
   kept_same past = ap (λ files. lines_at files) (own_branch past)
 
   own_ever : (path : List ℕ) (past : List Entry) → ever past r path ≡ ever (own r past) r path
@@ -97,16 +97,16 @@ module _ (r : ℕ) where
   own_clock repos past = by_own r (λ p. clock_set repos p r) (λ p was e. set_after e.time was e.kind) (λ e p. refl) (λ p was e. refl) past
 
   own_owes : (repos : List RepoView) (past : List Entry) → owes repos past r ≡ owes repos (own r past) r
-  own_owes repos past = by_own r (λ p. owes repos p r) (λ p was e. owed_after repos (kept p r) (wall repos r e.time) (works p r) r was e e.kind) (λ e p. refl)
+  own_owes repos past = by_own r (λ p. owes repos p r) (λ p was e. owed_after repos (lines_of_file p r) (wall repos r e.time) (works p r) r was e e.kind) (λ e p. refl)
       (λ p was e. ap (λ lines. owed_after repos lines (wall repos r e.time) (works p r) r was e e.kind) (kept_same p)
-      ∙ ap (λ ws. owed_after repos (kept (own r p) r) (wall repos r e.time) ws r was e e.kind) (own_works p)) past
+      ∙ ap (λ ws. owed_after repos (lines_of_file (own r p) r) (wall repos r e.time) ws r was e e.kind) (own_works p)) past
 
 -- a state is one of the repository's own entries
 pub state_own : (s : SetUp) (past : List Entry) → state_of s past ≡ state_of s (own s.number past)
 state_own s past i = record {
   clock = λ time. runs_on (own_clock s.number s.repos past i) time;
   wall = wall s.repos s.number;
-  made = own_made s.number past i;
+  entry_count = own_made s.number past i;
   begun = own_begun s.number past i;
   present = funext (present past s.number) (present (own s.number past) s.number) (λ key. own_present s.number key past) i;
   bar = funext (bar past s.number) (bar (own s.number past) s.number) (λ key. own_bar s.number key past) i;

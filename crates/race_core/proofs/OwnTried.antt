@@ -10,6 +10,7 @@ use Rattle.annex_base.specs.declared.kinds.Call.{Call}
 use Rattle.annex_base.specs.declared.kinds.Call.TheVariants.{PutFile, Unhold}
 use Rattle.annex_base.proofs.Conditions.{eqb_refl}
 use Rattle.annex_base.proofs.Lists.{Member-filter_from, Member-filter_parts, find_member}
+use Rattle.race_core.proofs.Below.{SentAreRead}
 use Rattle.drop_proof.specs.declared.rule.Side.{Side}
 use Rattle.drop_proof.specs.declared.rule.Side.TheVariants.{Local, Remote}
 use Rattle.run_data.specs.declared.entry.By.{By}
@@ -36,7 +37,7 @@ use Rattle.node_model.specs.State.{State}
 use Rattle.run_model.specs.States.{state_of, rows_at, works}
 use Rattle.node_model.specs.AnyTime.{IsPeer}
 use Rattle.node_model.specs.Jobs
-use Rattle.node_model.specs.Jobs.{Drops, Fresh, Gets, Heard, Part, Phase, Puts, Rows, Work, claims, fault_of, first_look, first_part, learns, partner, side_of, talks, target_of, unreleased, work_kind}
+use Rattle.node_model.specs.Jobs.{Drops, Fresh, Gets, Heard, Part, Phase, Puts, Rows, Work, claims, fault_of, first_look, first_part, learns, partner, side_of, talks, target_of, after_failed_release, work_kind}
 use Rattle.node_model.specs.Calls.{to_hold, to_release}
 use Rattle.node_model.specs.Look.{Made, failing}
 use Rattle.race_core.proofs.Knowing.{is_to_ask}
@@ -229,7 +230,7 @@ talk_tells t y e part phase what heard sent taken rows there bar told =
 
 fault_tells : (r : ℕ) (w : Work) (time : ℕ) (call : Call) → w.part ≡ Drops → w.phase ≡ Fresh → side_of w ≡ Remote → is_fresh (fault_of r w time call).phase ≡ false → (h : Heard) × ((fault_of r w time call).heard ≡ (r, h) ∷ w.heard)
 fault_tells r w time PutFile part phase side later = absurd (fresh_off w.phase phase later)
-fault_tells r w time Unhold part phase side later = absurd (fresh_off w.phase phase (subst (λ (x : Work). is_fresh x.phase ≡ false) (ap (unreleased w time) phase) later))
+fault_tells r w time Unhold part phase side later = absurd (fresh_off w.phase phase (subst (λ (x : Work). is_fresh x.phase ≡ false) (ap (after_failed_release w time) phase) later))
 fault_tells r w time call part phase side later = (Jobs.Lacks causes.Fault, λ i. (Jobs.fault_phase r w (part i) (side i) (phase i)).heard)
 
 module _ (t : Turn) (m : Made) (rows : Rows) (e : Entry) (part : t.w.part ≡ Drops) (phase : t.w.phase ≡ Fresh) (side : side_of t.w ≡ Remote) (sent : e.sent ≡ m.sent) (taken : e.taken ≡ m.taken) (there : rows.present ≡ t.present) (bar : rows.bar ≡ t.bar) where
@@ -261,7 +262,7 @@ gets_has (Jobs.PutsOffer peer) m fits has = fits
 gets_has (Jobs.PutsAnswer peer start) m fits has = fits
 gets_has phase m fits has = has
 
-module _ (s : SetUp) where
+module _ (reads_back : SentAreRead) (s : SetUp) where
   gets_begins : (past : List Entry) (e : Entry) → OwnRun s past → (x : Stepped s past e) → (kind : EntryKind) → FoundBy (turn_at s past e x) x.made kind → x.w.part ≡ Gets
       → (work_kind (rows_at past s.number) s.number x.w e kind).part ≡ Drops → ((j : ℕ) (outcome : Outcome) → kind ≢ ends_job j outcome) → starts_drop past s.number x.w.number e kind ≡ true
   gets_begins past e run x (Share hold end by key) k gets part goes_on = absurd (let both : Gets ≡ Drops = sym gets ∙ k.part_is in cc)
@@ -286,7 +287,7 @@ module _ (s : SetUp) where
           → (Jobs.talks_on (rows_at past s.number) s.number y e (partner x.w.what.peer x.w.phase)).part ≡ Drops
           → ((is_quiet e.taken e.sent && not (has_stepped past s.number x.w.number)) || hears_has_it past s.number e.taken) ≡ true
       go y p q (inl same) drops = absurd (let both : Gets ≡ Drops = sym gets ∙ sym p ∙ sym same ∙ drops in cc)
-      go y p q (inr (sent, inl at)) drops = rw (at.2, sent, no_step s past run x.w runs gets (sym q ∙ at.1)) refl
+      go y p q (inr (sent, inl at)) drops = rw (at.2, sent, no_step reads_back s past run x.w runs gets (sym q ∙ at.1)) refl
       go y p q (inr (sent, inr at)) drops = absurd (gets_has y.phase at.2.0 (subst (λ h. Fits Gets h) (sym q) (subst (λ h. Fits h x.w.phase) gets (works_fit s past run x.w runs))) at.2.2)
   gets_begins past e run x kind k gets part goes_on = absurd k
 
@@ -344,7 +345,7 @@ kept_tried s past e w x part side = (
       (read_kept past e s.number w.number y.0, to_ask_same s (state_of s (e ∷ past)) (state_of s past) w w s.number (stays_read past e s.number w.number y.0) refl refl ∙ y.1),
 )
 
-module _ (s : SetUp) (p : List Entry) (e : Entry) (r : OwnRun s (e ∷ p)) (is : is_of s.number e ≡ true) (x : Work) (b : Steps s p e x) (part : x.part ≡ Drops) (side : side_of x ≡ Remote) where
+module _ (reads_back : SentAreRead) (s : SetUp) (p : List Entry) (e : Entry) (r : OwnRun s (e ∷ p)) (is : is_of s.number e ≡ true) (x : Work) (b : Steps s p e x) (part : x.part ≡ Drops) (side : side_of x ≡ Remote) where
   abbrev v : Work
   v = b.by.w
 
@@ -462,7 +463,7 @@ module _ (s : SetUp) (p : List Entry) (e : Entry) (r : OwnRun s (e ∷ p)) (is :
     or_right (in_drop p s.number x.number) (is_of s.number e && starts_drop p s.number x.number e e.kind)
         (and_from (is_of s.number e) (starts_drop p s.number x.number e e.kind) is
         (subst (λ n. starts_drop p s.number n e e.kind ≡ true) (sym number)
-        (gets_begins s p e r.1 b.by e.kind (step_kind s p e x b) gets (sym (ap (λ (y : Work). y.part) b.work_is) ∙ part) b.goes_on))),
+        (gets_begins reads_back s p e r.1 b.by e.kind (step_kind s p e x b) gets (sym (ap (λ (y : Work). y.part) b.work_is) ∙ part) b.goes_on))),
     λ later. absurd (fresh_off x.phase (new_phase (λ d. let both : Gets ≡ Drops = sym gets ∙ d in cc)) later),
   )
 
@@ -476,14 +477,14 @@ module _ (s : SetUp) (p : List Entry) (e : Entry) (r : OwnRun s (e ∷ p)) (is :
       go Gets at = new_tried at
       go Puts at = absurd (no_puts at)
 
-module _ (s : SetUp) where
+module _ (reads_back : SentAreRead) (s : SetUp) where
   tried : (past : List Entry) → OwnRun s past → (w : Work) → Member w (works past s.number) → Tried s past w
   tried past run w m = invariant s (Tried s) (λ p e is x n was. kept_tried s p e x was) own past run w m
     where
       own : (p : List Entry) (e : Entry) → OwnRun s (e ∷ p) → is_of s.number e ≡ true → ((x : Work) → Member x (works p s.number) → Tried s p x) → (x : Work) → Origin s p e x → Tried s (e ∷ p) x
       own p e r is was x (inl b) part side = (begun_drop s p e x is b part, λ later. absurd (fresh_off x.phase (ap (λ (y : Work). y.phase) b.work_is) later))
       own p e r is was x (inr (inl b)) part side = kept_tried s p e x (was x b.ran) part side
-      own p e r is was x (inr (inr b)) part side = step_tried s p e r is x b part side (was b.by.w (step_runs s p e x b))
+      own p e r is was x (inr (inr b)) part side = step_tried reads_back s p e r is x b part side (was b.by.w (step_runs s p e x b))
 
   -- ---- whom it calls
 

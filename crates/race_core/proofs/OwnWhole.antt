@@ -13,7 +13,7 @@ use Rattle.run_data.specs.declared.entry.FrameView.{FrameView}
 use Rattle.run_data.specs.declared.job.Cause.{Cause}
 use Rattle.run_data.specs.declared.job.Cause.TheVariants.{Closed}
 use Rattle.run_data.specs.declared.run.RepoView.{RepoView}
-use Rattle.run_model.specs.Past.{Decision, Occurs, begun_job, clock, decided, holds, is_of, jobs, present, clock_set, set_after}
+use Rattle.run_model.specs.Past.{Decision, Occurs, begun_job, clock, decision, holds, is_of, jobs, present, clock_set, set_after}
 use Rattle.node_model.specs.Rows.{is_blocked, option_is}
 use Rattle.p2p_wire.specs.declared.message.Message.TheVariants.{Success}
 use Rattle.run_model.specs.Said.{Said, Says, message_in, is_request}
@@ -22,14 +22,14 @@ use Rattle.run_model.specs.Frames.{Flying, Way, is_job, last_request, says, send
 use Rattle.node_model.specs.Slots.{job_of}
 use Rattle.run_model.specs.Logs.{before_step, in_drop, is_step}
 use Rattle.node_model.specs.Look.{first_of}
-use Rattle.node_model.specs.Evidence.{candidates, gather, reached}
+use Rattle.node_model.specs.Evidence.{candidates, gather, reached_candidates}
 use Rattle.run_model.specs.Drops.{cause_closed, cause_own, cause_said, cause_taken, cause_with, is_first_step, is_waiting, key_in, newer_cause, option_is_none, or_closed, shuts, standing}
 use Rattle.race_core.specs.Lawful.{Free}
 use Rattle.race_core.proofs.Heard.{Heard, heard, heard_answer, heard_cause, heard_frame, heard_kind, heard_request, hears, known_evidence, known_offer, knows, newer_heard, still_waits}
 use Rattle.race_core.proofs.Own.{Awaits, HasDeadline, HeardOf, InTimeBy, InTurn, MayEnd, MayBar, MayObey, MayOrder, MayRelease, MayRemove, MaySend, OneClock, Own, SaidByClock, asks_copy, has_asked, is_share}
 use Rattle.race_core.proofs.Known.{gather_same, reached_same}
 use Rattle.race_core.proofs.Told.{taker_way}
-use Rattle.race_core.proofs.OwnPasts.{Bare, bare, client_of, mine, own_bar, own_before, own_begun, own_by, own_fold, own_count, own_decided, own_done, own_holds, own_in_drop, own_jobs, own_last, own_made, own_need, own_present, own_said, own_standing, own_taken, stated, when_down}
+use Rattle.race_core.proofs.OwnPasts.{Bare, bare, client_of, first_none, mine, own_bar, own_before, own_begun, own_by, own_fold, own_count, own_decided, own_done, own_holds, own_in_drop, own_jobs, own_last, own_made, own_need, own_present, own_said, own_standing, own_taken, stated, when_down}
 
 -- ---- what a job asks
 
@@ -119,10 +119,6 @@ other_cause r j c e past is = go (c == r)
     go true = rw is refl
     go false = rw is refl
 
-first_none : (o : Option Cause) → first_of o None ≡ o
-first_none None = refl
-first_none (Some x) = refl
-
 other_closed : (r j c : ℕ) (e : Entry) (past : List Entry) (o : Option Cause) → is_of r e ≡ false → or_closed past e c r j o ≡ o
 other_closed r j c e past o is = ap (λ b. first_of o (if b then cause_closed (jobs past r) j c e.kind else None)) is ∙ first_none o
 
@@ -153,7 +149,7 @@ own_waits repos r j c past =
 
 pub own_known : (side : Side) (repos : List RepoView) (r j target : ℕ) (need : Need) (past : List Entry) → known_evidence side repos past r j target need ≡ known_evidence side repos (mine r past) r j target need
 own_known side repos r j target need past =
-    gather_same side need (knows repos past r j) (knows repos (mine r past) r j) (λ c. own_knows repos r j c past) (reached (still_waits repos past r j) (candidates side (length repos) r target)) []
+    gather_same side need (knows repos past r j) (knows repos (mine r past) r j) (λ c. own_knows repos r j c past) (reached_candidates (still_waits repos past r j) (candidates side (length repos) r target)) []
     ∙ ap (λ cs. gather side need (knows repos (mine r past) r j) cs []) (reached_same (still_waits repos past r j) (still_waits repos (mine r past) r j) (λ c. own_waits repos r j c past) (candidates side (length repos) r target))
 
 -- ---- entries that stand
@@ -278,7 +274,7 @@ module _ (repos : List RepoView) (r : ℕ) (e : Entry) (past : List Entry) where
   whole_bar j need key m = record {
     row = whole_free key m.row;
     unheld = whole_unheld_now key m.unheld;
-    first = none_stated (decided past r j) (own_decided r j past ∙ ap stated m.first);
+    first = none_stated (decision past r j) (own_decided r j past ∙ ap stated m.first);
     open' = own_done r j past ∙ m.open';
     nothing_asked = own_asked r j past ∙ m.nothing_asked;
     dropping = own_in_drop r j past ∙ m.dropping;
@@ -286,8 +282,8 @@ module _ (repos : List RepoView) (r : ℕ) (e : Entry) (past : List Entry) where
     need_is = m.need_is ∙ sym (own_need r j past);
   }
 
-  same_needs : (j : ℕ) (d : Decision) → decided past r j ≡ Some d → SameNeed (decided (mine r past) r j) d.need
-  same_needs j d h = same_stated (decided (mine r past) r j) d (sym (own_decided r j past) ∙ ap stated h)
+  same_needs : (j : ℕ) (d : Decision) → decision past r j ≡ Some d → SameNeed (decision (mine r past) r j) d.need
+  same_needs j d h = same_stated (decision (mine r past) r j) d (sym (own_decided r j past) ∙ ap stated h)
 
   known_local : (j : ℕ) (need need' : Need) → need ≡ need' → known_evidence Local repos (mine r past) r j r need ≡ known_evidence Local repos past r j r need'
   known_local j need need' h = ap (λ n. known_evidence Local repos (mine r past) r j r n) h ∙ sym (own_known Local repos r j r need' past)

@@ -19,7 +19,7 @@ use Rattle.p2p_wire.specs.Messages.{message_of}
 use Rattle.node_model.specs.Sessions.{line_in}
 use Rattle.node_model.specs.Ends.{end_after}
 use Rattle.node_model.specs.Jobs
-use Rattle.node_model.specs.Jobs.{AsksTime, Drops, Fresh, Gets, GetsWord, Orders, Part, Phase, Puts, PutsAnswer, PutsOffer, Rows, Work, closed_part, fault_of, fault_phase, first_look, hears_frame, job_end, listens, quiet, says, says_some, sends, side_of, talks, talks_on, target_of, took, took_line, unreleased, word_taken}
+use Rattle.node_model.specs.Jobs.{AsksTime, Drops, Fresh, Gets, GetsWord, Orders, Part, Phase, Puts, PutsAnswer, PutsOffer, Rows, Work, closed_part, fault_of, fault_phase, first_look, hears_frame, job_end, listens, quiet, says, says_some, sends, side_of, talks, talks_on, target_of, took, took_line, after_failed_release, word_taken}
 
 -- the answers by which the peer has the content
 abbrev pub HasIt : Phase → Message → Type 0
@@ -63,7 +63,7 @@ phase_same : (r : ℕ) (w : Work) (part : Part) (side : Side) (phase : Phase) �
 phase_same r w Drops Remote Fresh = refl
 phase_same r w part side phase = refl
 
-unreleased_same : (w : Work) (time : ℕ) (phase : Phase) → Same w (unreleased w time phase)
+unreleased_same : (w : Work) (time : ℕ) (phase : Phase) → Same w (after_failed_release w time phase)
 unreleased_same w time AsksTime = refl
 unreleased_same w time phase = refl
 

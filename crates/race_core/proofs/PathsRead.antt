@@ -25,7 +25,7 @@ use Rattle.node_model.specs.Look.{first_of, Look, first_some, waiting}
 use Rattle.p2p_wire.specs.declared.message.Message.{Message}
 use Rattle.p2p_wire.specs.declared.message.Message.TheVariants.{AlreadyHave, AuthSuccess, CheckPresent, Data, Error, Failure, Get, GetTimestamp, Invalid, LockContent, Put, PutFrom, Remove, RemoveBefore, Success, Timestamp, UnlockContent, Valid, Version}
 use Rattle.p2p_wire.specs.Messages.{message_of}
-use Rattle.node_model.specs.SetUp.{SetUp, others, served, slots}
+use Rattle.node_model.specs.SetUp.{SetUp, others, served_connections, slots}
 use Rattle.node_model.specs.Ends.{EndName, End, end_takes, frames, server_end}
 use Rattle.node_model.specs.Sessions.{Doing, Waits, Guards, Gives, Gave, Wants, Takes, Took, Session}
 use Rattle.node_model.specs.Jobs
@@ -39,7 +39,7 @@ use Rattle.node_model.specs.SessionStep.{is_filled, Here, gives_made, gives_next
 use Rattle.race_core.proofs.Knowing.{knows_enough, next_of}
 use Rattle.node_model.specs.Knows.{standing_of}
 use Rattle.node_model.specs.JobStep.{Turn, attempts, bar_there, by_me, clock_of, key_of, owns_share, quietly, sends_to, wrong, end_needs, end_with, ends, farewell, farewells, is_there, talk, turn_of}
-use Rattle.node_model.specs.DropStep.{asks_copy, asks_lock, asks_target, expired, in_time, lacking, orders, removes, bars, first_drop, first_end, first_remote, held_until, removed, required_there, row_refusal, takes_drop, takes_time, target, times, tries_own}
+use Rattle.node_model.specs.DropStep.{asks_copy, asks_lock, asks_target, expiry, in_time, lacking, orders, removes, bars, first_drop, first_end, first_remote, held_until, removal_outcome, required_there, row_refusal, takes_drop, takes_time, target, times, tries_own}
 use Rattle.node_model.specs.Requests.{asks, goes_to}
 use Rattle.node_model.specs.TransferStep.{gains, first_get, first_put, next_get, next_source, sources, takes_bytes, takes_get, takes_put}
 use Rattle.node_model.specs.Turns.{awaits, by_partner, first_step, goes, goes_on, has_room, is_awaiting, job_step, judge_needs, judges, needs, next_needs, next_step, outcome_of, peer_needs, slot_step, takes, takes_answer, takes_frame, takes_text, target_needs, with_partner}
@@ -123,7 +123,7 @@ module _ (s : SetUp) (st : State) (k : Look) (w : Work) (p : ℕ → List (List 
   remote-same (Some text) = ends_same None (Refused (refusals.Required text))
   remote-same None = own-same (standing_of s st w s.number)
 
-  removed-same : (side : Side) → removed side u ≡ removed side t
+  removed-same : (side : Side) → removal_outcome side u ≡ removal_outcome side t
   unfolding standing_of
   removed-same Local = refl
   removed-same Remote = refl
@@ -138,7 +138,7 @@ module _ (s : SetUp) (st : State) (k : Look) (w : Work) (p : ℕ → List (List 
 
   removes-same : removes u ≡ removes t
   unfolding standing_of
-  removes-same = ap (λ x. if in_time (clock_of t) (first_end t) then attempts t (calls.Remove ∷ []) None (quietly (Gone (by_me t) (key_of t)) None) else x) (ends_same None (expired (clock_of t) (first_end t)))
+  removes-same = ap (λ x. if in_time (clock_of t) (first_end t) then attempts t (calls.Remove ∷ []) None (quietly (Gone (by_me t) (key_of t)) None) else x) (ends_same None (expiry (clock_of t) (first_end t)))
 
   judges-same : (enough : Bool) (next : Option ℕ) (side : Side) → judges u enough next side ≡ judges t enough next side
   unfolding standing_of
@@ -355,7 +355,7 @@ slot-same s st k p same slot (Some w) is = turn-same s st k w p (same w (find_me
 -- a step reads of the paths only those of the running jobs
 pub step_paths : (s : SetUp) (st : State) (k : Look) (p : ℕ → List (List ℕ)) → ((w : Work) → Member w st.works → p w.number ≡ s.paths w.number) → step (with_paths s p) st k ≡ step s st k
 step_paths s st k p same = ap (λ x. first_of x (first_of (session_step (with_paths s p) st k) (job_step (with_paths s p) st k))) (owed-same s st k p st.owed)
-    ∙ ap (λ f. first_of (owed_step s st k) (first_of (first_some f (served s)) (job_step (with_paths s p) st k)))
+    ∙ ap (λ f. first_of (owed_step s st k) (first_of (first_some f (served_connections s)) (job_step (with_paths s p) st k)))
     (funext (λ c. session_at (with_paths s p) st k (server_end c.0 c.1)) (λ c. session_at s st k (server_end c.0 c.1)) (λ c. session-same s st k p (server_end c.0 c.1)))
     ∙ ap (λ f. first_of (owed_step s st k) (first_of (session_step s st k) (first_some f slots)))
     (funext (λ slot. slot_step (with_paths s p) st k (find (λ w. w.slot == slot) st.works)) (λ slot. slot_step s st k (find (λ w. w.slot == slot) st.works)) (λ slot. slot-same s st k p same slot (find (λ w. w.slot == slot) st.works) refl))

@@ -25,7 +25,7 @@ use Rattle.p2p_wire.specs.Messages.{message_of}
 use Rattle.node_model.specs.Sessions.{line_in}
 use Rattle.node_model.specs.Ends.{end_after}
 use Rattle.node_model.specs.Jobs
-use Rattle.node_model.specs.Jobs.{AsksLock, AsksLook, AsksTime, Denied, Drops, Ends, Fresh, GetsBytes, GetsData, GetsWord, Gets, Greets, Late, Next, Opens, Orders, Part, Phase, Puts, PutsAnswer, PutsBytes, PutsOffer, PutsWord, Removed, Rows, Work, claims, closed_part, fault_of, fault_phase, first_look, gained, hears_frame, job_end, learns, listens, quiet, says, says_some, sends, talks, talks_on, to_phase, took, took_line, transferred, unreleased, word_taken, work_kind}
+use Rattle.node_model.specs.Jobs.{AsksLock, AsksLook, AsksTime, Denied, Drops, Ends, Fresh, GetsBytes, GetsData, GetsWord, Gets, Greets, Late, Next, Opens, Orders, Part, Phase, Puts, PutsAnswer, PutsBytes, PutsOffer, PutsWord, Removed, Rows, Work, claims, closed_part, fault_of, fault_phase, first_look, after_gain, hears_frame, job_end, learns, listens, quiet, says, says_some, sends, talks, talks_on, to_phase, took, took_line, after_transfer, after_failed_release, word_taken, work_kind}
 use Rattle.race_core.proofs.TalkFacts.{Fits}
 
 abbrev pub is_fresh : Phase → Bool
@@ -103,7 +103,7 @@ only_orders Gets f = absurd f
 only_orders Puts f = absurd f
 only_orders Drops f = refl
 
-transferred_good : (w : Work) (o : Outcome) → w.part ≢ Drops → Good w (transferred w o)
+transferred_good : (w : Work) (o : Outcome) → w.part ≢ Drops → Good w (after_transfer w o)
 transferred_good w o apart =
     if_either (Good w) (Jobs.is_move w.what.kind) (record w { part = Drops; phase = Fresh; fills = false }) (record w { phase = Ends o; fills = false })
     (λ e. drops w.part apart) (λ e. ends w.part)
@@ -302,7 +302,7 @@ fault_good : (r : ℕ) (w : Work) (part : Part) (side : Side) (phase : Phase) �
 fault_good r w Drops Remote Fresh = at_good w.part w.phase Next tt refl
 fault_good r w part side phase = at_good w.part w.phase (Ends (Jobs.stores_fault w.part)) tt refl
 
-unreleased_good : (w : Work) (time : ℕ) (phase : Phase) → w.phase ≡ phase → Fits w.part w.phase → Good w (unreleased w time phase)
+unreleased_good : (w : Work) (time : ℕ) (phase : Phase) → w.phase ≡ phase → Fits w.part w.phase → Good w (after_failed_release w time phase)
 unreleased_good w time AsksTime is fits = to_part w Drops (Late time) (only_time w.part (subst (Fits w.part) is fits)) tt refl
 unreleased_good w time phase is fits = stay_good w fits
 
@@ -311,7 +311,7 @@ call_good r w time PutFile fits = stay_good w fits
 call_good r w time Unhold fits = unreleased_good w time w.phase refl fits
 call_good r w time call fits = fault_good r w w.part (Jobs.side_of w) w.phase
 
-gained_good : (w : Work) (phase : Phase) → w.phase ≡ phase → Fits w.part w.phase → Good w (gained w phase)
+gained_good : (w : Work) (phase : Phase) → w.phase ≡ phase → Fits w.part w.phase → Good w (after_gain w phase)
 gained_good w (GetsWord peer start size) is fits =
     transferred_good w (outcomes.Got (Some peer) (Some start)) (no_drop w.part Gets (only_word w.part peer start size (subst (Fits w.part) is fits)) gets_apart)
 gained_good w phase is fits = stay_good w fits

@@ -16,6 +16,7 @@ use Rattle.node_model.specs.SetUp.{SetUp}
 use Rattle.race_core.proofs.BySteps.{ByStep}
 use Rattle.run_model.specs.Run.{IsStep, OwnPart}
 use Rattle.annex_base.specs.declared.kinds.Word.{Word}
+use Rattle.race_core.proofs.Below.{SentAreRead}
 use Rattle.run_data.specs.declared.entry.Entry.{Entry}
 use Rattle.node_model.specs.AnyTime.{MayCome}
 use Rattle.race_core.proofs.ServerAnswers
@@ -34,8 +35,8 @@ way_up : (r : ℕ) (g : FrameView) → g.up ≡ true → way_from r g ≡ up_way
 way_up r g up i = record { client = if up i then r else g.peer; server = if up i then g.peer else r; slot = g.slot; up = up i; epoch = g.epoch }
 
 -- the field `awaits`
-pub awaits_step : ByStep (λ s past e. (f : FrameView) → e.taken ≡ Some f → f.up ≡ false → is_answer (message_in f.body) ≡ true → Awaits s.number past f)
-awaits_step s past words e h b is part f took down answer = own_awaits s past h words e part f took down answer
+pub awaits_step : SentAreRead → ByStep (λ s past e. (f : FrameView) → e.taken ≡ Some f → f.up ≡ false → is_answer (message_in f.body) ≡ true → Awaits s.number past f)
+awaits_step reads_back s past words e h b is part f took down answer = own_awaits reads_back s past h words e part f took down answer
 
 -- the row of a bar, as the step found it
 row_found : (s : SetUp) (past : List Entry) (words : ℕ → Option Word) (e : Entry) → OwnPart s past words e → (j : ℕ) (need : Need) (key : List ℕ) → e.kind ≡ Bar j need key
@@ -49,10 +50,10 @@ row_found s past words e own j need key is = elim (own.does) [
     step x = subst (λ (y : Entry). ServerAnswers.MayBar s past y j need key) (sym x.is) (may_bar s past x.look x.made x.makes j need key (sym (ap (λ (y : Entry). y.kind) x.is) ∙ is))
 
 -- the field `bar_put`
-pub bar_put_step : ByStep (λ s past e. (j : ℕ) (need : Need) (key : List ℕ) → e.kind ≡ Bar j need key → MayBar s.repos s.number past e j need key)
-bar_put_step s past words e h b is part j need key kind =
+pub bar_put_step : SentAreRead → ByStep (λ s past e. (j : ℕ) (need : Need) (key : List ℕ) → e.kind ≡ Bar j need key → MayBar s.repos s.number past e j need key)
+bar_put_step reads_back s past words e h b is part j need key kind =
     let row = row_found s past words e part j need key kind in
-    let stands = bar_stands s past words e h part j need key kind in
+    let stands = bar_stands reads_back s past words e h part j need key kind in
     record {
       row = record { there = row.row.there; free = row.row.free };
       unheld = row.unheld;
@@ -65,7 +66,7 @@ bar_put_step s past words e h b is part j need key kind =
     }
 
 -- the field `ends`
-pub ends_step : ByStep (λ s past e. (j : ℕ) (outcome : Outcome) → e.kind ≡ End j outcome → is_lost_ordered outcome ≡ false → MayEnd s.number past j)
-ends_step s past words e h b is part j outcome kind found x before g deadline key stands mine sent up order =
+pub ends_step : SentAreRead → ByStep (λ s past e. (j : ℕ) (outcome : Outcome) → e.kind ≡ End j outcome → is_lost_ordered outcome ≡ false → MayEnd s.number past j)
+ends_step reads_back s past words e h b is part j outcome kind found x before g deadline key stands mine sent up order =
     let o : SentOrder past s.number j g = record { x = x; before = before; stands = stands; mine = mine; sent = sent; up = up; deadline = deadline; key = key; line = is_said g.body (order_of deadline key) order } in
-    subst (λ (w : Way). length (requests past w) ≤ taken_if is_answer past (down_of w)) (sym (way_up s.number g up)) (ends_answered s past words e h part j outcome kind found g o)
+    subst (λ (w : Way). length (requests past w) ≤ taken_if is_answer past (down_of w)) (sym (way_up s.number g up)) (ends_answered reads_back s past words e h part j outcome kind found g o)

@@ -4,12 +4,12 @@ use Rattle.std.proofs.Common.{◌≡◌, ℕ, ◌<◌, ◌^◌, true, List, [], 
 use Rattle.std.proofs.lemmas.Bool.{ltb-true}
 use Rattle.annex_base.specs.Lists.{Member}
 use Rattle.annex_base.specs.declared.kinds.Word.{Word}
+use Rattle.race_core.proofs.Below.{SentAreRead}
 use Rattle.drop_proof.specs.declared.rule.Side.TheVariants.{Local, Remote}
 use Rattle.run_data.specs.declared.entry.Entry.{Entry}
 use Rattle.run_data.specs.declared.job.JobKind.{JobKind}
 use Rattle.run_data.specs.declared.job.JobKind.TheVariants as kinds
 use Rattle.p2p_wire.specs.declared.message.Message.TheVariants.{Version}
-use Rattle.p2p_wire.proofs.MessageFacts.{sent_back}
 use Rattle.node_model.specs.SetUp.{SetUp}
 use Rattle.node_model.specs.AnyTime.{IsPeer}
 use Rattle.node_model.specs.Jobs
@@ -40,38 +40,38 @@ target_peer s w a part side = go w.what.kind w.what.peer a.0 (a.1 part) side
     go kinds.MoveFrom None is drops side = absurd (cc)
 
 -- each line that a running job may say is read as it was said
-pub works_speak : (s : SetUp) (past : List Entry) (look : Look) → OwnPast s past → look.part < 2 ^ 62 → (w : Work) → Member w (works past s.number) → Speaks (turn_of s (state_of s past) look w)
-works_speak s past look h small w runs = record {
-  version = sent_back (Version 3) (omega arith) tt;
-  lock = lock_read s past h.run w runs;
-  look = look_read s past h.run w runs;
-  remove = remove_read s past h.run w runs;
-  before = λ n end early first soon. deadline_read s past w n end (turn_clock) h runs (ltb-true n (2 ^ 61) early) first;
-  get = get_read s past h.run w runs look.part small;
-  put = put_read s past h.run w runs;
-  data' = λ n. data_read s past w.what.key n h;
+pub works_speak : SentAreRead → (s : SetUp) (past : List Entry) (look : Look) → OwnPast s past → look.part < 2 ^ 62 → (w : Work) → Member w (works past s.number) → Speaks (turn_of s (state_of s past) look w)
+works_speak reads_back s past look h small w runs = record {
+  version = reads_back (Version 3) (omega arith) tt;
+  lock = lock_read reads_back s past h.run w runs;
+  look = look_read reads_back s past h.run w runs;
+  remove = remove_read reads_back s past h.run w runs;
+  before = λ n end early first soon. deadline_read reads_back s past w n end (turn_clock) h runs (ltb-true n (2 ^ 61) early) first;
+  get = get_read reads_back s past h.run w runs look.part small;
+  put = put_read reads_back s past h.run w runs;
+  data' = λ n. data_read reads_back s past w.what.key n h;
   to_target = λ part side. target_peer s w (aims s past h.run w runs) part side;
 }
   where
     turn_clock : ℕ
     turn_clock = (state_of s past).clock look.time
 
-slots_of : (s : SetUp) (past : List Entry) → OwnRun s past → Slots s past
-slots_of s past run = record {
+slots_of : SentAreRead → (s : SetUp) (past : List Entry) → OwnRun s past → Slots s past
+slots_of reads_back s past run = record {
   one = λ w x m n same. ap (λ (y : Work). y.number) (same_slot_same_work s past run w x m n same);
-  shut = λ job what peer few. shut s past run job what peer few;
+  shut = λ job what peer few. shut reads_back s past run job what peer few;
 }
 
-all_given : (s : SetUp) (past : List Entry) (h : OwnPast s past) → Given s past h.run
-all_given s [] h = tt
-all_given s (e ∷ past) h =
+all_given : SentAreRead → (s : SetUp) (past : List Entry) (h : OwnPast s past) → Given s past h.run
+all_given reads_back s [] h = tt
+all_given reads_back s (e ∷ past) h =
     let before = earlier s past e h in
-    (slots_of s past before.run, λ is. fluent (h.run.0 is).0 (h.run.0 is).1.does before, all_given s past before)
+    (slots_of reads_back s past before.run, λ is. fluent (h.run.0 is).0 (h.run.0 is).1.does before, all_given reads_back s past before)
   where
     fluent : (words : ℕ → Option Word) (d : IsStep s past words e ⊎ ComesAnyTime s past e) → OwnPast s past → Fluent_does s past words e d
-    fluent words (inl x) before = λ w m. works_speak s past x.look before x.part_small w m
+    fluent words (inl x) before = λ w m. works_speak reads_back s past x.look before x.part_small w m
     fluent words (inr y) before = tt
 
 -- **J4**
-pub phases_fit : (s : SetUp) (past : List Entry) → OwnPast s past → AllFit s past
-phases_fit s past h = all_fit s past h.run (all_given s past h)
+pub phases_fit : SentAreRead → (s : SetUp) (past : List Entry) → OwnPast s past → AllFit s past
+phases_fit reads_back s past h = all_fit s past h.run (all_given reads_back s past h)

@@ -6,6 +6,7 @@ use Rattle.std.proofs.lemmas.Bool.Decides.{nat_tests}
 use Rattle.annex_base.specs.Lists.{Each, Member}
 use Rattle.annex_base.proofs.Conditions.{if_either}
 use Rattle.annex_base.specs.declared.kinds.Call.TheVariants as calls
+use Rattle.race_core.proofs.Below.{SentAreRead}
 use Rattle.run_data.specs.declared.entry.Entry.{Entry}
 use Rattle.run_data.specs.declared.entry.EntryKind.TheVariants.{Fault}
 use Rattle.run_data.specs.declared.entry.FrameView.{FrameView}
@@ -142,7 +143,7 @@ offer_takes t f p q n is part (Bytes k) told = absurd (cc)
 abbrev AllSized : List Entry → ℕ → Type 0
 AllSized past r = (w : Work) → Member w (works past r) → Sized past r w
 
-module _ (run : Run) (repos : Each IsSetUp run.repos) (past : List Entry) (e : Entry) (h : RunPast (set_up run) past) (step : RunStep (set_up run) past e) (r : ℕ) (own : is_of r e ≡ true) (was : AllSized past r) where
+module _ (reads_back : SentAreRead) (run : Run) (repos : Each IsSetUp run.repos) (past : List Entry) (e : Entry) (h : RunPast (set_up run) past) (step : RunStep (set_up run) past e) (r : ℕ) (own : is_of r e ≡ true) (was : AllSized past r) where
   abbrev s : SetUp
   s = set_up run r
 
@@ -150,7 +151,7 @@ module _ (run : Run) (repos : Each IsSetUp run.repos) (past : List Entry) (e : E
   own_p = own_past run repos r past h
 
   talking : Conversing past r
-  talking = conversing run repos past h r
+  talking = conversing reads_back run repos past h r
 
   grows : (j : ℕ) (key : List ℕ) (size : ℕ) → WasSize past r j key size → WasSize (e ∷ past) r j key size
   grows j key size x = record { entry = x.entry; before = x.before; occurs = inr x.occurs; own = x.own; size_is = x.size_is }
@@ -189,7 +190,7 @@ module _ (run : Run) (repos : Each IsSetUp run.repos) (past : List Entry) (e : E
             let took_it = partner_takes t b.by.made p on k.0.awaits k.0.opened b.by.does in
             let both : Some took_it.f ≡ Some f = sym took_it.taken_is ∙ (sym (ap (λ (z : Entry). z.taken) b.by.is) ∙ took) in
             let same : took_it.f ≡ f = cc in
-            let suits = ConversationClient.suits run repos past e h step r own talking b.by p took_it.f took_it.of_end took_it.may k.0.opened took_it.taken_is on (talking v runs p (live_on v.what.peer v.phase p on) k.0.opened) in
+            let suits = ConversationClient.suits reads_back run repos past e h step r own talking b.by p took_it.f took_it.of_end took_it.may k.0.opened took_it.taken_is on (talking v runs p (live_on v.what.peer v.phase p on) k.0.opened) in
             let line : line_in took_it.f.body ≡ Some (PutFrom at) = ap (λ (g : FrameView). line_in g.body) same ∙ is in
             let offer = offer_only v.phase at (line_suits v.phase took_it.f.body (PutFrom at) line suits) in
             let puts : v.part ≡ Puts = offer_puts v.part offer.0 (subst (Fits v.part) offer.1 (works_fit s past own_p.run v runs)) in
@@ -200,7 +201,7 @@ module _ (run : Run) (repos : Each IsSetUp run.repos) (past : List Entry) (e : E
               before = past;
               occurs = inl (refl, refl);
               own = stepped_own s past e b.by own;
-              size_is = data_first t took_it.f p at left ((works_speak s past b.by.look own_p b.by.small v runs).data' at) z.0.f.body first z.0.told;
+              size_is = data_first t took_it.f p at left ((works_speak reads_back s past b.by.look own_p b.by.small v runs).data' at) z.0.f.body first z.0.told;
             }
 
     steps_sized : Sized (e ∷ past) r x
@@ -219,11 +220,11 @@ module _ (run : Run) (repos : Each IsSetUp run.repos) (past : List Entry) (e : E
       by (inr (inl b)) = λ peer start at left is. grows x.number x.what.key (at + left) (was x b.ran peer start at left is)
       by (inr (inr b)) = steps_sized x b
 
-module _ (run : Run) (repos : Each IsSetUp run.repos) where
+module _ (reads_back : SentAreRead) (run : Run) (repos : Each IsSetUp run.repos) where
   pub sized : (past : List Entry) → RunPast (set_up run) past → (r : ℕ) (w : Work) → Member w (works past r) → Sized past r w
   sized [] h r = λ w m. absurd m
   sized (e ∷ past) h r = go (sized past h.1 r) (is_of r e) refl
     where
       go : ((w : Work) → Member w (works past r) → Sized past r w) → (b : Bool) → is_of r e ≡ b → (w : Work) → Member w (works (e ∷ past) r) → Sized (e ∷ past) r w
-      go was true own = own_sized run repos past e h.1 h.0 r own was
+      go was true own = own_sized reads_back run repos past e h.1 h.0 r own was
       go was false other = λ w m peer start at left is. let x = was w (rw other at m) peer start at left is in record { entry = x.entry; before = x.before; occurs = inr x.occurs; own = x.own; size_is = x.size_is }

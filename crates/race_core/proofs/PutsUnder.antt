@@ -6,6 +6,7 @@ use Rattle.annex_base.specs.Lists.{Member}
 use Rattle.annex_base.specs.declared.kinds.Call.{Call}
 use Rattle.annex_base.proofs.Conditions.{if_either}
 use Rattle.annex_base.specs.declared.kinds.Call.TheVariants as calls
+use Rattle.race_core.proofs.Below.{SentAreRead}
 use Rattle.run_data.specs.declared.entry.Entry.{Entry}
 use Rattle.run_data.specs.declared.entry.EntryKind.{EntryKind}
 use Rattle.run_data.specs.declared.entry.EntryKind.TheVariants.{Bar, Fault, Share, End as ends_job}
@@ -103,8 +104,8 @@ off_is t m (ends_job j outcome) goes_on off = absurd (goes_on j outcome refl)
 off_is t m kind goes_on off = off
 
 -- a step of a copy that is to begin
-pub first_step_off : (s : SetUp) (past : List Entry) (e : Entry) (x : Work) (b : Steps s past e x) → OwnPast s past → b.by.w.part ≡ Puts → b.by.w.phase ≡ Fresh → (is_idle x.phase ≡ false) × (e.sent ≡ [] → is_live x.phase ≡ false)
-first_step_off s past e x b h is fresh =
+pub first_step_off : SentAreRead → (s : SetUp) (past : List Entry) (e : Entry) (x : Work) (b : Steps s past e x) → OwnPast s past → b.by.w.part ≡ Puts → b.by.w.phase ≡ Fresh → (is_idle x.phase ≡ false) × (e.sent ≡ [] → is_live x.phase ≡ false)
+first_step_off reads_back s past e x b h is fresh =
     let turn = turn_at s past e b.by in
     let t = at_start Puts turn in
     let m = b.by.made in
@@ -115,7 +116,7 @@ first_step_off s past e x b h is fresh =
     let does : by_partner t None ≡ Some m = subst (λ (y : Turn). by_partner y (partner y.w.what.peer y.w.phase) ≡ Some m) same b.by.does in
     let after : x ≡ moved t m m.kind = b.work_is ∙ (λ i. work_kind (rows_at past s.number) s.number (w_is i) (entry i) (entry i).kind) in
     let not_end : (j : ℕ) (outcome : Outcome) → m.kind ≢ ends_job j outcome = (λ j outcome k. b.goes_on j outcome (ap (λ (y : Entry). y.kind) entry ∙ k)) in
-    let off = off_is t m m.kind not_end (put_off turn none (put_read s past h.run b.by.w (step_runs s past e x b)) m does) in
+    let off = off_is t m m.kind not_end (put_off turn none (put_read reads_back s past h.run b.by.w (step_runs s past e x b)) m does) in
     (ap (λ (y : Work). is_idle y.phase) after ∙ off.0, λ silent. ap (λ (y : Work). is_live y.phase) after ∙ off.1 (sym (ap (λ (y : Entry). y.sent) entry) ∙ silent))
 
 -- ---- a copy never goes on to a next peer
@@ -125,8 +126,8 @@ sets_drop t m (Bar j need key) k z = k.part_is
 sets_drop t m (Share hold end by key) k z = k.part_is
 sets_drop t m kind k z = absurd z
 
-pub puts_go_on : (s : SetUp) (past : List Entry) → OwnPast s past → (w : Work) → Member w (works past s.number) → w.part ≡ Puts → w.phase ≢ Next
-puts_go_on s past h w m part = invariant s (λ p x. OwnPast s p → x.part ≡ Puts → x.phase ≢ Next) (λ p e is x n was h. was (earlier s p e h)) own past h.run w m h part
+pub puts_go_on : SentAreRead → (s : SetUp) (past : List Entry) → OwnPast s past → (w : Work) → Member w (works past s.number) → w.part ≡ Puts → w.phase ≢ Next
+puts_go_on reads_back s past h w m part = invariant s (λ p x. OwnPast s p → x.part ≡ Puts → x.phase ≢ Next) (λ p e is x n was h. was (earlier s p e h)) own past h.run w m h part
   where
     own : (p : List Entry) (e : Entry) → OwnRun s (e ∷ p) → is_of s.number e ≡ true → ((x : Work) → Member x (works p s.number) → OwnPast s p → x.part ≡ Puts → x.phase ≢ Next)
         → (x : Work) → Origin s p e x → OwnPast s (e ∷ p) → x.part ≡ Puts → x.phase ≢ Next
@@ -150,7 +151,7 @@ puts_go_on s past h w m part = invariant s (λ p x. OwnPast s p → x.part ≡ P
           | inr y ↦ elim (y) [
             | inl unfit ↦ unfit (subst (λ q. Fits q b.by.w.phase) (puts_now b) (works_fit s p r.1 b.by.w (step_runs s p e x b)))
             | inr u ↦ elim (u) [
-              | inl fresh ↦ (let off = (first_step_off s p e x b (earlier s p e h) (puts_now b) fresh).0 in let both : true ≡ false = sym (ap is_idle next) ∙ off in cc)
+              | inl fresh ↦ (let off = (first_step_off reads_back s p e x b (earlier s p e h) (puts_now b) fresh).0 in let both : true ≡ false = sym (ap is_idle next) ∙ off in cc)
               | inr sets ↦ (let drops = sets_drop (turn_at s p e b.by) b.by.made e.kind (step_kind s p e x b) sets in let both : Puts ≡ Drops = sym (puts_now b) ∙ drops in cc)
             ]
           ]

@@ -8,7 +8,7 @@ use Rattle.run_data.specs.declared.entry.Entry.{Entry}
 use Rattle.run_data.specs.declared.entry.FrameView.{FrameView}
 use Rattle.run_data.specs.declared.entry.FrameText.{FrameText}
 use Rattle.run_model.specs.Past.{is_of}
-use Rattle.run_model.specs.Frames.{Flying, MayTake, Way, flying, is_on, on_way, sender_of, sent, taken, taker_of, takes}
+use Rattle.run_model.specs.Frames.{Flying, MayTake, Way, flying, is_on, on_way, sender_of, frames_sent, taken_count, taker_of, takes}
 use Rattle.node_model.specs.Ends.{same_bool, EndName, sent_at, taken_at, takes_at}
 use Rattle.race_core.proofs.DialogueTurns.{bodies}
 use Rattle.race_core.proofs.WayCounts.{in_sender-is, in_taker-is, on_out, out_sender-is, way_in, way_out, out_taker-is}
@@ -21,8 +21,8 @@ flying_bodies (x ∷ xs) = x.frame.body ∷ flying_bodies xs
 pub record Queue (past : List Entry) (w : Way) (bs : List FrameText) : Type 0 where
   pub gone : List Flying
   pub rest : List Flying
-  pub sent_is : sent past w ≡ gone ++ rest
-  pub taken_is : taken past w ≡ length gone
+  pub sent_is : frames_sent past w ≡ gone ++ rest
+  pub taken_is : taken_count past w ≡ length gone
   pub bodies_are : flying_bodies rest ≡ bs
 
 bodies_append : (xs ys : List Flying) → flying_bodies (xs ++ ys) ≡ flying_bodies xs ++ flying_bodies ys
@@ -61,13 +61,13 @@ module _ (past : List Entry) (e : Entry) (w : Way) where
     pub left : List FrameText
     pub bodies_is : bs ≡ f.body ∷ left
     pub gone : List Flying
-    pub sent_is : sent past w ≡ gone ++ it ∷ more
-    pub taken_is : taken past w ≡ length gone
+    pub sent_is : frames_sent past w ≡ gone ++ it ∷ more
+    pub taken_is : taken_count past w ≡ length gone
     pub left_is : flying_bodies more ≡ left
 
   pub first_of : (f : FrameView) (bs : List FrameText) → MayTake past w f → Queue past w bs → First f bs
   first_of f bs t q =
-      let g = get_rest q.gone q.rest t.it (subst (λ (xs : List Flying). slice_get xs (length q.gone) ≡ Some t.it) q.sent_is (subst (λ n. slice_get (sent past w) n ≡ Some t.it) q.taken_is t.next)) in
+      let g = get_rest q.gone q.rest t.it (subst (λ (xs : List Flying). slice_get xs (length q.gone) ≡ Some t.it) q.sent_is (subst (λ n. slice_get (frames_sent past w) n ≡ Some t.it) q.taken_is t.next)) in
       record {
         it = t.it;
         more = g.0;
@@ -168,11 +168,11 @@ pub others_queue : (past : List Entry) (e : Entry) (w : Way) (bs : List FrameTex
 others_queue past e w bs none still q = queue_same past e w bs none (ap (λ b. b && takes w e.taken) still) q
 
 -- a way on which nothing was sent
-pub empty_queue : (past : List Entry) (w : Way) → sent past w ≡ [] → taken past w ≤ length (sent past w) → Queue past w []
+pub empty_queue : (past : List Entry) (w : Way) → frames_sent past w ≡ [] → taken_count past w ≤ length (frames_sent past w) → Queue past w []
 empty_queue past w none within = record {
   gone = [];
   rest = [];
   sent_is = none;
-  taken_is = (let low : taken past w ≤ 0 = subst (λ (xs : List Flying). taken past w ≤ length xs) none within in omega (arith, low));
+  taken_is = (let low : taken_count past w ≤ 0 = subst (λ (xs : List Flying). taken_count past w ≤ length xs) none within in omega (arith, low));
   bodies_are = refl;
 }

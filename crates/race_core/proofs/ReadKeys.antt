@@ -6,11 +6,12 @@ use Rattle.std.proofs.lemmas.Option.{same_Some}
 use Rattle.annex_base.specs.Lists.{Member}
 use Rattle.annex_base.specs.Settings.{Settings}
 use Rattle.annex_base.proofs.Conditions.{eqb_refl}
+use Rattle.race_core.proofs.Below.{SentAreRead}
 use Rattle.drop_proof.specs.declared.rule.Need.{Need}
 use Rattle.run_data.specs.declared.entry.Entry.{Entry}
 use Rattle.run_data.specs.declared.entry.EntryKind.{EntryKind}
 use Rattle.run_data.specs.declared.entry.EntryKind.TheVariants.{Bar}
-use Rattle.run_model.specs.Past.{Decision, begun, begun_job, decided, decided_after, is_of}
+use Rattle.run_model.specs.Past.{Decision, begun, begun_job, decision, decided_after, is_of}
 use Rattle.node_model.specs.Slots.{Running}
 use Rattle.run_model.specs.Logs.{before_step, in_drop, is_step, need_read, read_at, settings_of}
 use Rattle.run_model.specs.Drops.{key_in}
@@ -89,12 +90,12 @@ key_read s past run w m = ap key_in (go (before_step past s.number w.number) ref
 
 -- the decision's need is what was read, once and for all
 abbrev Decides : ℕ → List Entry → ℕ → Type 0
-Decides r past j = (d : Decision) → decided past r j ≡ Some d → ((b : List Entry) × (before_step past r j ≡ Some b)) × (d.need ≡ need_read past r j)
+Decides r past j = (d : Decision) → decision past r j ≡ Some d → ((b : List Entry) × (before_step past r j ≡ Some b)) × (d.need ≡ need_read past r j)
 
 need_stays : (past : List Entry) (e : Entry) (r j : ℕ) → (b : List Entry) × (before_step past r j ≡ Some b) → need_read (e ∷ past) r j ≡ need_read past r j
 need_stays past e r j x = ap (λ (z : Settings). let need : Need = record { n = z.numcopies; m = z.mincopies } in need) (stays_read past e r j x)
 
-decides_kept : (past : List Entry) (e : Entry) (r j : ℕ) → decided (e ∷ past) r j ≡ decided past r j → Decides r past j → Decides r (e ∷ past) j
+decides_kept : (past : List Entry) (e : Entry) (r j : ℕ) → decision (e ∷ past) r j ≡ decision past r j → Decides r past j → Decides r (e ∷ past) j
 decides_kept past e r j same was d h = let x = was d (sym same ∙ h) in (read_kept past e r j x.0, x.1 ∙ sym (need_stays past e r j x.0))
 
 still_bar : (place j : ℕ) (was : Option Decision) (kind : EntryKind) → is_step j kind ≡ false → decided_after place j was kind ≡ was
@@ -105,23 +106,23 @@ bar_or : (kind : EntryKind) → ((job : ℕ) × (need : Need) × (key : List ℕ
 bar_or (Bar job need key) = inl (job, need, key, refl)
 bar_or kind = inr (λ place j was. refl)
 
-own_decided : (past : List Entry) (e : Entry) (r j : ℕ) → is_of r e ≡ true → ((place : ℕ) (was : Option Decision) → decided_after place j was e.kind ≡ was) → decided (e ∷ past) r j ≡ decided past r j
-own_decided past e r j is same = rw is (same (length past) (decided past r j))
+own_decided : (past : List Entry) (e : Entry) (r j : ℕ) → is_of r e ≡ true → ((place : ℕ) (was : Option Decision) → decided_after place j was e.kind ≡ was) → decision (e ∷ past) r j ≡ decision past r j
+own_decided past e r j is same = rw is (same (length past) (decision past r j))
 
 -- **a running job's decision states the need that it read**
-pub decided_read : (s : SetUp) (past : List Entry) → OwnPast s past → (w : Work) → Member w (works past s.number) → (d : Decision) → decided past s.number w.number ≡ Some d
+pub decided_read : SentAreRead → (s : SetUp) (past : List Entry) → OwnPast s past → (w : Work) → Member w (works past s.number) → (d : Decision) → decision past s.number w.number ≡ Some d
     → d.need ≡ need_of (state_of s past) w
-decided_read s past h w m d k = let x = all d k in x.1
+decided_read reads_back s past h w m d k = let x = all d k in x.1
   where
     -- a bar is put by the first step of the drop, and states what is read then
     bars : (p : List Entry) (e : Entry) → OwnPast s p → is_of s.number e ≡ true → (x : Work) (b : Steps s p e x) → (job : ℕ) (need : Need) (key : List ℕ) → e.kind ≡ Bar job need key → Decides s.number (e ∷ p) b.by.w.number
     bars p e h is x b job need key kind c k =
         let v = b.by.w in
         let f = subst (JobKind (turn_at s p e b.by) b.by.made) kind (step_kind s p e x b) in
-        let read = step_read p e s.number v.number is b.step ((at_targets s p h v (step_runs s p e x b)).0 f.part_is) in
+        let read = step_read p e s.number v.number is b.step ((at_targets reads_back s p h v (step_runs s p e x b)).0 f.part_is) in
         let made : Decision = record { place = length p; key = key; need = need } in
-        let puts : decided (e ∷ p) s.number v.number ≡ Some made = rw is (ap (decided_after (length p) v.number (decided p s.number v.number)) kind
-        ∙ subst (λ n. decided_after (length p) v.number (decided p s.number v.number) (Bar n need key) ≡ Some made) (sym f.number_is) (rw (eqb_refl v.number) refl)) in
+        let puts : decision (e ∷ p) s.number v.number ≡ Some made = rw is (ap (decided_after (length p) v.number (decision p s.number v.number)) kind
+        ∙ subst (λ n. decided_after (length p) v.number (decision p s.number v.number) (Bar n need key) ≡ Some made) (sym f.number_is) (rw (eqb_refl v.number) refl)) in
         let same : c ≡ made = same_Some c made (sym k ∙ puts) in
         (read.0, ap (λ (z : Decision). z.need) same ∙ (f.need_is ∙ ap (λ q. let z : Settings = settings_of q s.number in let n : Need = record { n = z.numcopies; m = z.mincopies } in n) (sym read.1)))
 

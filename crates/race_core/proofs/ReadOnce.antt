@@ -6,7 +6,7 @@ use Rattle.annex_base.proofs.Conditions.{eqb_refl}
 use Rattle.run_data.specs.declared.entry.Entry.{Entry}
 use Rattle.run_data.specs.declared.run.RepoView.{RepoView}
 use Rattle.run_data.specs.Repos.{id_of}
-use Rattle.run_model.specs.Past.{Decision, begun_job, decided, is_of}
+use Rattle.run_model.specs.Past.{Decision, begun_job, decision, is_of}
 use Rattle.run_model.specs.Logs.{before_step, in_drop, is_step, need_read, read_at, settings_of}
 use Rattle.node_model.specs.Look.{first_of}
 use Rattle.run_model.specs.Drops.{key_in, standing}
@@ -30,11 +30,11 @@ bar_step : (e : Entry) (past : List Entry) (a j : ℕ) (d : Decision) → Decide
 bar_step e past a j d t = rw t.kind_is (eqb_refl j)
 
 -- a job whose bar was put has made a step
-pub step_made : (repos : List RepoView) (past : List Entry) (a j : ℕ) (d : Decision) → MessagePast repos past → decided past a j ≡ Some d → (before : List Entry) × (before_step past a j ≡ Some before)
+pub step_made : (repos : List RepoView) (past : List Entry) (a j : ℕ) (d : Decision) → MessagePast repos past → decision past a j ≡ Some d → (before : List Entry) × (before_step past a j ≡ Some before)
 step_made repos [] a j d run h = absurd (cc)
 step_made repos (e ∷ past) a j d run h = go (λ k. step_made repos past a j d run.1 k) (decided_was e past a j d h)
   where
-    go : (decided past a j ≡ Some d → (before : List Entry) × (before_step past a j ≡ Some before)) → (decided past a j ≡ Some d) ⊎ Decides e past a j d → (before : List Entry) × (before_step (e ∷ past) a j ≡ Some before)
+    go : (decision past a j ≡ Some d → (before : List Entry) × (before_step past a j ≡ Some before)) → (decision past a j ≡ Some d) ⊎ Decides e past a j d → (before : List Entry) × (before_step (e ∷ past) a j ≡ Some before)
     go ih (inl k) = let w = ih k in first_of-some (before_step past a j) (if is_of a e && (is_step j e.kind && in_drop past a j) then Some past else None) w.0 w.1
     go ih (inr t) = first_of-other (before_step past a j) (if is_of a e && (is_step j e.kind && in_drop past a j) then Some past else None) past
         (step_here e past a j t.repo_is (bar_step e past a j d t) ((run.0.own a t.repo_is).bar_put j d.need d.key t.kind_is).dropping)
@@ -48,11 +48,11 @@ pub read_at-step : (e : Entry) (past : List Entry) (a j : ℕ) → is_of a e ≡
 read_at-step e past a j is step dropping = ap (λ o. unwrap_or (first_of (before_step past a j) o) (e ∷ past)) (step_here e past a j is step dropping) ∙ unwrap-first (before_step past a j) past (e ∷ past)
 
 -- after the bar, what is read stays
-pub read_at-kept : (repos : List RepoView) (e : Entry) (past : List Entry) (a j : ℕ) (d : Decision) → MessagePast repos past → decided past a j ≡ Some d → read_at (e ∷ past) a j ≡ read_at past a j
+pub read_at-kept : (repos : List RepoView) (e : Entry) (past : List Entry) (a j : ℕ) (d : Decision) → MessagePast repos past → decision past a j ≡ Some d → read_at (e ∷ past) a j ≡ read_at past a j
 read_at-kept repos e past a j d run h = let w = step_made repos past a j d run h in rw w.1 refl
 
 -- A job whose bar was put has read the logs: no later entry changes what it read of a repository.
-pub standing-kept : (repos : List RepoView) (e : Entry) (past : List Entry) (a j r : ℕ) (d : Decision) → MessagePast repos past → decided past a j ≡ Some d → standing repos (e ∷ past) a j r ≡ standing repos past a j r
+pub standing-kept : (repos : List RepoView) (e : Entry) (past : List Entry) (a j r : ℕ) (d : Decision) → MessagePast repos past → decision past a j ≡ Some d → standing repos (e ∷ past) a j r ≡ standing repos past a j r
 unfolding standing
 standing-kept repos e past a j r d run h = ap (λ read. standing_by (settings_of read a) (key_in (begun_job read a j)) (id_of repos r)) (read_at-kept repos e past a j d run h)
 
@@ -60,11 +60,11 @@ same_need : (past more : List Entry) (a j : ℕ) → read_at more a j ≡ read_a
 same_need past more a j h = ap (λ read. let s = settings_of read a in record { n = s.numcopies; m = s.mincopies }) h
 
 -- a bar, and so the removal that it decides, has the need that its drop read, whenever one reads it again
-pub need_is_read : (repos : List RepoView) (past : List Entry) (a j : ℕ) (d : Decision) → MessagePast repos past → decided past a j ≡ Some d → d.need ≡ need_read past a j
+pub need_is_read : (repos : List RepoView) (past : List Entry) (a j : ℕ) (d : Decision) → MessagePast repos past → decision past a j ≡ Some d → d.need ≡ need_read past a j
 need_is_read repos [] a j d run h = absurd (cc)
 need_is_read repos (e ∷ past) a j d run h = go (λ k. need_is_read repos past a j d run.1 k) (decided_was e past a j d h)
   where
-    go : (decided past a j ≡ Some d → d.need ≡ need_read past a j) → (decided past a j ≡ Some d) ⊎ Decides e past a j d → d.need ≡ need_read (e ∷ past) a j
+    go : (decision past a j ≡ Some d → d.need ≡ need_read past a j) → (decision past a j ≡ Some d) ⊎ Decides e past a j d → d.need ≡ need_read (e ∷ past) a j
     go ih (inl k) = ih k ∙ sym (same_need past (e ∷ past) a j (read_at-kept repos e past a j d run.1 k))
     go ih (inr t) = let b = (run.0.own a t.repo_is).bar_put j d.need d.key t.kind_is in
         b.need_is ∙ sym (same_need past (e ∷ past) a j (read_at-step e past a j t.repo_is (bar_step e past a j d t) b.dropping))

@@ -10,18 +10,18 @@ use Rattle.run_data.specs.declared.run.RepoView.{RepoView}
 use Rattle.run_data.specs.Repos.{id_of}
 use Rattle.run_model.specs.Past.{begun_job}
 use Rattle.run_model.specs.Logs.{read_at, settings_of}
-use Rattle.node_model.specs.Evidence.{Claimed, Ignored, seen}
+use Rattle.node_model.specs.Evidence.{Claimed, Ignored, standing_seen}
 use Rattle.run_model.specs.Drops.{key_in, standing}
 
 -- ---- what the reading says of a repository
 
-seen-untrusted : (level : Level) (claimed : Bool) → level ≡ levels.Untrusted → seen level claimed ≡ Ignored cause_untrusted
+seen-untrusted : (level : Level) (claimed : Bool) → level ≡ levels.Untrusted → standing_seen level claimed ≡ Ignored cause_untrusted
 seen-untrusted level claimed h = rw h refl
 
-seen-dead : (level : Level) (claimed : Bool) → level ≡ levels.Dead → seen level claimed ≡ Ignored cause_dead
+seen-dead : (level : Level) (claimed : Bool) → level ≡ levels.Dead → standing_seen level claimed ≡ Ignored cause_dead
 seen-dead level claimed h = rw h refl
 
-seen-claimed : (level : Level) (claimed : Bool) → seen level claimed ≡ Claimed → (level ≡ levels.Trusted) × (claimed ≡ true)
+seen-claimed : (level : Level) (claimed : Bool) → standing_seen level claimed ≡ Claimed → (level ≡ levels.Trusted) × (claimed ≡ true)
 seen-claimed levels.Trusted true h = (refl, refl)
 seen-claimed levels.Trusted false h = cc
 seen-claimed levels.Semitrusted claimed h = cc

@@ -4,6 +4,7 @@ use Rattle.std.specs.Prelude.{◌==◌, filter, find}
 use Rattle.annex_base.specs.Lists.{Member}
 use Rattle.annex_base.specs.declared.kinds.Word.{Word}
 use Rattle.annex_base.proofs.Conditions.{eqb_refl}
+use Rattle.race_core.proofs.Below.{SentAreRead}
 use Rattle.drop_proof.specs.declared.rule.Side.{Side}
 use Rattle.drop_proof.specs.declared.rule.Side.TheVariants.{Local, Remote}
 use Rattle.run_data.specs.declared.entry.Entry.{Entry}
@@ -31,10 +32,10 @@ use Rattle.run_model.specs.States.{state_of, works}
 use Rattle.node_model.specs.AnyTime.{IsPeer}
 use Rattle.node_model.specs.Jobs.{Denied, Drops, Ends, Fresh, Late, Phase, Removed, Work, running, side_of}
 use Rattle.node_model.specs.Look.{Look}
-use Rattle.node_model.specs.Knows.{obeyed, proof_by}
+use Rattle.node_model.specs.Knows.{obeyed_outcome, proof_by}
 use Rattle.node_model.specs.JobStep.{Turn}
 use Rattle.node_model.specs.DropStep
-use Rattle.node_model.specs.DropStep.{removed, target, until}
+use Rattle.node_model.specs.DropStep.{removal_outcome, target, until}
 use Rattle.node_model.specs.Found.{Judged, Settled}
 use Rattle.node_model.specs.Turns.{job_step, outcome_of, slot_step}
 use Rattle.node_model.specs.OwedStep.{owed_step}
@@ -118,16 +119,16 @@ DropSettled t past refusal =
     ((t.w.phase ≡ Ends (Refused refusal)) × DropStands t.read.repo past (running t.w) refusal)
     ⊎ (((t.w.phase ≡ Denied) × (Refused refusal ≡ DropStep.denied t)) ⊎ ((time : ℕ) × (t.w.phase ≡ Late time) × (Refused refusal ≡ DropStep.expired (t.clock time) (DropStep.first_end t))))
 
-obeyed_apart : (word : Option Word) (t : Turn) (refusal : DropRefusal) → Refused refusal ≡ obeyed word (proof_by t.read t.w) → ⊥
+obeyed_apart : (word : Option Word) (t : Turn) (refusal : DropRefusal) → Refused refusal ≡ obeyed_outcome word (proof_by t.read t.w) → ⊥
 obeyed_apart (Some Word.Absent) t refusal e = absurd (cc)
 obeyed_apart None t refusal e = absurd (cc)
 obeyed_apart (Some word) t refusal e = other word e
   where
-    other : (word : Word) → Refused refusal ≡ obeyed (Some word) (proof_by t.read t.w) → ⊥
+    other : (word : Word) → Refused refusal ≡ obeyed_outcome (Some word) (proof_by t.read t.w) → ⊥
     other Word.Absent e = absurd (cc)
     other w e = absurd (cc)
 
-removed_apart : (side : Side) (t : Turn) (refusal : DropRefusal) → Refused refusal ≡ removed side t → ⊥
+removed_apart : (side : Side) (t : Turn) (refusal : DropRefusal) → Refused refusal ≡ removal_outcome side t → ⊥
 removed_apart Local t refusal e = obeyed_apart None t refusal e
 removed_apart Remote t refusal e = obeyed_apart (t.look.words (target t)) t refusal e
 
@@ -146,16 +147,16 @@ pub transfer_settled : (t : Turn) (past : List Entry) (refusal : TransferRefusal
     → TransferStands t.read.repo past (running t.w) refusal ⊎ (refusal ≡ failures.Closed)
 transfer_settled t past refusal taken standing z = go t.w.phase standing z.outcome_is
   where
-    by_side : (side : Side) → TransferRefused refusal ≡ removed side t → ⊥
+    by_side : (side : Side) → TransferRefused refusal ≡ removal_outcome side t → ⊥
     by_side Local e = by_word None e
       where
-        by_word : (word : Option Word) → TransferRefused refusal ≡ obeyed word (proof_by t.read t.w) → ⊥
+        by_word : (word : Option Word) → TransferRefused refusal ≡ obeyed_outcome word (proof_by t.read t.w) → ⊥
         by_word None e = absurd (cc)
         by_word (Some Word.Absent) e = absurd (cc)
         by_word (Some w) e = absurd (cc)
     by_side Remote e = by_word (t.look.words (target t)) e
       where
-        by_word : (word : Option Word) → TransferRefused refusal ≡ obeyed word (proof_by t.read t.w) → ⊥
+        by_word : (word : Option Word) → TransferRefused refusal ≡ obeyed_outcome word (proof_by t.read t.w) → ⊥
         by_word None e = absurd (cc)
         by_word (Some Word.Absent) e = absurd (cc)
         by_word (Some w) e = absurd (cc)
@@ -174,7 +175,7 @@ transfer_settled t past refusal taken standing z = go t.w.phase standing z.outco
 
 -- ---- by the row
 
-module _ (s : SetUp) (past : List Entry) (words : ℕ → Option Word) (e : Entry) (h : OwnPast s past) (own : OwnPart s past words e) (j : ℕ) where
+module _ (reads_back : SentAreRead) (s : SetUp) (past : List Entry) (words : ℕ → Option Word) (e : Entry) (h : OwnPast s past) (own : OwnPart s past words e) (j : ℕ) where
   abbrev r : ℕ
   r = s.number
 
@@ -182,7 +183,7 @@ module _ (s : SetUp) (past : List Entry) (words : ℕ → Option Word) (e : Entr
   judged : (refusal : DropRefusal) (x : Ending s past e j (Refused refusal)) → (DropSettled (turn_at s past e x.by) past refusal → ⊥) → Judged (turn_at s past e x.by) x.by.made.taken (Refused refusal)
   judged refusal x apart = elim (x.why) [
     | inl y ↦ y
-    | inr y ↦ absurd (apart (drop_settled (turn_at s past e x.by) past refusal x.by.made.taken (stands s past h x.by.w x.runs) y))
+    | inr y ↦ absurd (apart (drop_settled (turn_at s past e x.by) past refusal x.by.made.taken (stands reads_back s past h x.by.w x.runs) y))
   ]
 
   -- no refusal of the row stands so
@@ -201,7 +202,7 @@ module _ (s : SetUp) (past : List Entry) (words : ℕ → Option Word) (e : Entr
 
   at_first : MovesLate s → (w : Work) (m : Member w (works past r)) → w.part ≡ Drops → w.phase ≡ Fresh → side_of w ≡ Local → AtFirst past r w.number (job_of s past h w m)
   at_first late w m part fresh side = record {
-    dropping = (at_targets s past h w m).0 part;
+    dropping = (at_targets reads_back s past h w m).0 part;
     first = drop_unread s late past h w m part fresh side;
     local = side_is w ∙ side;
   }
@@ -248,7 +249,7 @@ module _ (s : SetUp) (past : List Entry) (words : ℕ → Option Word) (e : Entr
       let w = x.by.w in
       subst (HadFault past r) (sym x.number_is) (elim (x.why) [
         | inl y ↦ absurd y
-        | inr y ↦ settled x (drop_settled (turn_at s past e x.by) past refusals.StoreFault x.by.made.taken (stands s past h w x.runs) y)
+        | inr y ↦ settled x (drop_settled (turn_at s past e x.by) past refusals.StoreFault x.by.made.taken (stands reads_back s past h w x.runs) y)
       ])
     where
       settled : (x : Ending s past e j (Refused refusals.StoreFault)) → DropSettled (turn_at s past e x.by) past refusals.StoreFault → HadFault past r x.by.w.number
@@ -267,7 +268,7 @@ module _ (s : SetUp) (past : List Entry) (words : ℕ → Option Word) (e : Entr
       let x = ending s past words e own j (TransferRefused failures.StoreFault) is in
       subst (FailedCall past r) (sym x.number_is) (elim (x.why) [
         | inl y ↦ absurd y
-        | inr y ↦ elim (transfer_settled (turn_at s past e x.by) past failures.StoreFault x.by.made.taken (stands s past h x.by.w x.runs) y) [ inl z ↦ z | inr z ↦ absurd (cc) ]
+        | inr y ↦ elim (transfer_settled (turn_at s past e x.by) past failures.StoreFault x.by.made.taken (stands reads_back s past h x.by.w x.runs) y) [ inl z ↦ z | inr z ↦ absurd (cc) ]
       ])
 
   no_peer : (kind : KindOfJob) (peer : Option ℕ) → IsPeer s kind peer → puts kind ≡ true → peer ≡ None → ⊥
@@ -287,8 +288,8 @@ module _ (s : SetUp) (past : List Entry) (words : ℕ → Option Word) (e : Entr
         | inl y ↦ (let kind = (of_kind s past h.run w x.runs).1 y.0 in record {
           d = job_of s past h w x.runs;
           kind_is = kind;
-          first = puts_unstepped s past h w x.runs y.0 y.1;
+          first = puts_unstepped reads_back s past h w x.runs y.0 y.1;
           absent = elim (y.2) [ inl gone ↦ gone | inr none ↦ absurd (no_peer w.what.kind w.what.peer (aims s past h.run w x.runs).0 kind none) ];
         })
-        | inr y ↦ elim (transfer_settled (turn_at s past e x.by) past failures.NotHere x.by.made.taken (stands s past h w x.runs) y) [ inl z ↦ absurd z | inr z ↦ absurd (cc) ]
+        | inr y ↦ elim (transfer_settled (turn_at s past e x.by) past failures.NotHere x.by.made.taken (stands reads_back s past h w x.runs) y) [ inl z ↦ absurd z | inr z ↦ absurd (cc) ]
       ])

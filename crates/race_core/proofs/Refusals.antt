@@ -4,6 +4,7 @@ use Rattle.std.proofs.lemmas.Bool.Decides.{nat_tests}
 use Rattle.std.specs.Prelude.{◌==◌, ◌&&◌, nat_lt, option_map, codes}
 use Rattle.std.proofs.lemmas.Bool.{eqb-true}
 use Rattle.annex_base.specs.declared.kinds.Call.TheVariants.{Unhold}
+use Rattle.race_core.proofs.Below.{SentAreRead}
 use Rattle.drop_proof.specs.declared.rule.Side.{Side}
 use Rattle.drop_proof.specs.declared.rule.Side.TheVariants.{Local, Remote}
 use Rattle.run_data.specs.declared.entry.By.TheVariants.{Job as by_job}
@@ -84,7 +85,7 @@ stepped_own s past e x is = rw (is, stepped_job s past e x) (same_self x.w.numbe
     same_self : (n : ℕ) → (n == n) ≡ true
     same_self n = grind (arith, nat_tests)
 
-module _ (s : SetUp) (past : List Entry) (e : Entry) (x : Stepped s past e) (is : is_of s.number e ≡ true) where
+module _ (reads_back : SentAreRead) (s : SetUp) (past : List Entry) (e : Entry) (x : Stepped s past e) (is : is_of s.number e ≡ true) where
   -- the peer of the frame that it takes
   pub took_peer : (f : FrameView) → e.taken ≡ Some f → (peer : ℕ) → partner x.w.what.peer x.w.phase ≡ Some peer → f.peer ≡ peer
   took_peer f took peer on =
@@ -117,7 +118,7 @@ module _ (s : SetUp) (past : List Entry) (e : Entry) (x : Stepped s past e) (is 
       let all = option_map asked_by (last_request past (up_of (way_of s.number f))) in
       let down : f.up ≡ false = (hears s past e x f took).1 in
       let now : LastIs t.w.what.key t.w.what.peer t.w.phase t.peer all =
-      taken_last s past h e f down (ap is_answer (said_is f.body m told) ∙ answer) t all refl in
+      taken_last reads_back s past h e f down (ap is_answer (said_is f.body m told) ∙ answer) t all refl in
       let mine : LastIs x.w.what.key x.w.what.peer x.w.phase peer all =
       subst (λ n. LastIs t.w.what.key t.w.what.peer t.w.phase n all) (sym at) now in
       let was = last all mine in

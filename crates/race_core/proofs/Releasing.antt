@@ -13,7 +13,7 @@ use Rattle.run_data.specs.declared.entry.FrameView.{FrameView}
 use Rattle.run_data.specs.declared.run.RepoView.{RepoView}
 use Rattle.run_model.specs.Past.{Occurs, is_of}
 use Rattle.node_model.specs.Rows.{option_is}
-use Rattle.run_model.specs.Frames.{Way, on_way, sender_of, taken, way_of}
+use Rattle.run_model.specs.Frames.{Way, on_way, sender_of, taken_count, way_of}
 use Rattle.node_model.specs.Slots.{job_of}
 use Rattle.run_model.specs.Drops.{Lock, done, vouch, vouches}
 use Rattle.race_core.proofs.Own.{MayRelease, Meets, MessagePast, uses}
@@ -65,7 +65,7 @@ released repos past e r hold key run m is rel a j since owner k member = finish 
             by_unlock : is_of a t.it.entry ≡ true → job_of t.it.entry.kind ≡ Some j → Occurs past t.it.entry t.it.before → w.client ≡ a → rel.f.peer ≡ a → uses w t.it.entry ≡ true → done past a j ≡ true
             by_unlock is_a job earlier client a_is uses_first =
                 let u = m.frames r rel.f is rel.takes_it in
-                let s = sending past w (taken past w) u.it u.next in
+                let s = sending past w (taken_count past w) u.it u.next in
                 let is_u : is_of a u.it.entry ≡ true = subst (λ q. is_of q u.it.entry ≡ true) (sender_way r rel.f ∙ a_is) s.repo_is in
                 let own = own_at repos past u.it.entry u.it.before a run s.occurs is_u in
                 let end = (own.sends u.it.frame (sends_member w u.it.entry u.it.frame s.sends)).unlock key (message_at u.it.frame.body rel.f.body _ u.body_is rel.asked_is) in

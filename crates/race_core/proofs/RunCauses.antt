@@ -7,6 +7,7 @@ use Rattle.std.proofs.lemmas.Bool.Decides.{nat_tests}
 use Rattle.annex_base.specs.Lists.{Each, Member}
 use Rattle.annex_base.proofs.Lists.{list_any_member, Each-member}
 use Rattle.annex_base.proofs.Conditions.{eqb_refl}
+use Rattle.race_core.proofs.Below.{SentAreRead}
 use Rattle.run_data.specs.declared.entry.Entry.{Entry}
 use Rattle.run_data.specs.declared.entry.FrameView.{FrameView}
 use Rattle.run_data.specs.declared.run.Run.{Run}
@@ -39,7 +40,7 @@ use Rattle.race_core.proofs.Caused.{run_causes}
 
 -- ---- a step that finds its connection closed
 
-module _ (run : Run) (repos : Each IsSetUp run.repos) (past : List Entry) (e : Entry) (h : RunPast (set_up run) past) (step : RunStep (set_up run) past e) (r : ℕ) where
+module _ (reads_back : SentAreRead) (run : Run) (repos : Each IsSetUp run.repos) (past : List Entry) (e : Entry) (h : RunPast (set_up run) past) (step : RunStep (set_up run) past e) (r : ℕ) where
   abbrev s : SetUp
   s = set_up run r
 
@@ -51,7 +52,7 @@ module _ (run : Run) (repos : Each IsSetUp run.repos) (past : List Entry) (e : E
     v = b.by.w
 
     closing : ClosesFor (turn_at s past e b.by) b.by.made
-    closing = (ConversationClient.keeps run repos past e h step r own (conversing run repos past h r) b.by (moved_on s past e w b)).1
+    closing = (ConversationClient.keeps reads_back run repos past e h step r own (conversing reads_back run repos past h r) b.by (moved_on s past e w b)).1
 
     fell : (p : ℕ) → SentClose (job_end v p) e → FallsShort (turn_at s past e b.by) b.by.made → FellShort (e ∷ past) r v.number p v.what.key
     fell p t short = go short.why
@@ -85,7 +86,7 @@ module _ (run : Run) (repos : Each IsSetUp run.repos) (past : List Entry) (e : E
           why' = inl (x.0, ap (λ (y : Entry). y.taken) b.by.is ∙ x.1, said_is x.0.body (PutFrom short.place) x.2);
         }
         go (inr x) =
-            let old = sized run repos past h r b.by.w (stepped_runs s past e b.by) x.0 x.1 x.2 x.3 x.5 in
+            let old = sized reads_back run repos past h r b.by.w (stepped_runs s past e b.by) x.0 x.1 x.2 x.3 x.5 in
             record {
               entry = e;
               before = past;
@@ -107,7 +108,7 @@ module _ (run : Run) (repos : Each IsSetUp run.repos) (past : List Entry) (e : E
         sent t (inr short) = inr (short.puts, fell z.peer t short)
 
         go : (c : Bool) → (end_at past r (job_end v z.peer)).opened ≡ c → ClosedWith (e ∷ past) r v.number z.peer ⊎ ((v.part ≡ Puts) × FellShort (e ∷ past) r v.number z.peer v.what.key)
-        go false o = inl (closed_grows r e past (running v) z.peer (closed_told run repos past h r v (stepped_runs s past e b.by) z.peer z.on o))
+        go false o = inl (closed_grows r e past (running v) z.peer (closed_told reads_back run repos past h r v (stepped_runs s past e b.by) z.peer z.on o))
         go true o = elim (shut_by (job_end v z.peer) (end_at past r (job_end v z.peer)) e o z.closed) [
           | inl t ↦ inl (took_closes past e r v.number z.peer v.slot (stepped_own s past e b.by own) t)
           | inr t ↦ sent t closing
@@ -116,11 +117,11 @@ module _ (run : Run) (repos : Each IsSetUp run.repos) (past : List Entry) (e : E
   pub shut_told : ShutTold (set_up run r) past e
   shut_told w b z = told w b z
 
-module _ (run : Run) (repos : Each IsSetUp run.repos) where
+module _ (reads_back : SentAreRead) (run : Run) (repos : Each IsSetUp run.repos) where
   pub shuts_told : (past : List Entry) → RunPast (set_up run) past → (r : ℕ) → ShutsTold (set_up run r) past
   shuts_told [] h r = tt
-  shuts_told (e ∷ past) h r = (shut_told run repos past e h.1 h.0 r, shuts_told past h.1 r)
+  shuts_told (e ∷ past) h r = (shut_told reads_back run repos past e h.1 h.0 r, shuts_told past h.1 r)
 
 -- **each refused job of a run has its cause**
-pub refusals_caused : (run : Run) → IsRun run → HasCauses run
-refusals_caused run h = run_causes run h (λ r past k. record { shut' = shuts_told run h.repos past k r })
+pub refusals_caused : SentAreRead → (run : Run) → IsRun run → HasCauses run
+refusals_caused reads_back run h = run_causes reads_back run h (λ r past k. record { shut' = shuts_told reads_back run h.repos past k r })

@@ -14,7 +14,7 @@ use Rattle.run_data.specs.declared.entry.FrameView.{FrameView}
 use Rattle.run_data.specs.declared.run.Run.{Run}
 use Rattle.run_data.specs.declared.run.TreeMark.{TreeMark}
 use Rattle.run_model.specs.Past.{Always, begun, is_of}
-use Rattle.run_model.specs.Frames.{MayTake, Way, flying, on_way, sender_of, sent, taken, way_of}
+use Rattle.run_model.specs.Frames.{MayTake, Way, flying, on_way, sender_of, frames_sent, taken_count, way_of}
 use Rattle.race_core.proofs.OwnPasts.{mine, map_append}
 use Rattle.run_model.specs.Run.{FramesPart, IsRun, OnlyWaits, MayBe, Ordered, OwnPart, RunPast, RunStep, paths_at, paths_begun, set_up, tree_at}
 use Rattle.race_core.specs.Merged.{Came, Kept, KeptStep, Letter, MayMerge, TakesNext, history, letter_of, letters}
@@ -141,8 +141,8 @@ map_get f (y ∷ xs) (suc k) x h = map_get f xs k x h
 pub letters_more : (e : Entry) (past : List Entry) (w : Way) → letters (e ∷ past) w ≡ letters past w ++ (if is_of (sender_of w) e then map letter_of (map (flying e past) (on_way w e)) else [])
 letters_more e past w = go (is_of (sender_of w) e)
   where
-    go : (b : Bool) → map letter_of (if b then sent past w ++ map (flying e past) (on_way w e) else sent past w) ≡ letters past w ++ (if b then map letter_of (map (flying e past) (on_way w e)) else [])
-    go true = map_append letter_of (sent past w) (map (flying e past) (on_way w e))
+    go : (b : Bool) → map letter_of (if b then frames_sent past w ++ map (flying e past) (on_way w e) else frames_sent past w) ≡ letters past w ++ (if b then map letter_of (map (flying e past) (on_way w e)) else [])
+    go true = map_append letter_of (frames_sent past w) (map (flying e past) (on_way w e))
     go false = sym (append-nil (letters past w))
 
 -- of what came on a way: its sender sends more, and its taker gets the next
@@ -179,8 +179,8 @@ module _ (run : Run) (r : ℕ) (got : Way → List Letter) where
         it = t.it;
         letter = letter_of t.it;
         next = t.next;
-        from = rw (← (take_own r (way_of r f) (taker_way r f) past)) (subst (λ xs. slice_get xs (taken past (way_of r f)) ≡ Some (letter_of t.it)) (sym (from (way_of r f)).1)
-            (slice_get-left (letters past (way_of r f)) (from (way_of r f)).0 (taken past (way_of r f)) (letter_of t.it) (map_get letter_of (sent past (way_of r f)) (taken past (way_of r f)) t.it t.next)));
+        from = rw (← (take_own r (way_of r f) (taker_way r f) past)) (subst (λ xs. slice_get xs (taken_count past (way_of r f)) ≡ Some (letter_of t.it)) (sym (from (way_of r f)).1)
+            (slice_get-left (letters past (way_of r f)) (from (way_of r f)).0 (taken_count past (way_of r f)) (letter_of t.it) (map_get letter_of (frames_sent past (way_of r f)) (taken_count past (way_of r f)) t.it t.next)));
         same = refl;
       }
 
@@ -197,7 +197,7 @@ module _ (run : Run) (r : ℕ) (got : Way → List Letter) where
       let w : Way = way_of r f in
       let t : MayTake past w f = (may_is past e h.0 is).2.takes f took in
       let x : Reads got past r f = reads past e from h.0 is f took in
-      let s : Sending past w t.it = sending past w (taken past w) t.it t.next in
+      let s : Sending past w t.it = sending past w (taken_count past w) t.it t.next in
       let count = take_own r w (taker_way r f) past in
       record {
         letter = letter_of t.it;

@@ -9,7 +9,7 @@ use Rattle.annex_base.proofs.Lists.{Member-flat_map, Member-map, Member-append_r
 use Rattle.run_data.specs.declared.entry.Entry.{Entry}
 use Rattle.run_data.specs.declared.entry.FrameView.{FrameView}
 use Rattle.run_model.specs.Past.{Occurs, clock_set, is_of}
-use Rattle.node_model.specs.SetUp.{SetUp, others, served, slots}
+use Rattle.node_model.specs.SetUp.{SetUp, others, served_connections, slots}
 use Rattle.node_model.specs.Ends.{End, EndName, end_takes, is_opening, may_take, sent_at, server_end}
 use Rattle.run_model.specs.States.{end_at}
 use Rattle.node_model.specs.AnyTime.{all_ends, ends_with}
@@ -37,7 +37,7 @@ in_served (n ∷ ns) ss p q m = elim (Member-append_cases (slots_of ss n) (flat_
   | inr k ↦ (let t = in_served ns ss p q k in (inr t.0, t.1))
 ]
 
-served_end : (s : SetUp) (p q : ℕ) → Member (p, q) (served s) → Member (server_end p q) (all_ends s)
+served_end : (s : SetUp) (p q : ℕ) → Member (p, q) (served_connections s) → Member (server_end p q) (all_ends s)
 served_end s p q m =
     let t = in_served (others s) slots p q m in
     Member-flat_map (λ n. ends_with n true ++ ends_with n false) (others s) p (server_end p q) t.0

@@ -16,7 +16,7 @@ use Rattle.node_model.specs.Knows.{standing_of}
 use Rattle.node_model.specs.OwedStep.{owed_step}
 use Rattle.node_model.specs.SessionStep.{session_step}
 use Rattle.node_model.specs.JobStep.{Turn, turn_of, end_needs, end_with, ends}
-use Rattle.node_model.specs.DropStep.{removed}
+use Rattle.node_model.specs.DropStep.{removal_outcome}
 use Rattle.node_model.specs.Step.{step}
 use Rattle.race_core.proofs.TalkFacts.{Fits}
 use Rattle.node_model.specs.Turns.{goes, goes_on, has_room, is_awaiting, needs, job_step, slot_step, with_partner, awaits, by_partner}
@@ -41,12 +41,12 @@ module _ (s : SetUp) (st : State) (k : Look) (w : Work) where
   abbrev u : Turn
   u = turn_of s (reading st (st.read w.number)) k w
 
-  removed_is : (side : Side) → ends t None (removed side t) ≡ ends u None (removed side u)
+  removed_is : (side : Side) → ends t None (removal_outcome side t) ≡ ends u None (removal_outcome side u)
   unfolding standing_of
   removed_is Local = refl
   removed_is Remote = refl
 
-  needs_removed : (side : Side) → end_needs t (removed side t) ≡ end_needs u (removed side u)
+  needs_removed : (side : Side) → end_needs t (removal_outcome side t) ≡ end_needs u (removal_outcome side u)
   unfolding standing_of
   needs_removed Local = refl
   needs_removed Remote = refl

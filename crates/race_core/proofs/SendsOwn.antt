@@ -4,6 +4,7 @@ use Rattle.std.specs.Prelude.{if◌then◌else◌, filter}
 use Rattle.annex_base.specs.Lists.{Each, Member}
 use Rattle.annex_base.specs.declared.kinds.Word.{Word}
 use Rattle.annex_base.proofs.Lists.{Each-filter, Each-member, filter_none}
+use Rattle.race_core.proofs.Below.{SentAreRead}
 use Rattle.drop_proof.specs.declared.rule.Need.{Need}
 use Rattle.run_data.specs.declared.entry.Entry.{Entry}
 use Rattle.run_data.specs.declared.entry.EntryKind.TheVariants.{Order}
@@ -124,10 +125,10 @@ module _ (s : SetUp) (past : List Entry) (e : Entry) (h : OwnPast s past) (x : S
     unlock = λ key y. unlocks_end (turn_at s past e x) e.kind g key said y;
   }
 
-pub sends_step : ByStep (λ s past e. (g : FrameView) → Member g e.sent → MaySend s.repos s.number past e g)
-sends_step s past words e h b is part g m = go (speaker s past words e part)
+pub sends_step : SentAreRead → ByStep (λ s past e. (g : FrameView) → Member g e.sent → MaySend s.repos s.number past e g)
+sends_step reads_back s past words e h b is part g m = go (speaker s past words e part)
   where
     go : Speaker s past e → MaySend s.repos s.number past e g
     go (inl x) = close_sends s.repos s.number past e g (Each-member (λ (f : FrameView). f.body ≡ Closing) e.sent g x m)
-    go (inr (inl x)) = session_sends_step s past words e h b is part x g m
+    go (inr (inl x)) = session_sends_step reads_back s past words e h b is part x g m
     go (inr (inr x)) = job_sends_so s past e h x g m

@@ -3,7 +3,7 @@ use Rattle.std.specs.Prelude.{◌≡◌, ℕ, ◌*◌, ◌+◌, ◌<◌, true, f
 use Rattle.run_data.specs.declared.entry.Entry.{Entry}
 use Rattle.run_data.specs.declared.entry.FrameView.{FrameView}
 use Rattle.run_data.specs.declared.run.RepoView.{RepoView}
-use Rattle.run_model.specs.Past.{bar, clock, holds, made, present}
+use Rattle.run_model.specs.Past.{bar, clock, holds, entry_count, present}
 use Rattle.node_model.specs.Rows.{is_blocked}
 use Rattle.p2p_wire.specs.declared.message.Message.{Message}
 use Rattle.p2p_wire.specs.declared.message.Message.TheVariants.{Success}
@@ -48,7 +48,7 @@ pub record SaysYes (r : ℕ) (e : Entry) (peer slot : ℕ) (asked : Message) : T
 pub record MayShare (repos : List RepoView) (r : ℕ) (past : List Entry) (e : Entry) (hold end : ℕ) (key : List ℕ) : Type 0 where
   pub row : OwnFree past r key
   pub end_is : end ≡ clock repos past r e.time + hold_time
-  pub number_is : hold ≡ made past r + 1
+  pub number_is : hold ≡ entry_count past r + 1
 
 -- an order is obeyed where no bar and no hold is in the way, and before its deadline
 pub record MayObey (repos : List RepoView) (r : ℕ) (past : List Entry) (e : Entry) (peer slot : ℕ) (key : List ℕ) : Type 0 where

@@ -19,7 +19,7 @@ use Rattle.run_data.specs.declared.entry.FrameText.{FrameText}
 use Rattle.run_data.specs.declared.entry.FrameText.TheVariants.{Closing, Line}
 use Rattle.node_model.specs.Ends.{same_bool, End, EndName, end_sends, end_takes, frames, may_take, sends_at, sent_at, server_end, taken_at, takes_at}
 use Rattle.node_model.specs.Rows.{is_lost_ordered}
-use Rattle.node_model.specs.SetUp.{SetUp, served}
+use Rattle.node_model.specs.SetUp.{SetUp, served_connections}
 use Rattle.run_model.specs.States.{end_at, session, state_of}
 use Rattle.node_model.specs.Jobs.{Work, job_end}
 use Rattle.run_data.specs.declared.entry.LogFile.TheVariants.{Location}
@@ -243,7 +243,7 @@ owed_shuts s past k m a (o ∷ os) e =
 
 -- a session's entry, or one that at most closes each server's end
 abbrev pub BySessionAt : SetUp → List Entry → Entry → Type 0
-BySessionAt s past e = (p q : ℕ) × Member (p, q) (served s) × (TakesHere s past (server_end p q) e ⊎ GivesHere s past (server_end p q) e)
+BySessionAt s past e = (p q : ℕ) × Member (p, q) (served_connections s) × (TakesHere s past (server_end p q) e ⊎ GivesHere s past (server_end p q) e)
 
 abbrev pub ServerDoes : SetUp → List Entry → Entry → Type 0
 ServerDoes s past e = BySessionAt s past e ⊎ ((p q : ℕ) → Shuts (server_end p q) e)
@@ -256,7 +256,7 @@ step_does s past k m small e = elim (first_was (owed_step s (state_of s past) k)
   where
     rest : (session_step s (state_of s past) k ≡ Some m) ⊎ (job_step s (state_of s past) k ≡ Some m) → ServerDoes s past (entry_of s.number k m)
     rest (inl x) =
-        let w = some_was (λ (c : ℕ × ℕ). session_at s (state_of s past) k (server_end c.0 c.1)) (served s) m x in
+        let w = some_was (λ (c : ℕ × ℕ). session_at s (state_of s past) k (server_end c.0 c.1)) (served_connections s) m x in
         inl (w.0.0, w.0.1, w.1, session_here s past k small (server_end w.0.0 w.0.1) m w.2)
     rest (inr x) = inr (λ p q. by_job_shuts s past k m p q (job_found s (state_of s past) k m x))
 

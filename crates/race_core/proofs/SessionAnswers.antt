@@ -25,7 +25,7 @@ use Rattle.race_core.proofs.Ways.{completes, is_answer}
 use Rattle.node_model.specs.Sessions.{Doing, Waits, Guards, Gave, Wants, Took, Session}
 use Rattle.node_model.specs.Calls.{to_commit, to_lock, to_offer, to_remove}
 use Rattle.node_model.specs.Look.{failing}
-use Rattle.node_model.specs.SessionStep.{Here, Reply, bar_on, by_of, bytes_left, check_answer, content_of, is_held, is_here, lock_answer, now_of, on_frame, on_message, on_put, on_remove, on_remove_before, on_request, on_text, put_answer, refuses, remove_answer, reply, silent, tries, unexpected, valid_answer}
+use Rattle.node_model.specs.SessionStep.{Here, Reply, bar_on, by_of, bytes_left, check_answer, content_of, is_held, is_here, lock_answer, now_of, on_frame, on_message, on_put, on_remove, on_remove_before, on_request, on_text, put_answer, refuses, remove_answer, reply, silent_reply, tries, unexpected_reply, valid_answer}
 use Rattle.race_core.proofs.Cases.{unless_found}
 use Rattle.race_core.proofs.Counting.{Closes, Counts, GetCounts, calm, get_counts, message_counts}
 use Rattle.race_core.proofs.SaidDown.{Alike, alike, alike_completes, odd_answer, said_closing, said_line-is, tells}
@@ -66,7 +66,7 @@ AnswerFits asked kind m = ⊥
 abbrev pub Replied : Message → Reply → Type 0
 Replied asked x = Closes x.says ⊎ ((x.says ≡ []) ⊎ ((m : Message) × (x.says ≡ Line (text_of m) ∷ []) × (tells m ≡ true) × AnswerFits asked x.kind m))
 
-odd : (h : Here) (asked : Message) → Replied asked (unexpected h)
+odd : (h : Here) (asked : Message) → Replied asked (unexpected_reply h)
 odd h asked = inl (inr refl)
 
 fits : (asked : Message) (kind : EntryKind) (m : Message) → tells m ≡ true → AnswerFits asked kind m → Replied asked (reply kind m)
@@ -118,8 +118,8 @@ put_replied file key part true filled = fits (Put file key) (Talk None) AlreadyH
 put_replied file key part false true = fits (Put file key) (Talk None) (Error (codes "busy")) refl refl
 put_replied file key part false false = fits (Put file key) (Talk None) (PutFrom part) refl tt
 
-with_version : (h : Here) (asked : Message) (b : Bool) (x : Reply) → Replied asked x → Replied asked (if b then x else unexpected h)
-with_version h asked b x f = if_either (Replied asked) b x (unexpected h) (λ e. f) (λ e. odd h asked)
+with_version : (h : Here) (asked : Message) (b : Bool) (x : Reply) → Replied asked x → Replied asked (if b then x else unexpected_reply h)
+with_version h asked b x f = if_either (Replied asked) b x (unexpected_reply h) (λ e. f) (λ e. odd h asked)
 
 min_below : (n v : ℕ) → min n v ≤ n
 min_below n v = grind (arith, nat_tests)
@@ -152,8 +152,8 @@ valid_replied by size key true = fits Valid (Gain by size key) Success refl tt
 valid_replied by size key false = fits Valid (Talk None) Failure refl refl
 
 unlock_replied : (h : Here) (hold : ℕ) (key k : List ℕ) → Replied (UnlockContent k) (on_message h 0 (Guards hold key) (UnlockContent k))
-unlock_replied h hold key k = if_either (Replied (UnlockContent k)) (bytes_eq k key) (tries h (calls.Unhold ∷ []) [] (silent (Release hold key))) (unexpected h)
-    (λ e. tries_replied h (UnlockContent k) (calls.Unhold ∷ []) [] (silent (Release hold key)) (λ call. inr (inl refl)) (inr (inl refl))) (λ e. odd h (UnlockContent k))
+unlock_replied h hold key k = if_either (Replied (UnlockContent k)) (bytes_eq k key) (tries h (calls.Unhold ∷ []) [] (silent_reply (Release hold key))) (unexpected_reply h)
+    (λ e. tries_replied h (UnlockContent k) (calls.Unhold ∷ []) [] (silent_reply (Release hold key)) (λ call. inr (inl refl)) (inr (inl refl))) (λ e. odd h (UnlockContent k))
 
 pub message_replied : (h : Here) (v : ℕ) (doing : Doing) (m : Message) → Replied m (on_message h v doing m)
 message_replied h v doing (Error text) = inl (inl refl)
@@ -176,7 +176,7 @@ closes_answer : (says : List FrameText) (b : FrameText) (k : Message) → Closes
 closes_answer says b k (inl x) m e c = elim (subst (Member b) x m) [ inl i ↦ closing_ends b k i e | inr i ↦ i ]
 closes_answer says b k (inr x) m e c = go (subst (Member b) x m)
   where
-    go : Member b (Line (text_of (Error (codes "unexpected"))) ∷ Closing ∷ []) → ⊥
+    go : Member b (Line (text_of (Error (codes "unexpected_reply"))) ∷ Closing ∷ []) → ⊥
     go (inl i) = true≢false (sym (ap is_answer e ∙ c) ∙ ap (λ z. is_answer (message_in z)) i ∙ odd_answer)
     go (inr (inl i)) = closing_ends b k i e
     go (inr (inr i)) = i

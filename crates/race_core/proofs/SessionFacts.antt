@@ -13,7 +13,7 @@ use Rattle.run_data.specs.declared.entry.FrameView.{FrameView}
 use Rattle.run_data.specs.declared.entry.FrameText.{FrameText}
 use Rattle.run_data.specs.declared.entry.FrameText.TheVariants.{Opening, Closing, Bytes, Line}
 use Rattle.node_model.specs.State.{State}
-use Rattle.node_model.specs.SetUp.{SetUp, served}
+use Rattle.node_model.specs.SetUp.{SetUp, served_connections}
 use Rattle.p2p_wire.specs.declared.message.Message.{Message}
 use Rattle.p2p_wire.specs.declared.message.Message.TheVariants.{AuthSuccess, Version, CheckPresent, LockContent, UnlockContent, Remove, RemoveBefore, GetTimestamp, Timestamp, Get, Put, PutFrom, AlreadyHave, Data, Valid, Invalid, Success, Failure, Error}
 use Rattle.p2p_wire.specs.Messages.{order_of, message_of}
@@ -21,7 +21,7 @@ use Rattle.node_model.specs.Sessions.{Doing, Waits, Guards, Gives, Gave, Wants, 
 use Rattle.node_model.specs.Calls.{to_commit, to_lock, to_offer, to_remove}
 use Rattle.node_model.specs.Ends.{End, EndName, end_takes, may_take, server_end, takes_at}
 use Rattle.node_model.specs.Look.{Look, Made, failing, waiting}
-use Rattle.node_model.specs.SessionStep.{Here, Reply, bar_on, by_of, bytes_left, check_answer, close_kind, content_of, gives_made, gives_next, here, is_held, is_here, lock_answer, now_of, on_bytes, on_frame, on_message, on_piece, on_put, on_remove, on_remove_before, on_request, on_text, on_unlock, put_answer, refuses, remove_answer, reply, reply_made, session_at, session_makes, session_step, shuts, silent, tries, unexpected, valid_answer}
+use Rattle.node_model.specs.SessionStep.{Here, Reply, bar_on, by_of, bytes_left, check_answer, close_kind, content_of, gives_made, gives_next, here, is_held, is_here, lock_answer, now_of, on_bytes, on_frame, on_message, on_piece, on_put, on_remove, on_remove_before, on_request, on_text, on_unlock, put_answer, refuses, remove_answer, reply, reply_made, session_at, session_makes, session_step, shuts, silent_reply, tries, unexpected_reply, valid_answer}
 use Rattle.node_model.specs.Found.{BySession, GivesAt, InTime, SaysFault, SessionFound, SessionKind, TakesAt}
 use Rattle.race_core.proofs.Cases.{some_was, unless_found}
 
@@ -33,8 +33,8 @@ tries_found h doing asked cs says good fs g =
 refused : SaysFault refuses
 refused = inr (inr refl)
 
-unexpected_found : (h : Here) (doing : Doing) (asked : Option Message) → SessionFound h doing asked (unexpected h)
-unexpected_found h doing asked = (refl, (codes "unexpected", refl))
+unexpected_found : (h : Here) (doing : Doing) (asked : Option Message) → SessionFound h doing asked (unexpected_reply h)
+unexpected_found h doing asked = (refl, (codes "unexpected_reply", refl))
 
 shut_found : (h : Here) (doing : Doing) (asked : Option Message) → SessionFound h doing asked (shuts (close_kind h))
 shut_found h doing asked = (refl, tt)
@@ -80,8 +80,8 @@ put_found h file key true filled = (AlreadyHave, refl, tt)
 put_found h file key false true = (Error (codes "busy"), refl, tt)
 put_found h file key false false = (PutFrom h.part, refl, tt)
 
-with_version : (h : Here) (asked : Option Message) (b : Bool) (x : Reply) → SessionFound h Waits asked x → SessionFound h Waits asked (if b then x else unexpected h)
-with_version h asked b x f = if_either (SessionFound h Waits asked) b x (unexpected h) (λ e. f) (λ e. unexpected_found h Waits asked)
+with_version : (h : Here) (asked : Option Message) (b : Bool) (x : Reply) → SessionFound h Waits asked x → SessionFound h Waits asked (if b then x else unexpected_reply h)
+with_version h asked b x f = if_either (SessionFound h Waits asked) b x (unexpected_reply h) (λ e. f) (λ e. unexpected_found h Waits asked)
 
 request_found : (h : Here) (v : ℕ) (m : Message) → SessionFound h Waits (Some m) (on_request h v m)
 request_found h v (Version n) = (Version (min n h.version), refl, tt)
@@ -114,8 +114,8 @@ valid_found h key size false is = (Failure, refl, tt)
 
 unlock_found : (h : Here) (hold : ℕ) (key k : List ℕ) → SessionFound h (Guards hold key) (Some (UnlockContent k)) (on_unlock h hold key k)
 unlock_found h hold key k =
-    if_either (SessionFound h (Guards hold key) (Some (UnlockContent k))) (bytes_eq k key) (tries h (calls.Unhold ∷ []) [] (silent (Release hold key))) (unexpected h)
-    (λ e. tries_found h (Guards hold key) (Some (UnlockContent k)) (calls.Unhold ∷ []) [] (silent (Release hold key)) (inl refl)
+    if_either (SessionFound h (Guards hold key) (Some (UnlockContent k))) (bytes_eq k key) (tries h (calls.Unhold ∷ []) [] (silent_reply (Release hold key))) (unexpected_reply h)
+    (λ e. tries_found h (Guards hold key) (Some (UnlockContent k)) (calls.Unhold ∷ []) [] (silent_reply (Release hold key)) (inl refl)
     (record { asks = ap (λ x. Some (UnlockContent x)) ((bytes_decides k key).0 e); guards = refl; says_is = refl }))
     (λ e. unexpected_found h (Guards hold key) (Some (UnlockContent k)))
 
@@ -133,8 +133,8 @@ message_found h v doing m = unexpected_found h doing (Some m)
 
 bytes_found : (h : Here) (n : ℕ) (doing : Doing) → SessionFound h doing None (on_bytes h n doing)
 bytes_found h n (Takes key size left) =
-    if_either (SessionFound h (Takes key size left) None) (nat_lt 0 n && nat_le n left) (tries h (calls.Append ∷ []) (Closing ∷ []) (silent (Talk None))) (unexpected h)
-    (λ e. tries_found h (Takes key size left) None (calls.Append ∷ []) (Closing ∷ []) (silent (Talk None)) (inr (inl refl)) tt)
+    if_either (SessionFound h (Takes key size left) None) (nat_lt 0 n && nat_le n left) (tries h (calls.Append ∷ []) (Closing ∷ []) (silent_reply (Talk None))) (unexpected_reply h)
+    (λ e. tries_found h (Takes key size left) None (calls.Append ∷ []) (Closing ∷ []) (silent_reply (Talk None)) (inr (inl refl)) tt)
     (λ e. unexpected_found h (Takes key size left) None)
 bytes_found h n doing = unexpected_found h doing None
 
@@ -223,7 +223,7 @@ at_found s st k a m e = go (k.room a) e
 
 pub session_found : (s : SetUp) (st : State) (k : Look) (m : Made) → session_step s st k ≡ Some m → BySession s st k m
 session_found s st k m e =
-    let w = some_was (λ (c : ℕ × ℕ). session_at s st k (server_end c.0 c.1)) (served s) m e in
+    let w = some_was (λ (c : ℕ × ℕ). session_at s st k (server_end c.0 c.1)) (served_connections s) m e in
     let c = w.0 in
     let x = at_found s st k (server_end c.0 c.1) m w.2 in
     record { peer = c.0; slot = c.1; serves = w.1; asked = x.asked; says = x.says; frame = x.frame; found = x.found }

@@ -7,6 +7,7 @@ use Rattle.std.proofs.lemmas.Option.{same_Some}
 use Rattle.annex_base.specs.Lists.{Each, Member}
 use Rattle.annex_base.specs.declared.kinds.Word.{Word}
 use Rattle.annex_base.proofs.Lists.{Each-filter, Each-member, Member-filter_from, filter_none, Member-append_cases}
+use Rattle.race_core.proofs.Below.{SentAreRead}
 use Rattle.run_data.specs.declared.entry.By.TheVariants.{Peer, Script}
 use Rattle.run_data.specs.declared.entry.Entry.{Entry}
 use Rattle.run_data.specs.declared.entry.EntryKind.{EntryKind}
@@ -21,7 +22,7 @@ use Rattle.p2p_wire.specs.Messages.{order_of, message_of, text_of}
 use Rattle.run_model.specs.Said.{Said, Says, is_request, message_in}
 use Rattle.race_core.proofs.Ways.{is_answer, answers, down_of, way_from}
 use Rattle.run_model.specs.Frames.{Way, is_on, on_way, says, taken_if, taker_of, up_of, way_of}
-use Rattle.node_model.specs.SetUp.{SetUp, others, served, slots}
+use Rattle.node_model.specs.SetUp.{SetUp, others, served_connections, slots}
 use Rattle.node_model.specs.Ends.{End, EndName, end_sends, end_takes, frames, is_opening, sends_at, sent_at, server_end, takes_at}
 use Rattle.run_model.specs.States.{end_at, session, state_of}
 use Rattle.node_model.specs.Sessions.{Session, line_in}
@@ -276,7 +277,7 @@ of_slots peer (x ∷ xs) p q (inl i) = ap (λ (c : ℕ × ℕ). c.0) i
 of_slots peer (x ∷ xs) p q (inr i) = of_slots peer xs p q i
 
 -- who is served is another repository
-pub served_other : (s : SetUp) (p q : ℕ) → Member (p, q) (served s) → p ≢ s.number
+pub served_other : (s : SetUp) (p q : ℕ) → Member (p, q) (served_connections s) → p ≢ s.number
 served_other s p q m same =
     let w = of_flat (λ peer. map (λ slot. (peer, slot)) slots) (others s) (p, q) m in
     let peer : p ≡ w.0 = of_slots w.0 slots p q w.2 in
@@ -295,7 +296,7 @@ frame_of a c body = record { peer = a.peer; slot = a.slot; up = a.client; epoch 
 pub record SessionSpeaks (s : SetUp) (e : Entry) : Type 0 where
   pub p : ℕ
   pub q : ℕ
-  pub serves : Member (p, q) (served s)
+  pub serves : Member (p, q) (served_connections s)
   pub takes : (f : FrameView) → e.taken ≡ Some f → takes_at (server_end p q) f ≡ true
   pub c : End
   pub says : List FrameText
@@ -402,29 +403,29 @@ down_at g u = rw (eqb_refl g.peer, eqb_refl g.slot, u) refl
 closing_says : (g : FrameView) (k : Message) → g.body ≡ Closing → message_in g.body ≡ Says k → ⊥
 closing_says g k i e = let no' : message_in Closing ≡ Says k = sym (ap message_in i) ∙ e in let no'' = sym said_closing ∙ no' in cc
 
-step_time : (s : SetUp) (past : List Entry) (k : Look) (m : Made) (g : FrameView) (n : ℕ) → clock s.repos past s.number k.time / 1000 < 2 ^ 63 → StepFound s (state_of s past) k m → Member g m.sent → g.up ≡ false
+step_time : SentAreRead → (s : SetUp) (past : List Entry) (k : Look) (m : Made) (g : FrameView) (n : ℕ) → clock s.repos past s.number k.time / 1000 < 2 ^ 63 → StepFound s (state_of s past) k m → Member g m.sent → g.up ≡ false
     → message_in g.body ≡ Says (Timestamp n) → n ≡ clock s.repos past s.number k.time / 1000
-step_time s past k m g n small (inl x) i u e = elim (x.writes) [
+step_time reads_back s past k m g n small (inl x) i u e = elim (x.writes) [
   | inl w ↦ absurd (subst (λ (z : Made). Member g z.sent) w i)
   | inr w ↦ absurd (subst (λ (z : Made). Member g z.sent) w i)
 ]
-step_time s past k m g n small (inr (inl x)) i u e = go x.frame
+step_time reads_back s past k m g n small (inr (inl x)) i u e = go x.frame
   where
     at : (c : End) → m.sent ≡ frames (server_end x.peer x.slot) c x.says → n ≡ clock s.repos past s.number k.time / 1000
     at c j = Each-member (IsTime (clock s.repos past s.number k.time)) x.says g.body
-        (kind_time (here s (state_of s past) k (server_end x.peer x.slot)) ((state_of s past).sessions (server_end x.peer x.slot)).doing x.asked x.says m.kind small x.found)
+        (kind_time reads_back (here s (state_of s past) k (server_end x.peer x.slot)) ((state_of s past).sessions (server_end x.peer x.slot)).doing x.asked x.says m.kind small x.found)
         (member_frames (server_end x.peer x.slot) c x.says g (subst (Member g) j i)).0 n e
 
     go : TakesAt s (state_of s past) (server_end x.peer x.slot) x.asked x.says m ⊎ GivesAt s (state_of s past) (server_end x.peer x.slot) x.asked x.says m → n ≡ clock s.repos past s.number k.time / 1000
     go (inl y) = at (end_takes ((state_of s past).ends (server_end x.peer x.slot)) y.f.epoch y.f.body) y.sent_is
     go (inr y) = at ((state_of s past).ends (server_end x.peer x.slot)) y.sent_is
-step_time s past k m g n small (inr (inr x)) i u e =
+step_time reads_back s past k m g n small (inr (inr x)) i u e =
     absurd (subst (Member g) (job_sends (turn_of s (state_of s past) k x.w) m m.kind g.peer g.slot x.found) (Member-filter_from (sends_at (server_end g.peer g.slot)) m.sent g i (down_at g u)))
 
 -- a timestamp that goes down is the clock
-pub down_time : (s : SetUp) (past : List Entry) (words : ℕ → Option Word) (e : Entry) (g : FrameView) (n : ℕ) → OwnPart s past words e → clock s.repos past s.number e.time / 1000 < 2 ^ 63 → Member g e.sent → g.up ≡ false
+pub down_time : SentAreRead → (s : SetUp) (past : List Entry) (words : ℕ → Option Word) (e : Entry) (g : FrameView) (n : ℕ) → OwnPart s past words e → clock s.repos past s.number e.time / 1000 < 2 ^ 63 → Member g e.sent → g.up ≡ false
     → message_in g.body ≡ Says (Timestamp n) → n ≡ clock s.repos past s.number e.time / 1000
-down_time s past words e g n own small i u y = elim (own.does) [
+down_time reads_back s past words e g n own small i u y = elim (own.does) [
   | inl x ↦ step x
   | inr x ↦ absurd (closing_says g (Timestamp n) (Each-member (λ (h : FrameView). h.body ≡ Closing) e.sent g (come_closes s past e.lines e.sent e.kind x.may) i) y)
 ]
@@ -433,18 +434,18 @@ down_time s past words e g n own small i u y = elim (own.does) [
     step x =
         let time : e.time ≡ x.look.time = ap (λ (z : Entry). z.time) x.is in
         let at : n ≡ clock s.repos past s.number x.look.time / 1000 =
-        step_time s past x.look x.made g n (subst (λ t. clock s.repos past s.number t / 1000 < 2 ^ 63) time small) (step_found s (state_of s past) x.look x.made x.makes)
+        step_time reads_back s past x.look x.made g n (subst (λ t. clock s.repos past s.number t / 1000 < 2 ^ 63) time small) (step_found s (state_of s past) x.look x.made x.makes)
         (subst (λ (z : Entry). Member g z.sent) x.is i) u y in
         at ∙ ap (λ t. clock s.repos past s.number t / 1000) (sym time)
 
 -- the field `sends` of a session's entry
-pub session_sends : (s : SetUp) (past : List Entry) (words : ℕ → Option Word) (e : Entry) (g : FrameView) → OwnRun s past → AllRead s.number past → OwnPart s past words e
+pub session_sends : SentAreRead → (s : SetUp) (past : List Entry) (words : ℕ → Option Word) (e : Entry) (g : FrameView) → OwnRun s past → AllRead s.number past → OwnPart s past words e
     → clock s.repos past s.number e.time / 1000 < 2 ^ 63 → SessionSpeaks s e → Member g e.sent → MaySend s.repos s.number past e g
-session_sends s past words e g run read own small x m =
+session_sends reads_back s past words e g run read own small x m =
     let u : g.up ≡ false = session_down s e x g m in
     record {
       yes = λ v y. yes_in_turn s past words e g run read own m v y;
-      time = λ n y. down_time s past words e g n own small m u y;
+      time = λ n y. down_time reads_back s past words e g n own small m u y;
       request = λ v y. absurd (let no' : true ≡ false = sym v ∙ u in cc);
       order = λ deadline key y. absurd (no_order s e x g deadline key m y);
       unlock = λ key y. absurd (no_unlock s e x g key m y);
@@ -523,18 +524,18 @@ pub release_step : ByStep (λ s past e. (hold : ℕ) (key : List ℕ) → e.kind
 release_step s past words e h b is part hold key kind = may_release s past words e hold key h.run part kind
 
 -- the field `answered`
-pub answered_step : ByStep (λ s past e. (w : Way) → w.server ≡ s.number → length (answers (e ∷ past) (down_of w)) ≤ taken_if is_request (e ∷ past) (up_of w))
-answered_step s past words e h b is part w server =
+pub answered_step : SentAreRead → ByStep (λ s past e. (w : Way) → w.server ≡ s.number → length (answers (e ∷ past) (down_of w)) ≤ taken_if is_request (e ∷ past) (up_of w))
+answered_step reads_back s past words e h b is part w server =
     let x = after s past words e h b part in
-    answered_in s (e ∷ past) x.run (all_read s (e ∷ past) x) w server
+    answered_in s (e ∷ past) x.run (all_read reads_back s (e ∷ past) x) w server
 
 seconds_small : (n : ℕ) → n ≤ 1100000000000 → n / 1000 < 2 ^ 63
 seconds_small n l = omega (arith, l)
 
 -- the field `sends` of a session's entry
-pub session_sends_step : ByStep (λ s past e. SessionSpeaks s e → (g : FrameView) → Member g e.sent → MaySend s.repos s.number past e g)
-session_sends_step s past words e h b is part x g m =
-    session_sends s past words e g h.run (all_read s past h) part (seconds_small (clock s.repos past s.number e.time) (clock_small s.repos past s.number e.time h.repos h.bounds b.in_time)) x m
+pub session_sends_step : SentAreRead → ByStep (λ s past e. SessionSpeaks s e → (g : FrameView) → Member g e.sent → MaySend s.repos s.number past e g)
+session_sends_step reads_back s past words e h b is part x g m =
+    session_sends reads_back s past words e g h.run (all_read reads_back s past h) part (seconds_small (clock s.repos past s.number e.time) (clock_small s.repos past s.number e.time h.repos h.bounds b.in_time)) x m
 
 -- the fields `sends`, `sent_to`, `one_request` and `one_answer` of an entry that comes at any point
 pub any_closes : (s : SetUp) (past : List Entry) (e : Entry) → ComesAnyTime s past e → Each (λ g. g.body ≡ Closing) e.sent

@@ -8,6 +8,7 @@ use Rattle.annex_base.specs.Lists.{Member}
 use Rattle.annex_base.specs.declared.kinds.Call.{Call}
 use Rattle.annex_base.proofs.Conditions.{if_either}
 use Rattle.annex_base.specs.declared.kinds.Call.TheVariants as calls
+use Rattle.race_core.proofs.Below.{SentAreRead}
 use Rattle.run_data.specs.declared.entry.Entry.{Entry}
 use Rattle.run_data.specs.declared.entry.EntryKind.TheVariants.{Fault, Release, Talk}
 use Rattle.run_data.specs.declared.entry.By.{By}
@@ -17,14 +18,13 @@ use Rattle.run_data.specs.Repos.{id_of}
 use Rattle.p2p_wire.specs.declared.message.Message.{Message}
 use Rattle.p2p_wire.specs.declared.message.Message.TheVariants.{AuthSuccess, Version, CheckPresent, LockContent, UnlockContent, Remove, RemoveBefore, GetTimestamp, Timestamp, Get, Put, PutFrom, AlreadyHave, Data, Valid, Invalid, Success, Failure, Error}
 use Rattle.p2p_wire.specs.Messages.{message_of, text_of}
-use Rattle.p2p_wire.proofs.MessageFacts.{sent_back}
 use Rattle.node_model.specs.SetUp.{SetUp, gives_locks, version_of}
 use Rattle.node_model.specs.Ends.{EndName}
 use Rattle.node_model.specs.Sessions.{Doing, Waits, Guards, Gives, Gave, Wants, Takes, Took, Session, reaches}
 use Rattle.run_model.specs.States.{state_of}
 use Rattle.node_model.specs.Look.{Look, failing}
 use Rattle.node_model.specs.Calls.{to_commit, to_lock, to_offer, to_remove}
-use Rattle.node_model.specs.SessionStep.{Here, Reply, bar_on, by_of, bytes_left, check_answer, close_kind, content_of, gives_next, here, is_filled, is_held, is_here, lock_answer, now_of, on_bytes, on_frame, on_lock, on_message, on_piece, on_put, on_remove, on_remove_before, on_request, on_text, on_unlock, on_valid, put_answer, refuses, remove_answer, reply, shuts, silent, tries, unexpected, valid_answer}
+use Rattle.node_model.specs.SessionStep.{Here, Reply, bar_on, by_of, bytes_left, check_answer, close_kind, content_of, gives_next, here, is_filled, is_held, is_here, lock_answer, now_of, on_bytes, on_frame, on_lock, on_message, on_piece, on_put, on_remove, on_remove_before, on_request, on_text, on_unlock, on_valid, put_answer, refuses, remove_answer, reply, shuts, silent_reply, tries, unexpected_reply, valid_answer}
 use Rattle.run_model.specs.Run.{OwnPast}
 use Rattle.race_core.proofs.Cases.{unless_found}
 use Rattle.race_core.proofs.Spoken.{auth_read, data_read, part_read, time_read, version_read}
@@ -48,7 +48,7 @@ bytes_read : (n : ℕ) → SaysRead (Bytes n ∷ [])
 bytes_read n text (inl same) = absurd (cc)
 bytes_read n text (inr none) = absurd none
 
-plain : is_utf8 (codes "unexpected") ≡ true
+plain : is_utf8 (codes "unexpected_reply") ≡ true
 unfolding is_utf8 utf8_valid_len chars lib.Utf8.encode
 plain = refl
 
@@ -56,15 +56,15 @@ busy : is_utf8 (codes "busy") ≡ true
 unfolding is_utf8 utf8_valid_len chars lib.Utf8.encode
 busy = refl
 
-pub unexpected_read : message_of (text_of (Error (codes "unexpected"))) ≡ Some (Error (codes "unexpected"))
-unexpected_read = sent_back (Error (codes "unexpected")) plain (omega arith)
+pub unexpected_read : SentAreRead → message_of (text_of (Error (codes "unexpected_reply"))) ≡ Some (Error (codes "unexpected_reply"))
+unexpected_read reads_back = reads_back (Error (codes "unexpected_reply")) plain (omega arith)
 
-pub busy_read : message_of (text_of (Error (codes "busy"))) ≡ Some (Error (codes "busy"))
-busy_read = sent_back (Error (codes "busy")) busy (omega arith)
+pub busy_read : SentAreRead → message_of (text_of (Error (codes "busy"))) ≡ Some (Error (codes "busy"))
+busy_read reads_back = reads_back (Error (codes "busy")) busy (omega arith)
 
-odd_read : SaysRead (Line (text_of (Error (codes "unexpected"))) ∷ Closing ∷ [])
-odd_read text (inl same) = let is : text ≡ text_of (Error (codes "unexpected")) = cc in (Error (codes "unexpected"), ap message_of is ∙ unexpected_read)
-odd_read text (inr more) = close_read text more
+odd_read : SentAreRead → SaysRead (Line (text_of (Error (codes "unexpected_reply"))) ∷ Closing ∷ [])
+odd_read reads_back text (inl same) = let is : text ≡ text_of (Error (codes "unexpected_reply")) = cc in (Error (codes "unexpected_reply"), ap message_of is ∙ unexpected_read reads_back)
+odd_read reads_back text (inr more) = close_read text more
 
 abbrev Read : Reply → Type 0
 Read x = SaysRead x.says
@@ -89,10 +89,10 @@ remove_read by key true (Some j) blocked = one_read Failure refl
 remove_read by key true None true = one_read Failure refl
 remove_read by key true None false = one_read Success refl
 
-put_read : (part : ℕ) → part < 2 ^ 62 → (here filled : Bool) → Read (reply (Talk None) (put_answer part here filled))
-put_read part small true filled = one_read AlreadyHave refl
-put_read part small false true = one_read (Error (codes "busy")) busy_read
-put_read part small false false = one_read (PutFrom part) (part_read part small)
+put_read : SentAreRead → (part : ℕ) → part < 2 ^ 62 → (here filled : Bool) → Read (reply (Talk None) (put_answer part here filled))
+put_read reads_back part small true filled = one_read AlreadyHave refl
+put_read reads_back part small false true = one_read (Error (codes "busy")) (busy_read reads_back)
+put_read reads_back part small false false = one_read (PutFrom part) (part_read reads_back part small)
 
 valid_read : (by : By) (size : ℕ) (key : List ℕ) (right : Bool) → Read (valid_answer by size key right)
 valid_read by size key true = one_read Success refl
@@ -102,7 +102,7 @@ word_read : (good : Bool) → Read (reply (Talk None) (if good then Valid else I
 word_read true = one_read Valid refl
 word_read false = one_read Invalid refl
 
-module _ (s : SetUp) (past : List Entry) (h : OwnPast s past) (known : s.number < length s.repos) (k : Look) (small : k.part < 2 ^ 62) (early : k.time ≤ 1000000000000) (a : EndName) where
+module _ (reads_back : SentAreRead) (s : SetUp) (past : List Entry) (h : OwnPast s past) (known : s.number < length s.repos) (k : Look) (small : k.part < 2 ^ 62) (early : k.time ≤ 1000000000000) (a : EndName) where
   abbrev spot : Here
   spot = here s (state_of s past) k a
 
@@ -125,27 +125,27 @@ module _ (s : SetUp) (past : List Entry) (h : OwnPast s past) (known : s.number 
   put_ok : (key : List ℕ) → Read (on_put spot key)
   put_ok key = tries_read (to_offer k.part (is_here spot key) (is_filled s (state_of s past) key)) refuses
       (reply (Talk None) (put_answer k.part (is_here spot key) (is_filled s (state_of s past) key))) refuses_read
-      (put_read k.part small (is_here spot key) (is_filled s (state_of s past) key))
+      (put_read reads_back k.part small (is_here spot key) (is_filled s (state_of s past) key))
 
   get_ok : (n : ℕ) (key : List ℕ) → Read (tries spot (calls.Size ∷ []) (Closing ∷ []) (reply (Talk None) (Data (bytes_left (content_of spot key) n))))
   get_ok n key = tries_read (calls.Size ∷ []) (Closing ∷ []) (reply (Talk None) (Data (bytes_left (content_of spot key) n))) close_read
-      (one_read (Data (bytes_left (content_of spot key) n)) (data_read s past key n h))
+      (one_read (Data (bytes_left (content_of spot key) n)) (data_read reads_back s past key n h))
 
   request_ok : (v : ℕ) (m : Message) → Read (on_request spot v m)
-  request_ok v (Version n) = one_read (Version (min n (version_of s))) (version_read s past n h)
+  request_ok v (Version n) = one_read (Version (min n (version_of s))) (version_read reads_back s past n h)
   request_ok v (CheckPresent key) = tries_read (calls.Has ∷ []) refuses (check_answer key (is_here spot key) (bar_on spot key)) refuses_read (check_read key (is_here spot key) (bar_on spot key))
   request_ok v (LockContent key) = lock_ok key
   request_ok v (Remove key) = remove_ok key
-  request_ok v (RemoveBefore n key) = if_either Read (nat_le 3 v) (on_remove_before spot n key) (unexpected spot) (λ e. before_ok n key) (λ e. odd_read)
-  request_ok v GetTimestamp = if_either Read (nat_le 3 v) (reply (Talk None) (Timestamp (now_of spot / 1000))) (unexpected spot)
-      (λ e. one_read (Timestamp (now_of spot / 1000)) (time_read s past k.time h early)) (λ e. odd_read)
-  request_ok v (Get n file key) = if_either Read (nat_le 1 v) _ (unexpected spot) (λ e. get_ok n key) (λ e. odd_read)
-  request_ok v (Put file key) = if_either Read (nat_le 1 v) (on_put spot key) (unexpected spot) (λ e. put_ok key) (λ e. odd_read)
-  request_ok v m = odd_read
+  request_ok v (RemoveBefore n key) = if_either Read (nat_le 3 v) (on_remove_before spot n key) (unexpected_reply spot) (λ e. before_ok n key) (λ e. odd_read reads_back)
+  request_ok v GetTimestamp = if_either Read (nat_le 3 v) (reply (Talk None) (Timestamp (now_of spot / 1000))) (unexpected_reply spot)
+      (λ e. one_read (Timestamp (now_of spot / 1000)) (time_read reads_back s past k.time h early)) (λ e. odd_read reads_back)
+  request_ok v (Get n file key) = if_either Read (nat_le 1 v) _ (unexpected_reply spot) (λ e. get_ok n key) (λ e. odd_read reads_back)
+  request_ok v (Put file key) = if_either Read (nat_le 1 v) (on_put spot key) (unexpected_reply spot) (λ e. put_ok key) (λ e. odd_read reads_back)
+  request_ok v m = odd_read reads_back
 
   unlock_ok : (hold : ℕ) (key q : List ℕ) → Read (on_unlock spot hold key q)
-  unlock_ok hold key q = if_either Read (bytes_eq q key) (tries spot (calls.Unhold ∷ []) [] (silent (Release hold key))) (unexpected spot)
-      (λ e. tries_read (calls.Unhold ∷ []) [] (silent (Release hold key)) no_read no_read) (λ e. odd_read)
+  unlock_ok hold key q = if_either Read (bytes_eq q key) (tries spot (calls.Unhold ∷ []) [] (silent_reply (Release hold key))) (unexpected_reply spot)
+      (λ e. tries_read (calls.Unhold ∷ []) [] (silent_reply (Release hold key)) no_read no_read) (λ e. odd_read reads_back)
 
   valid_ok : (key : List ℕ) (size : ℕ) → Read (on_valid spot key size)
   valid_ok key size = tries_read (to_commit k.right) refuses (valid_answer (by_of spot) size key k.right) refuses_read (valid_read (by_of spot) size key k.right)
@@ -159,20 +159,20 @@ module _ (s : SetUp) (past : List Entry) (h : OwnPast s past) (known : s.number 
   message_ok v (Wants key size) (Data n) = no_read
   message_ok v (Took key size) Valid = valid_ok key size
   message_ok v (Took key size) Invalid = one_read Failure refl
-  message_ok v doing m = odd_read
+  message_ok v doing m = odd_read reads_back
 
   bytes_ok : (n : ℕ) (doing : Doing) → Read (on_bytes spot n doing)
-  bytes_ok n (Takes key size left) = if_either Read (nat_lt 0 n && nat_le n left) (tries spot (calls.Append ∷ []) (Closing ∷ []) (silent (Talk None))) (unexpected spot)
-      (λ e. tries_read (calls.Append ∷ []) (Closing ∷ []) (silent (Talk None)) close_read no_read) (λ e. odd_read)
-  bytes_ok n doing = odd_read
+  bytes_ok n (Takes key size left) = if_either Read (nat_lt 0 n && nat_le n left) (tries spot (calls.Append ∷ []) (Closing ∷ []) (silent_reply (Talk None))) (unexpected_reply spot)
+      (λ e. tries_read (calls.Append ∷ []) (Closing ∷ []) (silent_reply (Talk None)) close_read no_read) (λ e. odd_read reads_back)
+  bytes_ok n doing = odd_read reads_back
 
   text_ok : (was : Session) (m : Option Message) → Read (on_text spot was m)
-  text_ok was None = odd_read
+  text_ok was None = odd_read reads_back
   text_ok was (Some m) = message_ok was.version was.doing m
 
   -- what a session answers to a frame
   pub frame_read : (was : Session) (body : FrameText) → SaysRead (on_frame spot was body).says
-  frame_read was Opening = one_read (AuthSuccess (id_of s.repos s.number)) (auth_read s past h known)
+  frame_read was Opening = one_read (AuthSuccess (id_of s.repos s.number)) (auth_read reads_back s past h known)
   frame_read was Closing = no_read
   frame_read was (Bytes n) = bytes_ok n was.doing
   frame_read was (Line text) = text_ok was (message_of text)

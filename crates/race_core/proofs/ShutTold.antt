@@ -6,6 +6,7 @@ use Rattle.std.specs.Prelude.{if◌then◌else◌, ◌==◌}
 use Rattle.std.proofs.lemmas.Bool.{true≢false}
 use Rattle.annex_base.specs.Lists.{Each, Member}
 use Rattle.annex_base.proofs.Conditions.{eqb_refl}
+use Rattle.race_core.proofs.Below.{SentAreRead}
 use Rattle.run_data.specs.declared.entry.Entry.{Entry}
 use Rattle.run_data.specs.declared.entry.EntryKind.{EntryKind}
 use Rattle.run_data.specs.declared.entry.EntryKind.TheVariants.{Bar, Begin, Close, Compact, Crash, Fault, Gain, Gone, Log, Order, Share, Talk, End as ends_job}
@@ -142,7 +143,7 @@ talk_away t m p j on shut = subst (λ (o : Option ℕ). partner t.w.what.peer (J
 abbrev pub ShutStands : List Entry → ℕ → Type 0
 ShutStands past r = (w : Work) → Member w (works past r) → (p : ℕ) → partner w.what.peer w.phase ≡ Some p → (end_at past r (job_end w p)).opened ≡ false → ClosedWith past r w.number p
 
-module _ (run : Run) (repos : Each IsSetUp run.repos) (past : List Entry) (e : Entry) (h : RunPast (set_up run) past) (step : RunStep (set_up run) past e) (r : ℕ) (own : is_of r e ≡ true) (was : ShutStands past r) where
+module _ (reads_back : SentAreRead) (run : Run) (repos : Each IsSetUp run.repos) (past : List Entry) (e : Entry) (h : RunPast (set_up run) past) (step : RunStep (set_up run) past e) (r : ℕ) (own : is_of r e ≡ true) (was : ShutStands past r) where
   abbrev s : SetUp
   s = set_up run r
 
@@ -156,7 +157,7 @@ module _ (run : Run) (repos : Each IsSetUp run.repos) (past : List Entry) (e : E
   run_now = (own_past run repos r (e ∷ past) (step, h)).run
 
   talking : Conversing past r
-  talking = conversing run repos past h r
+  talking = conversing reads_back run repos past h r
 
   grows : (w : Work) (p : ℕ) → ClosedWith past r w.number p → ClosedWith (e ∷ past) r w.number p
   grows w p x = closed_grows r e past (running w) p x
@@ -230,7 +231,7 @@ module _ (run : Run) (repos : Each IsSetUp run.repos) (past : List Entry) (e : E
       shut_made = subst (λ (z : Entry). (end_after (job_end b.by.w p) (end_at past r (job_end b.by.w p)) z).opened ≡ false) b.by.is (closed_after b.by.w p closed_v)
 
       on_v : partner b.by.w.what.peer b.by.w.phase ≡ Some p
-      on_v = (ConversationClient.keeps run repos past e h step r own talking b.by (moved_on s past e x b)).0.1 p on_moved shut_made
+      on_v = (ConversationClient.keeps reads_back run repos past e h step r own talking b.by (moved_on s past e x b)).0.1 p on_moved shut_made
 
       go : (c : Bool) → (end_at past r (job_end b.by.w p)).opened ≡ c → ClosedWith (e ∷ past) r b.by.w.number p
       go false o = grows b.by.w p (was b.by.w (stepped_runs s past e b.by) p on_v o)
@@ -250,11 +251,11 @@ module _ (run : Run) (repos : Each IsSetUp run.repos) (past : List Entry) (e : E
       by (inr (inl b)) = stays_told x p b on closed
       by (inr (inr b)) = steps_told x p b on closed
 
-module _ (run : Run) (repos : Each IsSetUp run.repos) where
+module _ (reads_back : SentAreRead) (run : Run) (repos : Each IsSetUp run.repos) where
   pub closed_told : (past : List Entry) → RunPast (set_up run) past → (r : ℕ) → ShutStands past r
   closed_told [] h r = λ w m p on closed. absurd m
   closed_told (e ∷ past) h r = go (closed_told past h.1 r) (is_of r e) refl
     where
       go : ShutStands past r → (b : Bool) → is_of r e ≡ b → ShutStands (e ∷ past) r
-      go was true own = own_stands run repos past e h.1 h.0 r own was
+      go was true own = own_stands reads_back run repos past e h.1 h.0 r own was
       go was false other = λ w m p on closed. closed_grows r e past (running w) p (was w (rw other at m) p on (rw other at closed))

@@ -2,9 +2,11 @@
 use Rattle.std.proofs.Common.{◌≡◌, ℕ, ◌/◌, ◌<◌, ◌≤◌, ◌^◌, Bool, true, false, zero, suc, List, [], ◌∷◌, length, Option, Some, None, inl, inr, refl, sym, ap, ◌∙◌, subst, arith}
 use Rattle.std.specs.Prelude.{if◌then◌else◌, ◌==◌, min, not, bytes_eq, slice_get}
 use Rattle.annex_base.specs.Lists.{Each, Member}
-use Rattle.annex_base.specs.RepoText.{IsId}
+use Rattle.annex_base.specs.RepoText.{IsId, repo_text}
 use Rattle.annex_base.specs.declared.kinds.Word.{Word}
 use Rattle.annex_base.proofs.Lists.{Each-filter}
+use Rattle.annex_base.proofs.RepoLemmas.{repo_again}
+use Rattle.race_core.proofs.Below.{SentAreRead}
 use Rattle.annex_key.specs.View.{first_fault}
 use Rattle.run_data.specs.declared.entry.Entry.{Entry}
 use Rattle.run_data.specs.declared.entry.EntryKind.{EntryKind}
@@ -17,7 +19,6 @@ use Rattle.node_model.specs.Slots.{Running}
 use Rattle.node_model.specs.Clocks.{ClockSet}
 use Rattle.p2p_wire.specs.declared.message.Message.TheVariants.{AuthSuccess, CheckPresent, Data, Get, LockContent, Put, PutFrom, Remove, RemoveBefore, Timestamp, UnlockContent, Version}
 use Rattle.p2p_wire.specs.Messages.{message_of, text_of}
-use Rattle.p2p_wire.proofs.MessageFacts.{id_back, sent_back}
 use Rattle.node_model.specs.SetUp.{SetUp, version_in, version_of}
 use Rattle.run_model.specs.States.{content, works, state_of}
 use Rattle.node_model.specs.Rows.{content_after}
@@ -133,52 +134,54 @@ id_is (x ∷ xs) (suc r) l a = id_is xs r (omega (arith, l)) a.1
 
 -- ---- the lines of jobs are read as they were said
 
-module _ (s : SetUp) (past : List Entry) (run : OwnRun s past) (w : Work) (runs : Member w (works past s.number)) where
+module _ (reads_back : SentAreRead) (s : SetUp) (past : List Entry) (run : OwnRun s past) (w : Work) (runs : Member w (works past s.number)) where
   valid : first_fault w.what.key ≡ None
   valid = (works_well s past w run runs).valid
 
   pub lock_read : message_of (text_of (LockContent w.what.key)) ≡ Some (LockContent w.what.key)
-  lock_read = sent_back (LockContent w.what.key) valid tt
+  lock_read = reads_back (LockContent w.what.key) valid tt
 
   pub unlock_read : message_of (text_of (UnlockContent w.what.key)) ≡ Some (UnlockContent w.what.key)
-  unlock_read = sent_back (UnlockContent w.what.key) valid tt
+  unlock_read = reads_back (UnlockContent w.what.key) valid tt
 
   pub look_read : message_of (text_of (CheckPresent w.what.key)) ≡ Some (CheckPresent w.what.key)
-  look_read = sent_back (CheckPresent w.what.key) valid tt
+  look_read = reads_back (CheckPresent w.what.key) valid tt
 
   pub remove_read : message_of (text_of (Remove w.what.key)) ≡ Some (Remove w.what.key)
-  remove_read = sent_back (Remove w.what.key) valid tt
+  remove_read = reads_back (Remove w.what.key) valid tt
 
   pub before_read : (n : ℕ) → n < 2 ^ 63 → message_of (text_of (RemoveBefore n w.what.key)) ≡ Some (RemoveBefore n w.what.key)
-  before_read n small = sent_back (RemoveBefore n w.what.key) (small, valid) tt
+  before_read n small = reads_back (RemoveBefore n w.what.key) (small, valid) tt
 
   pub get_read : (n : ℕ) → n < 2 ^ 62 → message_of (text_of (Get n [] w.what.key)) ≡ Some (Get n [] w.what.key)
-  get_read n small = sent_back (Get n [] w.what.key) (omega (arith, small), valid, refl) tt
+  get_read n small = reads_back (Get n [] w.what.key) (omega (arith, small), valid, refl) tt
 
   pub put_read : message_of (text_of (Put [] w.what.key)) ≡ Some (Put [] w.what.key)
-  put_read = sent_back (Put [] w.what.key) (valid, refl) tt
+  put_read = reads_back (Put [] w.what.key) (valid, refl) tt
 
 -- the bytes that are left of a content
-pub data_read : (s : SetUp) (past : List Entry) (key : List ℕ) (n : ℕ) → OwnPast s past → message_of (text_of (Data (bytes_left (content past s.number key) n))) ≡ Some (Data (bytes_left (content past s.number key) n))
-data_read s past key n h =
+pub data_read : SentAreRead → (s : SetUp) (past : List Entry) (key : List ℕ) (n : ℕ) → OwnPast s past → message_of (text_of (Data (bytes_left (content past s.number key) n))) ≡ Some (Data (bytes_left (content past s.number key) n))
+data_read reads_back s past key n h =
     let small : bytes_left (content past s.number key) n < 2 ^ 62 = left_small (content past s.number key) n (contents_small s.number past key h.bounds) in
-    sent_back (Data (bytes_left (content past s.number key) n)) (omega (arith, small)) tt
+    reads_back (Data (bytes_left (content past s.number key) n)) (omega (arith, small)) tt
 
 -- ---- the lines of sessions are read as they were said
 
-pub auth_read : (s : SetUp) (past : List Entry) → OwnPast s past → s.number < length s.repos → message_of (text_of (AuthSuccess (id_of s.repos s.number))) ≡ Some (AuthSuccess (id_of s.repos s.number))
-auth_read s past h known = id_back (id_of s.repos s.number) (id_is s.repos s.number known h.repos)
+pub auth_read : SentAreRead → (s : SetUp) (past : List Entry) → OwnPast s past → s.number < length s.repos → message_of (text_of (AuthSuccess (id_of s.repos s.number))) ≡ Some (AuthSuccess (id_of s.repos s.number))
+auth_read reads_back s past h known =
+    let id : List ℕ = id_of s.repos s.number in
+    reads_back (AuthSuccess id) (repo_again (repo_text id) id (id_is s.repos s.number known h.repos) refl) tt
 
-pub version_read : (s : SetUp) (past : List Entry) (n : ℕ) → OwnPast s past → message_of (text_of (Version (min n (version_of s)))) ≡ Some (Version (min n (version_of s)))
-version_read s past n h =
+pub version_read : SentAreRead → (s : SetUp) (past : List Entry) (n : ℕ) → OwnPast s past → message_of (text_of (Version (min n (version_of s)))) ≡ Some (Version (min n (version_of s)))
+version_read reads_back s past n h =
     let small : version_of s ≤ 3 = version_small s.repos s.number h.repos in
-    sent_back (Version (min n (version_of s))) (omega (arith, small)) tt
+    reads_back (Version (min n (version_of s))) (omega (arith, small)) tt
 
-pub time_read : (s : SetUp) (past : List Entry) (time : ℕ) → OwnPast s past → time ≤ 1000000000000
+pub time_read : SentAreRead → (s : SetUp) (past : List Entry) (time : ℕ) → OwnPast s past → time ≤ 1000000000000
     → message_of (text_of (Timestamp (clock s.repos past s.number time / 1000))) ≡ Some (Timestamp (clock s.repos past s.number time / 1000))
-time_read s past time h early =
+time_read reads_back s past time h early =
     let small : clock s.repos past s.number time ≤ 1100000000000 = clock_small s.repos past s.number time h.repos h.bounds early in
-    sent_back (Timestamp (clock s.repos past s.number time / 1000)) (omega (arith, small)) tt
+    reads_back (Timestamp (clock s.repos past s.number time / 1000)) (omega (arith, small)) tt
 
-pub part_read : (n : ℕ) → n < 2 ^ 62 → message_of (text_of (PutFrom n)) ≡ Some (PutFrom n)
-part_read n small = sent_back (PutFrom n) (omega (arith, small)) tt
+pub part_read : SentAreRead → (n : ℕ) → n < 2 ^ 62 → message_of (text_of (PutFrom n)) ≡ Some (PutFrom n)
+part_read reads_back n small = reads_back (PutFrom n) (omega (arith, small)) tt

@@ -5,6 +5,7 @@ use Rattle.std.specs.Prelude.{◌&&◌, nat_lt, codes}
 use Rattle.annex_base.specs.Lists.{Member}
 use Rattle.annex_base.specs.declared.kinds.Call.TheVariants.{Unhold}
 use Rattle.annex_base.proofs.Conditions.{bytes_eq_tells}
+use Rattle.race_core.proofs.Below.{SentAreRead}
 use Rattle.drop_proof.specs.declared.rule.Side.{Side}
 use Rattle.drop_proof.specs.declared.rule.Side.TheVariants.{Remote}
 use Rattle.run_data.specs.declared.entry.By.{By}
@@ -74,8 +75,8 @@ option_same (Some q) p e = grind (arith, nat_tests)
 same_job : (s : SetUp) (past : List Entry) (e : Entry) (w : Work) (b : Steps s past e w) → running w ≡ running b.by.w
 same_job s past e w b = ap running b.work_is ∙ kind_kept (rows_at past s.number) s.number b.by.w e e.kind
 
-pub versions_told : (s : SetUp) (past : List Entry) → OwnRun s past → (w : Work) → Member w (works past s.number) → VersionTold s past (running w) w.version
-versions_told s past run w m = invariant s (λ p x. VersionTold s p (running x) x.version) (λ p e is x n was. told_grows s p e (running x) x.version was) own past run w m
+pub versions_told : SentAreRead → (s : SetUp) (past : List Entry) → OwnRun s past → (w : Work) → Member w (works past s.number) → VersionTold s past (running w) w.version
+versions_told reads_back s past run w m = invariant s (λ p x. VersionTold s p (running x) x.version) (λ p e is x n was. told_grows s p e (running x) x.version was) own past run w m
   where
     own : (p : List Entry) (e : Entry) → OwnRun s (e ∷ p) → is_of s.number e ≡ true → ((x : Work) → Member x (works p s.number) → VersionTold s p (running x) x.version)
         → (x : Work) → Origin s p e x → VersionTold s (e ∷ p) (running x) x.version
@@ -90,7 +91,7 @@ versions_told s past run w m = invariant s (λ p x. VersionTold s p (running x) 
         by_version : {n : ℕ} → (n ≡ b.by.w.version) ⊎ Learns b.by.w e n → VersionTold s (e ∷ p) (running b.by.w) n
         by_version (inl same) = subst (VersionTold s (e ∷ p) (running b.by.w)) (sym same) (told_grows s p e (running b.by.w) b.by.w.version (was b.by.w (step_runs s p e x b)))
         by_version (inr l) = λ old.
-            (l.peer, option_same b.by.w.what.peer l.peer l.is_peer, hears_now s p e b.by is l.f l.takes_it (Version _) l.told l.peer (ap (partner b.by.w.what.peer) l.phase_is))
+            (l.peer, option_same b.by.w.what.peer l.peer l.is_peer, hears_now reads_back s p e b.by is l.f l.takes_it (Version _) l.told l.peer (ap (partner b.by.w.what.peer) l.phase_is))
 
 -- ---- a step of the job itself
 
@@ -115,7 +116,7 @@ and_off true true true false e = refl
 remote_target : (r : ℕ) (w : Work) (peer : ℕ) → Jobs.side_of w ≡ Remote → w.what.peer ≡ Some peer → Jobs.target_of r w ≡ peer
 remote_target r w peer side at = ap (λ (d : Side). Jobs.or_own r d w.what.peer) side ∙ ap (Jobs.or_own r Remote) at
 
-module _ (s : SetUp) (p : List Entry) (e : Entry) (h : OwnPast s (e ∷ p)) (is : is_of s.number e ≡ true) (x : Work) (b : Steps s p e x) (was : Stands s.number p (running b.by.w) b.by.w.phase) where
+module _ (reads_back : SentAreRead) (s : SetUp) (p : List Entry) (e : Entry) (h : OwnPast s (e ∷ p)) (is : is_of s.number e ≡ true) (x : Work) (b : Steps s p e x) (was : Stands s.number p (running b.by.w) b.by.w.phase) where
   abbrev r : ℕ
   r = s.number
 
@@ -170,7 +171,7 @@ module _ (s : SetUp) (p : List Entry) (e : Entry) (h : OwnPast s (e ∷ p)) (is 
   old_now n peer at hr k =
       let on : partner v.what.peer v.phase ≡ Some peer = ap (partner v.what.peer) at in
       let old = old_at n peer at hr k in
-      (subst (λ q. Hears (e ∷ p) r v.number q (Says (Version n))) (sym (target_at peer old.target_is)) (hears_now s p e b.by is hr.f hr.takes_it (Version n) hr.told peer on), old.old)
+      (subst (λ q. Hears (e ∷ p) r v.number q (Says (Version n))) (sym (target_at peer old.target_is)) (hears_now reads_back s p e b.by is hr.f hr.takes_it (Version n) hr.told peer on), old.old)
 
   pub old_on : v.phase ≡ Next → e.sent ≡ [] → IsTalking e.kind → (peer : ℕ) × Old t v.version peer × ((knows_enough s (state_of s p) v ≡ true) ⊎ (next_of s (state_of s p) v ≡ Some peer))
   old_on at none k = next_old t b.by.made at b.by.does (talks k none) (silent none)
@@ -178,7 +179,7 @@ module _ (s : SetUp) (p : List Entry) (e : Entry) (h : OwnPast s (e ∷ p)) (is 
   old_next : (n : ℕ) → v.phase ≡ Next → e.sent ≡ [] → n ≡ v.version → IsTalking e.kind → DropStands r (e ∷ p) (running v) (refusals.OldProtocol n)
   old_next n at none same k =
       let z = old_on at none k in
-      let told = versions_told s p before.run v runs z.1.old in
+      let told = versions_told reads_back s p before.run v runs z.1.old in
       let target : target_in r (running v) ≡ told.0 = target_at told.0 (remote_target r v told.0 z.1.side told.1) in (
         subst (λ m. Hears (e ∷ p) r v.number (target_in r (running v)) (Says (Version m))) (sym same)
             (subst (λ q. Hears (e ∷ p) r v.number q (Says (Version v.version))) (sym target) (hears_grows r e p (running v) told.0 (Says (Version v.version)) told.2)),
@@ -190,7 +191,7 @@ module _ (s : SetUp) (p : List Entry) (e : Entry) (h : OwnPast s (e ∷ p)) (is 
   fault_now part k later = (
     failed k,
     λ remote.
-        let read = (at_targets s p before v runs).1 part (later (sym (side_is v) ∙ remote)) in
+        let read = (at_targets reads_back s p before v runs).1 part (later (sym (side_is v) ∙ remote)) in
         and_off (is_of r e) (is_step v.number e.kind) (in_drop p r v.number) (option_is_none (before_step p r v.number)) (ap option_is_none read.1),
   )
 
@@ -207,7 +208,7 @@ module _ (s : SetUp) (p : List Entry) (e : Entry) (h : OwnPast s (e ∷ p)) (is 
       let part = only_offer v.part peer (subst (Fits v.part) at fits) in
       let busy = busy_text t hr.f peer peer text at part hr.told (subst (λ (m : Made). Silent m) (took hr.f hr.takes_it peer on) (silent hr.sends_none)) in
       let same : text ≡ codes "busy" = elim (bytes_eq_tells text (codes "busy")) [ inl y ↦ y.1 | inr y ↦ absurd (let both : true ≡ false = sym busy ∙ y.0 in cc) ] in
-      let a = answers_now s p e b.by is before hr.f hr.takes_it (Error text) (λ m. m ≡ Put [] v.what.key) hr.told busy peer on
+      let a = answers_now reads_back s p e b.by is before hr.f hr.takes_it (Error text) (λ m. m ≡ Put [] v.what.key) hr.told busy peer on
       (λ last l. let y = subst (λ (q : Phase). LastIs v.what.key v.what.peer q peer last) at l refl in (y.0, Put [] v.what.key, refl, y.1)) in
       (peer, copies_in_place s p before.run v runs part peer on, subst (λ z. Answers (e ∷ p) r v.number peer (Says (Put [] v.what.key)) (Says (Error z))) same (subst (λ m. Answers (e ∷ p) r v.number peer (Says m) (Says (Error text))) a.1 a.2))
 
@@ -215,7 +216,7 @@ module _ (s : SetUp) (p : List Entry) (e : Entry) (h : OwnPast s (e ∷ p)) (is 
       → ((last : Option Request) → LastIs v.what.key v.what.peer v.phase peer last → (time : ℕ) × (asked : Message) × P asked × (last ≡ Some (request time (Some asked))))
       → TransferStands r (e ∷ p) (running v) failures.Rejected
   rejected_now peer P which part on hr last =
-      let a = answers_now s p e b.by is before hr.f hr.takes_it Failure P hr.told refl peer on last in
+      let a = answers_now reads_back s p e b.by is before hr.f hr.takes_it Failure P hr.told refl peer on last in
       (peer, copies_in_place s p before.run v runs part peer on, a.0, which a.0 a.1, a.2)
 
   transfer_now : (refusal : TransferRefusal) → TransferReason (rows_at p r) v e e.kind refusal → TransferStands r (e ∷ p) (running v) refusal
@@ -242,7 +243,7 @@ module _ (s : SetUp) (p : List Entry) (e : Entry) (h : OwnPast s (e ∷ p)) (is 
       let remote : side_in (running v) ≡ Remote = subst (Stands r p (running v)) at was in
       let part = only_orders v.part (subst (Fits v.part) at fits) in
       let peer_is : v.what.peer ≡ Some (Jobs.target_of r v) = target_peer s v (aims s p before.run v runs) part (sym (side_is v) ∙ remote) in
-      let a = answers_now s p e b.by is before hr.f hr.takes_it Failure (λ m. (d : Option ℕ) × (m ≡ order_of d v.what.key)) hr.told refl (Jobs.target_of r v) (ap (partner v.what.peer) at ∙ peer_is)
+      let a = answers_now reads_back s p e b.by is before hr.f hr.takes_it Failure (λ m. (d : Option ℕ) × (m ≡ order_of d v.what.key)) hr.told refl (Jobs.target_of r v) (ap (partner v.what.peer) at ∙ peer_is)
       (λ last l. let y = subst (λ (q : Phase). LastIs v.what.key v.what.peer q (Jobs.target_of r v) last) at l peer_is in (y.0, order_of y.1 v.what.key, (y.1, refl), y.2)) in
       let now : RefusedNow hr.f (Jobs.target_of r v) a.0 = (a.2, a.3, a.4) in
       (a.1.0, subst (λ q. RefusedNow hr.f q (order_of a.1.0 v.what.key)) (sym (target_is r v)) (subst (RefusedNow hr.f (Jobs.target_of r v)) a.1.1 now))
@@ -267,16 +268,16 @@ module _ (s : SetUp) (p : List Entry) (e : Entry) (h : OwnPast s (e ∷ p)) (is 
   )
 
   pub stands_now : (phase : Phase) → Reason (rows_at p r) r v e e.kind phase → Stands r (e ∷ p) (running v) phase
-  stands_now AsksTime z = side_is v ∙ time_remote s p (h.run.0 is).0 e before.run (h.run.0 is).1 x b fits z
-  stands_now Orders z = side_is v ∙ order_remote s p (h.run.0 is).0 e before.run (h.run.0 is).1 x b fits z.0 z.1 z.2
+  stands_now AsksTime z = side_is v ∙ time_remote reads_back s p (h.run.0 is).0 e before.run (h.run.0 is).1 x b fits z
+  stands_now Orders z = side_is v ∙ order_remote reads_back s p (h.run.0 is).0 e before.run (h.run.0 is).1 x b fits z.0 z.1 z.2
   stands_now Denied z = denied_now z.0 z.1
   stands_now (Late time) z = late_now time z.1.0 z.0 z.1.1 z.2
   stands_now (Ends outcome) z = outcome_now outcome z
   stands_now phase z = tt
 
 -- **why it stands refused**
-pub stands : (s : SetUp) (past : List Entry) → OwnPast s past → (w : Work) → Member w (works past s.number) → Stands s.number past (running w) w.phase
-stands s past h w m = invariant s (λ p x. OwnPast s p → Stands s.number p (running x) x.phase) (λ p e is x n was h. stands_grows s.number e p (running x) x.phase (was (earlier s p e h))) own past h.run w m h
+pub stands : SentAreRead → (s : SetUp) (past : List Entry) → OwnPast s past → (w : Work) → Member w (works past s.number) → Stands s.number past (running w) w.phase
+stands reads_back s past h w m = invariant s (λ p x. OwnPast s p → Stands s.number p (running x) x.phase) (λ p e is x n was h. stands_grows s.number e p (running x) x.phase (was (earlier s p e h))) own past h.run w m h
   where
     own : (p : List Entry) (e : Entry) → OwnRun s (e ∷ p) → is_of s.number e ≡ true → ((x : Work) → Member x (works p s.number) → OwnPast s p → Stands s.number p (running x) x.phase)
         → (x : Work) → Origin s p e x → OwnPast s (e ∷ p) → Stands s.number (e ∷ p) (running x) x.phase
@@ -288,6 +289,6 @@ stands s past h w m = invariant s (λ p x. OwnPast s p → Stands s.number p (ru
         let y = work_kind (rows_at p s.number) s.number v e e.kind in
         let new : Stands s.number (e ∷ p) (running v) y.phase = elim (kind_reason (rows_at p s.number) s.number v e e.kind) [
           | inl same ↦ subst (Stands s.number (e ∷ p) (running v)) (sym same) (stands_grows s.number e p (running v) v.phase old)
-          | inr reason ↦ stands_now s p e h is x b old y.phase reason
+          | inr reason ↦ stands_now reads_back s p e h is x b old y.phase reason
         ] in
         subst (λ (j : Running). Stands s.number (e ∷ p) j x.phase) (sym (same_job s p e x b)) (subst (λ (z : Work). Stands s.number (e ∷ p) (running v) z.phase) (sym b.work_is) new)

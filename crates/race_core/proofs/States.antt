@@ -8,12 +8,13 @@ use Rattle.annex_base.specs.Settings.{Settings}
 use Rattle.annex_base.proofs.Conditions.{eqb_refl}
 use Rattle.annex_base.proofs.Lists.{find_member}
 use Rattle.annex_base.proofs.Functions.{funext}
+use Rattle.race_core.proofs.Below.{SentAreRead, LogLaws}
 use Rattle.trust_groups.specs.Settings.{settings}
 use Rattle.run_data.specs.declared.entry.Entry.{Entry}
 use Rattle.run_data.specs.declared.entry.EntryKind.{EntryKind}
 use Rattle.run_data.specs.declared.entry.EntryKind.TheVariants.{Log, Compact}
 use Rattle.run_model.specs.Past.{begun, is_of}
-use Rattle.run_model.specs.Logs.{before_step, is_step, kept, read_at, settings_of}
+use Rattle.run_model.specs.Logs.{before_step, is_step, lines_of_file, read_at, settings_of}
 use Rattle.race_core.proofs.LogLemmas.{kept_reads_as_ever}
 use Rattle.node_model.specs.SetUp.{SetUp}
 use Rattle.node_model.specs.State.{State}
@@ -97,7 +98,7 @@ step_lines j kind path was lines step = refl
 unread_is : (past : List Entry) (r j : ℕ) → before_step past r j ≡ None → settings_of (read_at past r j) r ≡ settings_of past r
 unread_is past r j none = ap (λ (o : Option (List Entry)). settings_of (unwrap_or o past) r) none
 
-module _ (s : SetUp) (past : List Entry) (e : Entry) (h : OwnPast s (e ∷ past)) (is : is_of s.number e ≡ true) where
+module _ (log_laws : LogLaws) (reads_back : SentAreRead) (s : SetUp) (past : List Entry) (e : Entry) (h : OwnPast s (e ∷ past)) (is : is_of s.number e ≡ true) where
   abbrev r : ℕ
   r = s.number
 
@@ -111,7 +112,7 @@ module _ (s : SetUp) (past : List Entry) (e : Entry) (h : OwnPast s (e ∷ past)
   before = earlier s past e h
 
   now_is : settings_of (e ∷ past) r ≡ now'
-  now_is = sym (kept_reads_as_ever (e ∷ past) r) ∙ ap settings (kept_after past r e is)
+  now_is = sym (kept_reads_as_ever log_laws (e ∷ past) r) ∙ ap settings (kept_after log_laws past r e is)
 
   -- what the state after it has, by the work before it
   by_work : (j : ℕ) (o : Option Work) → find (λ x. x.number == j) (works past r) ≡ o → (state_after s st e).read j ≡ read_after now' (st.read j) o
@@ -129,16 +130,16 @@ module _ (s : SetUp) (past : List Entry) (e : Entry) (h : OwnPast s (e ∷ past)
   -- it has read before
   reads_then : (w : Work) → Member w (works past r) → w.part ≡ Drops → is_fresh w.phase ≡ false → settings_of (read_at (e ∷ past) r w.number) r ≡ (state_after s st e).read w.number
   reads_then w m part later =
-      stays_read past e r w.number ((at_targets s past before w m).1 part later)
+      stays_read past e r w.number ((at_targets reads_back s past before w m).1 part later)
       ∙ sym (by_work w.number (Some w) (found_is s past before w m w.number refl) ∙ rw (ap (λ p. has_read p w.phase) part ∙ drops_read w.phase later) refl)
 
   -- it reads by this entry, the first step of its drop
   reads_first : (w : Work) → Member w (works past r) → w.part ≡ Drops → is_fresh w.phase ≡ true → is_step w.number e.kind ≡ true
       → settings_of (read_at (e ∷ past) r w.number) r ≡ (state_after s st e).read w.number
   reads_first w m part fresh step =
-      ap (λ p. settings_of p r) (step_read past e r w.number is step ((at_targets s past before w m).0 part)).1
-      ∙ unread_is past r w.number (fresh_unread s past before.run w m part fresh) ∙ sym (kept_reads_as_ever past r)
-      ∙ ap settings (sym (funext (λ path. lines_after path (kept past r path) e.kind e.lines) (kept past r) (λ path. step_lines w.number e.kind path (kept past r path) e.lines step)))
+      ap (λ p. settings_of p r) (step_read past e r w.number is step ((at_targets reads_back s past before w m).0 part)).1
+      ∙ unread_is past r w.number (fresh_unread s past before.run w m part fresh) ∙ sym (kept_reads_as_ever log_laws past r)
+      ∙ ap settings (sym (funext (λ path. lines_after path (lines_of_file past r path) e.kind e.lines) (lines_of_file past r) (λ path. step_lines w.number e.kind path (lines_of_file past r path) e.lines step)))
       ∙ sym (by_work w.number (Some w) (found_is s past before w m w.number refl) ∙ rw (fresh_reads w.part w.phase (inr fresh)) refl)
 
   by_origin : (w : Work) → Origin s past e w → w.part ≡ Drops → settings_of (read_at (e ∷ past) r w.number) r ≡ (state_after s st e).read w.number
@@ -178,7 +179,7 @@ module _ (s : SetUp) (past : List Entry) (e : Entry) (h : OwnPast s (e ∷ past)
 
   -- **the state after an entry agrees with what the past says then**
   pub after_agrees : Agrees (state_of s (e ∷ past)) (state_after s (state_of s past) e)
-  after_agrees = record { same = after_is s past e is; reads = λ w m part. by_origin w (origin s past e h.run is w m) part }
+  after_agrees = record { same = after_is log_laws s past e is; reads = λ w m part. by_origin w (origin s past e h.run is w m) part }
 
 -- ---- states that agree do so after an entry too
 
@@ -207,14 +208,14 @@ after_same s st other e agrees =
                 subst (λ n. st.read n ≡ other.read n) (eqb-true w.number j was.1) (agrees.reads w (subst (Member w) (sym works_same) was.0) (read_drops w.part w.phase is))
 
 -- **the state that is carried over a repository's own entries agrees with what the past says**
-pub states_agree : (s : SetUp) (past : List Entry) → OwnPast s past → Agrees (state_of s past) (states s (own s.number past))
-states_agree s [] h = record { same = refl; reads = λ w m. absurd m }
-states_agree s (e ∷ past) h = go (states_agree s past (earlier s past e h)) (is_of s.number e) refl
+pub states_agree : LogLaws → SentAreRead → (s : SetUp) (past : List Entry) → OwnPast s past → Agrees (state_of s past) (states s (own s.number past))
+states_agree log_laws reads_back s [] h = record { same = refl; reads = λ w m. absurd m }
+states_agree log_laws reads_back s (e ∷ past) h = go (states_agree log_laws reads_back s past (earlier s past e h)) (is_of s.number e) refl
   where
     go : Agrees (state_of s past) (states s (own s.number past)) → (b : Bool) → is_of s.number e ≡ b → Agrees (state_of s (e ∷ past)) (states s (if b then e ∷ own s.number past else own s.number past))
-    go was true is = subst (Agrees (state_of s (e ∷ past))) (after_same s (state_of s past) (states s (own s.number past)) e was) (after_agrees s past e h is)
+    go was true is = subst (Agrees (state_of s (e ∷ past))) (after_same s (state_of s past) (states s (own s.number past)) e was) (after_agrees log_laws reads_back s past e h is)
     go was false is = subst (λ st. Agrees st (states s (own s.number past))) (sym (other_is s past e is)) was
 
 -- **so a step is one from the state that is carried**
-pub step_states : (s : SetUp) (past : List Entry) (k : Look) → OwnPast s past → step s (state_of s past) k ≡ step s (states s (own s.number past)) k
-step_states s past k h = step_same s (state_of s past) (states s (own s.number past)) k (works_fit s past h.run) (states_agree s past h)
+pub step_states : LogLaws → SentAreRead → (s : SetUp) (past : List Entry) (k : Look) → OwnPast s past → step s (state_of s past) k ≡ step s (states s (own s.number past)) k
+step_states log_laws reads_back s past k h = step_same s (state_of s past) (states s (own s.number past)) k (works_fit s past h.run) (states_agree log_laws reads_back s past h)

@@ -5,6 +5,7 @@ use Rattle.annex_base.specs.Lists.{Member}
 use Rattle.annex_base.specs.Settings.{Settings}
 use Rattle.annex_base.specs.declared.kinds.Call.TheVariants.{Unhold}
 use Rattle.annex_base.proofs.Conditions.{eqb_refl}
+use Rattle.race_core.proofs.Below.{SentAreRead}
 use Rattle.drop_proof.specs.declared.evidence.Evidence.{Evidence}
 use Rattle.drop_proof.specs.declared.rule.Need.{Need}
 use Rattle.drop_proof.specs.declared.rule.Side.TheVariants.{Remote}
@@ -21,7 +22,7 @@ use Rattle.run_model.specs.Past.{Occurs, clock, clock_set, is_of}
 use Rattle.node_model.specs.Slots.{Running}
 use Rattle.run_data.specs.Repos.{id_of}
 use Rattle.run_model.specs.Logs.{read_at, settings_of}
-use Rattle.node_model.specs.Evidence.{candidates, gather, reached, standing_by}
+use Rattle.node_model.specs.Evidence.{candidates, gather, reached_candidates, standing_by}
 use Rattle.node_model.specs.SetUp.{SetUp}
 use Rattle.node_model.specs.State.{State}
 use Rattle.run_model.specs.States.{state_of, rows_at, works}
@@ -58,7 +59,7 @@ known_of s clock read what heard =
     let side = Jobs.drop_side what.kind what.peer in
     let need : Need = record { n = read.numcopies; m = read.mincopies } in
     gather side need (λ c. offer_by clock (standing_by read what.key (id_of s.repos c)) (told_of heard c))
-    (reached (λ c. is_unasked (standing_by read what.key (id_of s.repos c)) (told_of heard c)) (candidates side (length s.repos) s.number (Jobs.or_own s.number side what.peer))) []
+    (reached_candidates (λ c. is_unasked (standing_by read what.key (id_of s.repos c)) (told_of heard c)) (candidates side (length s.repos) s.number (Jobs.or_own s.number side what.peer))) []
 
 known_is : (s : SetUp) (st : State) (w : Work) → known s st w ≡ known_of s st.clock (st.read w.number) w.what w.heard
 unfolding standing_of
@@ -124,7 +125,7 @@ knew_kept s past w e w' (Late time) same k = (k.0, knew_same s past w (e ∷ pas
 knew_kept s past w e w' (Ends (Refused (refusals.OldProtocol n))) same k = (k.0, knew_same s past w (e ∷ past) w' k.0 (λ part. same part refl) k.1)
 knew_kept s past w e w' phase same k = tt
 
-module _ (s : SetUp) (p : List Entry) (e : Entry) (h : OwnPast s (e ∷ p)) where
+module _ (reads_back : SentAreRead) (s : SetUp) (p : List Entry) (e : Entry) (h : OwnPast s (e ∷ p)) where
   abbrev before : OwnPast s p
   before = earlier s p e h
 
@@ -134,7 +135,7 @@ module _ (s : SetUp) (p : List Entry) (e : Entry) (h : OwnPast s (e ∷ p)) wher
     part_is = λ d. d;
     number_is = refl;
     set = set;
-    read = stays_read p e s.number w.number ((at_targets s p before w m).1 part later);
+    read = stays_read p e s.number w.number ((at_targets reads_back s p before w m).1 part later);
     what = refl;
     heard = refl;
   }
@@ -167,7 +168,7 @@ module _ (s : SetUp) (p : List Entry) (e : Entry) (h : OwnPast s (e ∷ p)) wher
       number_is = step_number s p e x b;
       set = set_same;
       read = ap (λ n. settings_of (read_at (e ∷ p) s.number n) s.number) (step_number s p e x b)
-          ∙ ap (λ q. settings_of q s.number) (step_read p e s.number v.number is b.step ((at_targets s p before v runs).0 part)).1;
+          ∙ ap (λ q. settings_of q s.number) (step_read p e s.number v.number is b.step ((at_targets reads_back s p before v runs).0 part)).1;
       what = ap (λ (j : Running). j.what) same_job;
       heard = heard;
     }
@@ -177,7 +178,7 @@ module _ (s : SetUp) (p : List Entry) (e : Entry) (h : OwnPast s (e ∷ p)) wher
 
     -- it knows enough where it stands at its target
     enough_at : v.part ≡ Drops → side_of v ≡ Remote → at_target (target_of s.number v) v.phase ≡ true → knows_enough s (state_of s p) v ≡ true
-    enough_at part side at = (at_targets s p before v runs).2 part side (other_target s v (aims s p before.run v runs) part side) at
+    enough_at part side at = (at_targets reads_back s p before v runs).2 part side (other_target s v (aims s p before.run v runs) part side) at
 
     kind : JobKind t b.by.made e.kind
     kind = step_kind s p e x b
@@ -185,7 +186,7 @@ module _ (s : SetUp) (p : List Entry) (e : Entry) (h : OwnPast s (e ∷ p)) wher
     late_now : (time : ℕ) (owner : By) → x.phase ≡ Late time → v.phase ≡ AsksTime → e.kind ≡ Fault Unhold owner → time ≡ e.time → KnewAt s (e ∷ p) x (Late time)
     late_now time owner to at k same =
         let part = only_time v.part (subst (Fits v.part) at fits) in
-        let remote : side_of v ≡ Remote = sym (side_is v) ∙ subst (Stands s.number p (running v)) at (stands s p before v runs) in
+        let remote : side_of v ≡ Remote = sym (side_is v) ∙ subst (Stands s.number p (running v)) at (stands reads_back s p before v runs) in
         let peer : v.what.peer ≡ Some (target_of s.number v) = target_peer s v (aims s p before.run v runs) part remote in
         let late : TooLate t = subst (LateBy t) (sym (ap (λ (y : Entry). y.kind) b.by.is) ∙ k) (time_late_by t b.by.made (target_of s.number v) at part peer b.by.does) in
         let knew : Knew s p v late.end = record { part_is = part; enough = enough_at part remote (subst (λ q. at_target (target_of s.number v) q ≡ true) (sym at) refl); first = late.first } in
@@ -215,12 +216,12 @@ module _ (s : SetUp) (p : List Entry) (e : Entry) (h : OwnPast s (e ∷ p)) wher
 
     old_now : (n : ℕ) → x.phase ≡ Ends (Refused (refusals.OldProtocol n)) → DropReason (rows_at p s.number) s.number v e e.kind (refusals.OldProtocol n) → KnewAt s (e ∷ p) x (Ends (Refused (refusals.OldProtocol n)))
     old_now n to (k, inl z) =
-        let st = stands s p before v runs in
-        let old = old_at s p e h is x b st n z.0 z.1 z.2 k in
+        let st = stands reads_back s p before v runs in
+        let old = old_at reads_back s p e h is x b st n z.0 z.1 z.2 k in
         old_knew n n z.0 to old (enough_at old.part_is old.side (subst (λ q. at_target (target_of s.number v) q ≡ true) (sym z.1) (subst (λ q. (q == target_of s.number v) ≡ true) old.target_is (eqb_refl (target_of s.number v)))))
     old_now n to (k, inr z) =
-        let st = stands s p before v runs in
-        let old = old_on s p e h is x b st z.0 z.2 k in
+        let st = stands reads_back s p before v runs in
+        let old = old_on reads_back s p e h is x b st z.0 z.2 k in
         old_knew n v.version old.0 to old.1 (chosen_enough old.0 v.version old.1 old.2)
 
     knew_now : (phase : Phase) → x.phase ≡ phase → Reason (rows_at p s.number) s.number v e e.kind phase → KnewAt s (e ∷ p) x phase
@@ -239,11 +240,11 @@ module _ (s : SetUp) (p : List Entry) (e : Entry) (h : OwnPast s (e ∷ p)) wher
         stays same (inr heard) = subst (KnewAt s (e ∷ p) x) (sym same) (knew_kept s p v e x v.phase (λ part later. step_reads heard part) was)
 
 -- **what it knew stands**
-pub knew : (s : SetUp) (past : List Entry) → OwnPast s past → (w : Work) → Member w (works past s.number) → KnewAt s past w w.phase
-knew s past h w m = invariant s (λ p x. OwnPast s p → KnewAt s p x x.phase) (λ p e is x n was h. knew_kept s p x e x x.phase (still_read s p e h (clock_other s.repos p s.number e is) x n) (was (earlier s p e h))) own past h.run w m h
+pub knew : SentAreRead → (s : SetUp) (past : List Entry) → OwnPast s past → (w : Work) → Member w (works past s.number) → KnewAt s past w w.phase
+knew reads_back s past h w m = invariant s (λ p x. OwnPast s p → KnewAt s p x x.phase) (λ p e is x n was h. knew_kept s p x e x x.phase (still_read reads_back s p e h (clock_other s.repos p s.number e is) x n) (was (earlier s p e h))) own past h.run w m h
   where
     own : (p : List Entry) (e : Entry) → OwnRun s (e ∷ p) → is_of s.number e ≡ true → ((x : Work) → Member x (works p s.number) → OwnPast s p → KnewAt s p x x.phase)
         → (x : Work) → Origin s p e x → OwnPast s (e ∷ p) → KnewAt s (e ∷ p) x x.phase
     own p e run is was x (inl b) h = subst (λ (y : Work). KnewAt s (e ∷ p) y y.phase) (sym b.work_is) tt
-    own p e run is was x (inr (inl b)) h = knew_kept s p x e x x.phase (still_read s p e h (clock_kept s.repos p s.number e b.no_crash) x b.ran) (was x b.ran (earlier s p e h))
-    own p e run is was x (inr (inr b)) h = knew_step s p e h is x b (was b.by.w (step_runs s p e x b) (earlier s p e h))
+    own p e run is was x (inr (inl b)) h = knew_kept s p x e x x.phase (still_read reads_back s p e h (clock_kept s.repos p s.number e b.no_crash) x b.ran) (was x b.ran (earlier s p e h))
+    own p e run is was x (inr (inr b)) h = knew_step reads_back s p e h is x b (was b.by.w (step_runs s p e x b) (earlier s p e h))

@@ -34,7 +34,7 @@ use Rattle.node_model.specs.Look.{Look, Made, failing, waiting}
 use Rattle.node_model.specs.SessionStep.{bytes_left}
 use Rattle.node_model.specs.Knows.{enough_by, next_by}
 use Rattle.node_model.specs.JobStep.{Turn, hears, turn_of, attempts, bar_there, by_me, clock_of, end_with, ends, farewells, is_there, key_of, me, owns_share, quietly, says_to, sends_to, talk, wrong}
-use Rattle.node_model.specs.DropStep.{takes_drop, takes_time, asks_copy, asks_lock, asks_target, bars, expired, first_drop, first_end, first_remote, held_until, in_time, lacking, orders, own_share, removes, required_there, row_refusal, shares, target, times, tries_own}
+use Rattle.node_model.specs.DropStep.{takes_drop, takes_time, asks_copy, asks_lock, asks_target, bars, expiry, first_drop, first_end, first_remote, held_until, in_time, lacking, orders, own_share, removes, required_there, row_refusal, shares, target, times, tries_own}
 use Rattle.node_model.specs.Requests.{asks, goes_to}
 use Rattle.node_model.specs.TransferStep.{takes_get, takes_put, content_of, first_get, first_put, gains, next_get, next_source, puts_from, puts_piece, takes_bytes}
 use Rattle.node_model.specs.Turns.{takes_answer, awaits, by_partner, goes_on, has_room, needs, slot_step, with_partner, is_awaiting, first_step, goes, judges, next_step, outcome_of, takes, takes_frame, takes_text}
@@ -264,9 +264,9 @@ goes_to_talks t peer at =
 
 gone_talks : (t : Turn) → Talks t (removes t)
 gone_talks t =
-    if_either (Talks t) (in_time (clock_of t) (first_end t)) (attempts t (calls.Remove ∷ []) None (quietly (Gone (by_me t) (key_of t)) None)) (ends t None (expired (clock_of t) (first_end t)))
+    if_either (Talks t) (in_time (clock_of t) (first_end t)) (attempts t (calls.Remove ∷ []) None (quietly (Gone (by_me t) (key_of t)) None)) (ends t None (expiry (clock_of t) (first_end t)))
     (λ e. attempts_talks t (calls.Remove ∷ []) None (quietly (Gone (by_me t) (key_of t)) None) tt)
-    (λ e. ends_talks t None (expired (clock_of t) (first_end t)))
+    (λ e. ends_talks t None (expiry (clock_of t) (first_end t)))
 
 judges_talks : (t : Turn) → t.w.phase ≡ Next → (enough : Bool) (next : Option ℕ) (side : Side)
     → enough_by t.read t.w ≡ enough → next_by t.read t.w ≡ next → side_of t.w ≡ side → Talks t (judges t enough next side)

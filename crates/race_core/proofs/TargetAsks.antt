@@ -2,6 +2,7 @@
 use Rattle.std.proofs.Common.{◌≡◌, ◌≢◌, ℕ, List, [], ◌∷◌, Option, Some, None, inl, inr, refl, sym, ap, ◌∙◌, subst}
 use Rattle.annex_base.specs.Lists.{Member}
 use Rattle.annex_base.specs.declared.kinds.Word.{Word}
+use Rattle.race_core.proofs.Below.{SentAreRead}
 use Rattle.drop_proof.specs.declared.rule.Side.{Side}
 use Rattle.drop_proof.specs.declared.rule.Side.TheVariants.{Local, Remote}
 use Rattle.run_data.specs.declared.entry.Entry.{Entry}
@@ -121,12 +122,12 @@ to_target t m e kind k talk sent goes_on x = absurd k
 first_member : (e : Entry) (m : Message) (x : SaysFirst e m) → Member x.f e.sent
 first_member e m x = subst (Member x.f) (sym x.sent_is) (inl refl)
 
-module _ (s : SetUp) (past : List Entry) (words : ℕ → Option Word) (e : Entry) (run : OwnRun s past) (own : OwnPart s past words e) (w : Work) (b : Steps s past e w) (fits : Fits b.by.w.part b.by.w.phase) where
+module _ (reads_back : SentAreRead) (s : SetUp) (past : List Entry) (words : ℕ → Option Word) (e : Entry) (run : OwnRun s past) (own : OwnPart s past words e) (w : Work) (b : Steps s past e w) (fits : Fits b.by.w.part b.by.w.phase) where
   pub time_remote : SaysFirst e GetTimestamp → side_of b.by.w ≡ Remote
   time_remote x =
       let t = turn_at s past e b.by in
       let at = to_target t b.by.made e e.kind (step_kind s past e w b) (step_talk s past e w b fits) (step_sent s past e w b) b.goes_on x in
-      remote_by s b.by.w (λ same. other_apart s x.f.peer (job_sends_to s past words e run own b.by x.f (first_member e GetTimestamp x)) (at ∙ same))
+      remote_by s b.by.w (λ same. other_apart s x.f.peer (job_sends_to reads_back s past words e run own b.by x.f (first_member e GetTimestamp x)) (at ∙ same))
 
   pub order_remote : (deadline : Option ℕ) (key : List ℕ) → SaysFirst e (order_of deadline key) → side_of b.by.w ≡ Remote
   order_remote deadline key x =

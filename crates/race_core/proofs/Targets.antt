@@ -34,7 +34,7 @@ use Rattle.p2p_wire.specs.declared.message.Message.{Message}
 use Rattle.p2p_wire.specs.declared.message.Message.TheVariants.{Failure, GetTimestamp, Remove, RemoveBefore, Success, Version, CheckPresent, LockContent}
 use Rattle.p2p_wire.specs.Messages.{message_of, order_of, text_of}
 use Rattle.node_model.specs.Jobs
-use Rattle.node_model.specs.Jobs.{AsksLock, AsksLook, AsksTime, Drops, Ends, Fresh, Gets, GetsBytes, GetsData, Greets, Next, Opens, Orders, Part, Phase, Puts, PutsAnswer, PutsBytes, PutsOffer, Rows, Work, claims, closed_part, fault_of, fault_phase, first_look, hears_frame, job_end, learns, listens, quiet, says, says_some, sends, side_of, talks, talks_on, target_of, to_phase, took, took_line, unreleased, work_kind}
+use Rattle.node_model.specs.Jobs.{AsksLock, AsksLook, AsksTime, Drops, Ends, Fresh, Gets, GetsBytes, GetsData, Greets, Next, Opens, Orders, Part, Phase, Puts, PutsAnswer, PutsBytes, PutsOffer, Rows, Work, claims, closed_part, fault_of, fault_phase, first_look, hears_frame, job_end, learns, listens, quiet, says, says_some, sends, side_of, talks, talks_on, target_of, to_phase, took, took_line, after_failed_release, work_kind}
 use Rattle.node_model.specs.Knows.{enough_by, next_by, Reading, asks_by}
 use Rattle.node_model.specs.JobStep.{Turn, me}
 use Rattle.node_model.specs.DropStep.{target}
@@ -144,8 +144,8 @@ module _ (n : ℕ) (P : Type 0) where
   fault_comes r w Drops Remote Fresh = away w (fault_phase r w Drops Remote Fresh) refl
   fault_comes r w part side phase = away w (to_phase w (Ends (Jobs.stores_fault w.part))) refl
 
-  unreleased_comes : (w : Work) (time : ℕ) (phase : Phase) → Comes n P w (unreleased w time phase)
-  unreleased_comes w time AsksTime = away w (unreleased w time AsksTime) refl
+  unreleased_comes : (w : Work) (time : ℕ) (phase : Phase) → Comes n P w (after_failed_release w time phase)
+  unreleased_comes w time AsksTime = away w (after_failed_release w time AsksTime) refl
   unreleased_comes w time phase = stays w
 
   call_comes : (r : ℕ) (w : Work) (time : ℕ) (call : Call) → Comes n P w (fault_of r w time call)

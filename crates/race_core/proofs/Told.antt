@@ -20,7 +20,7 @@ use Rattle.node_model.specs.Rows.{option_is}
 use Rattle.p2p_wire.specs.declared.message.Message.TheVariants.{CheckPresent, LockContent, Success}
 use Rattle.run_model.specs.Said.{Said, Says, message_in, is_request}
 use Rattle.race_core.proofs.Ways.{is_answer, way_from, down_of, answers}
-use Rattle.run_model.specs.Frames.{Way, Flying, MayTake, Sent, is_on, is_job, on_way, sender, sender_of, sent, sent_of, taker_of, taken, taken_if, takes, way_of, up_of, last_request}
+use Rattle.run_model.specs.Frames.{Way, Flying, MayTake, Sent, is_on, is_job, on_way, sender, sender_of, frames_sent, sent_of, taker_of, taken_count, taken_if, takes, way_of, up_of, last_request}
 use Rattle.node_model.specs.Slots.{job_of}
 use Rattle.node_model.specs.Ends.{same_bool}
 use Rattle.run_model.specs.Drops.{Asker, Vouch, Lock, Look, asked_at, asker, asker_by, asker_of, is_asker, newer, reply, tells, told_by, vouch, vouch_kind}
@@ -260,7 +260,7 @@ some_option (Some m) r h = ap (λ x. Some x) (eqb-true m r h)
 pub up_at : (w : Way) (x : Entry) (g : FrameView) (b : Bool) → Member g (on_way w x) → w.up ≡ b → g.up ≡ b
 up_at w x g b m h = (on_parts w (taker_of w) g (sends_on w x g m)).up_is ∙ h
 
-pub sender_at : (past : List Entry) (r : ℕ) (o : Option FrameView) (f : FrameView) (it : Flying) → o ≡ Some f → slice_get (sent past (way_of r f)) (taken past (way_of r f)) ≡ Some it → sender past r o ≡ Some (sent_of it)
+pub sender_at : (past : List Entry) (r : ℕ) (o : Option FrameView) (f : FrameView) (it : Flying) → o ≡ Some f → slice_get (frames_sent past (way_of r f)) (taken_count past (way_of r f)) ≡ Some it → sender past r o ≡ Some (sent_of it)
 sender_at past r o f it h k = ap (λ x. sender past r x) h ∙ ap (λ x. option_map sent_of x) k
 
 pub message_at : (b c : FrameText) (m : Said) → b ≡ c → message_in c ≡ m → message_in b ≡ m
@@ -281,7 +281,7 @@ granted repos past e a j r f k t up success =
     let w = way_of a f in
     let x = t.it.entry in
     let before = t.it.before in
-    let s = sending past w (taken past w) t.it t.next in
+    let s = sending past w (taken_count past w) t.it t.next in
     let sender_is : sender_of w ≡ r = sender_way a f ∙ k.peer_is in
     let is_r : is_of r x ≡ true = subst (λ q. is_of q x ≡ true) sender_is s.repo_is in
     let own = own_at repos past x before r k.run s.occurs is_r in
@@ -296,7 +296,7 @@ granted repos past e a j r f k t up success =
     subst (λ v. length (answers before v) ≡ taken_if is_request before (up_of w)) way (subst (λ v. length (answers before (way_from r t.it.frame)) ≡ taken_if is_request before v) up_way turn.turn) in
     let awaits = (k.now'.own a k.is).awaits f k.takes_it up (ap is_answer success) in
     let last = right_turn past w f turn.f (prefixes repos past w k.run) (prefixes repos past (up_of w) k.run) (one_answers repos past w k.run) t (ap is_answer success) awaits turn' asked turn.request in
-    let s' = sending before (up_of w) (taken before (up_of w)) asked.it asked.next in
+    let s' = sending before (up_of w) (taken_count before (up_of w)) asked.it asked.next in
     let sender_up : sender_of (up_of w) ≡ a = client_is a f up in
     let is_a : is_of a asked.it.entry ≡ true = subst (λ q. is_of q asked.it.entry ≡ true) sender_up s'.repo_is in
     let o : Occurs past asked.it.entry asked.it.before = occurs_earlier past x asked.it.entry before asked.it.before s.occurs s'.occurs in
@@ -305,7 +305,7 @@ granted repos past e a j r f k t up success =
     let h_request : is_request (message_in asked.it.frame.body) ≡ true = request_at asked.it.frame.body turn.f.body asked.body_is turn.request in
     let job = (own_a.sends asked.it.frame (sends_member (up_of w) asked.it.entry asked.it.frame s'.sends)).request h_up h_request in
     let same : job.0 ≡ j = (k.now'.own a k.is).one_job w (client_is a f up) (uses_taken a f e k.takes_it up) j job.0 asked.it.entry asked.it.before k.job o is_a job.1 (uses_sent w asked.it.entry asked.it.frame s'.sends) in
-    let next : slice_get (sent before (way_of r turn.f)) (taken before (way_of r turn.f)) ≡ Some asked.it = subst (λ v. slice_get (sent before v) (taken before v) ≡ Some asked.it) (sym up_way) asked.next in
+    let next : slice_get (frames_sent before (way_of r turn.f)) (taken_count before (way_of r turn.f)) ≡ Some asked.it = subst (λ v. slice_get (frames_sent before v) (taken_count before v) ≡ Some asked.it) (sym up_way) asked.next in
     record {
       g = turn.f;
       asked = asked.it;
@@ -341,7 +341,7 @@ told_frame repos past e a j r f k = whole
     t = k.now'.frames a f k.is k.takes_it
 
     s : Sending past (way_of a f) t.it
-    s = sending past (way_of a f) (taken past (way_of a f)) t.it t.next
+    s = sending past (way_of a f) (taken_count past (way_of a f)) t.it t.next
 
     is_r : is_of r t.it.entry ≡ true
     is_r = subst (λ q. is_of q t.it.entry ≡ true) (sender_way a f ∙ k.peer_is) s.repo_is

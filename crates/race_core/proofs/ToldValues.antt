@@ -9,6 +9,7 @@ use Rattle.annex_base.specs.Lists.{Each, Member}
 use Rattle.annex_base.specs.declared.kinds.Found.TheVariants as found
 use Rattle.annex_base.specs.declared.kinds.Word.{Word}
 use Rattle.annex_base.proofs.Conditions.{eqb_refl}
+use Rattle.race_core.proofs.Below.{SentAreRead}
 use Rattle.run_data.specs.declared.entry.Entry.{Entry}
 use Rattle.run_data.specs.declared.entry.EntryKind.{EntryKind}
 use Rattle.run_data.specs.declared.entry.EntryKind.TheVariants.{Check, Close, Fault, Talk, End as ends_job}
@@ -25,7 +26,7 @@ use Rattle.run_model.specs.Said.{Said, CloseIt, Says, is_close, message_in}
 use Rattle.run_model.specs.Past.{Always, begun, begun_job, is_of, jobs, present}
 use Rattle.node_model.specs.Slots.{Running, job_of}
 use Rattle.node_model.specs.Rows.{option_is}
-use Rattle.run_model.specs.Frames.{Flying, Sent, is_job, last_request, said_of, sender, sent, sent_of, taken, up_of, way_of}
+use Rattle.run_model.specs.Frames.{Flying, Sent, is_job, last_request, said_of, sender, frames_sent, sent_of, taken_count, up_of, way_of}
 use Rattle.run_model.specs.Logs.{before_step, in_drop, is_step}
 use Rattle.node_model.specs.Look.{first_of}
 use Rattle.run_model.specs.Drops.{cause_by_sender, cause_closed, cause_of_kind, cause_own, cause_said, cause_taken, cause_with, is_first_step, key_in, newer_cause, option_is_none, or_closed, or_fault, shuts, tells_cause, told_cause}
@@ -208,7 +209,7 @@ phase_or : (phase : Phase) → ((p : ℕ) × (phase ≡ AsksLook p)) ⊎ (refuse
 phase_or (AsksLook p) = inl (p, refl)
 phase_or phase = inr refl
 
-module _ (s : SetUp) (past : List Entry) (words : ℕ → Option Word) (e : Entry) (h : OwnPast s past) (own : OwnPart s past words e) where
+module _ (reads_back : SentAreRead) (s : SetUp) (past : List Entry) (words : ℕ → Option Word) (e : Entry) (h : OwnPast s past) (own : OwnPart s past words e) where
   abbrev r : ℕ
   r = s.number
 
@@ -240,7 +241,7 @@ module _ (s : SetUp) (past : List Entry) (words : ℕ → Option Word) (e : Entr
                 phase = p.1;
                 peer = eqb-true f.peer c two.0;
               })
-              | inr n ↦ of_whole None (whole ∙ takes_failure s past h e f down (taken_of s past e x f took) failure from ∙ ap (λ q. cause_if q from) n) tt
+              | inr n ↦ of_whole None (whole ∙ takes_failure reads_back s past h e f down (taken_of s past e x f took) failure from ∙ ap (λ q. cause_if q from) n) tt
             ]
           ]
         where
@@ -266,7 +267,7 @@ module _ (s : SetUp) (past : List Entry) (words : ℕ → Option Word) (e : Entr
 
     heard_so : e ≡ Rattle.node_model.specs.Look.entry_of s.number x.by.look (Rattle.node_model.specs.JobStep.hears (turn_at s past e x.by) x.f)
     heard_so = x.by.is ∙ ap (Rattle.node_model.specs.Look.entry_of s.number x.by.look)
-        (made_as s past e x.by (works_fit s past h.run x.by.w (stepped_runs s past e x.by)) x.f x.took
+        (made_as reads_back s past e x.by (works_fit s past h.run x.by.w (stepped_runs s past e x.by)) x.f x.took
         ∙ look_failure (turn_at s past e x.by) (taken_of s past e x.by x.f x.took).peer x.f x.p x.phase part_is x.told)
 
     -- it is a step of the job
@@ -286,7 +287,7 @@ module _ (s : SetUp) (past : List Entry) (words : ℕ → Option Word) (e : Entr
   partner_not w m c o heard apart on = go w.part refl
     where
       holds : HoldsOf s past w
-      holds = heard_holds s past h w m
+      holds = heard_holds reads_back s past h w m
 
       empty : w.heard ≡ [] → ⊥
       empty none = let bad : None ≡ Some o = sym (ap (λ hs. told_of hs c) none) ∙ heard in cc
@@ -375,12 +376,12 @@ module _ (s : SetUp) (past : List Entry) (words : ℕ → Option Word) (e : Entr
 
 -- ---- an entry that is no step of the job
 
-stays_values : (s : SetUp) (past : List Entry) (words : ℕ → Option Word) (e : Entry) → OwnPast s past → OwnPart s past words e → (w : Work) → Stays s past e w → Values s past w → Values s (e ∷ past) w
-stays_values s past words e h own w b x c apart =
-    value_passed s past words e h own w b.ran (λ step. absurd (true≢false (sym step ∙ b.still))) x c apart
-    (λ other none. elim (lean_or s past words e h own w.number c (sender past s.number e.taken) other) [
+stays_values : SentAreRead → (s : SetUp) (past : List Entry) (words : ℕ → Option Word) (e : Entry) → OwnPast s past → OwnPart s past words e → (w : Work) → Stays s past e w → Values s past w → Values s (e ∷ past) w
+stays_values reads_back s past words e h own w b x c apart =
+    value_passed reads_back s past words e h own w b.ran (λ step. absurd (true≢false (sym step ∙ b.still))) x c apart
+    (λ other none. elim (lean_or reads_back s past words e h own w.number c (sender past s.number e.taken) other) [
       | inl lean ↦ lean
-      | inr z ↦ absurd (true≢false (sym (refused_step s past words e h own w.number c z) ∙ b.still))
+      | inr z ↦ absurd (true≢false (sym (refused_step reads_back s past words e h own w.number c z) ∙ b.still))
     ])
 
 -- ---- a step of the job
@@ -391,7 +392,7 @@ told_first q o list = rw (eqb_refl q) refl
 -- the refused look's sender found no content to see
 abbrev pub LookFit : SetUp → List Entry → Entry → Type 0
 LookFit s past e = (f : FrameView) → e.taken ≡ Some f → f.up ≡ false → message_in f.body ≡ Says Failure → (key : List ℕ) → option_map said_of (last_request past (up_of (way_of s.number f))) ≡ Some (Says (CheckPresent key))
-    → (it : Flying) × (slice_get (sent past (way_of s.number f)) (taken past (way_of s.number f)) ≡ Some it) × (table.refuses_look it.entry.kind ≡ true)
+    → (it : Flying) × (slice_get (frames_sent past (way_of s.number f)) (taken_count past (way_of s.number f)) ≡ Some it) × (table.refuses_look it.entry.kind ≡ true)
 
 look_said : (o : Option Flying) (time : ℕ) (key : List ℕ) → option_map asked_by o ≡ Some (request time (Some (CheckPresent key))) → option_map said_of o ≡ Some (Says (CheckPresent key))
 look_said None time key e = absurd (cc)
@@ -415,7 +416,7 @@ cause_word kind e = absurd (cc)
 abbrev pub DropsUnread : SetUp → Type 0
 DropsUnread s = (past : List Entry) → OwnPast s past → (w : Work) → Member w (works past s.number) → w.part ≡ Drops → w.phase ≡ Fresh → side_of w ≡ Remote → before_step past s.number w.number ≡ None
 
-module _ (s : SetUp) (past : List Entry) (words : ℕ → Option Word) (e : Entry) (h : OwnPast s past) (own : OwnPart s past words e) (is : is_of s.number e ≡ true)
+module _ (reads_back : SentAreRead) (s : SetUp) (past : List Entry) (words : ℕ → Option Word) (e : Entry) (h : OwnPast s past) (own : OwnPart s past words e) (is : is_of s.number e ≡ true)
     (others' : (f : FrameView) → e.taken ≡ Some f → (f.peer == s.number) ≡ false) (fits : LookFit s past e) (unread : DropsUnread s) (x : Work) (b : Steps s past e x) (was : Values s past b.by.w) where
   abbrev v : Work
   v = b.by.w
@@ -445,7 +446,7 @@ module _ (s : SetUp) (past : List Entry) (words : ℕ → Option Word) (e : Entr
       go false other = subst (Value (e ∷ past) rr v.number c) (sym (rw other refl)) (old other)
 
   passed : (c : ℕ) → (target_in rr (running v) == c) ≡ false → ((c == rr) ≡ false → told_of v.heard c ≡ None → Lean (cause_with past e c rr v.number (sender past rr e.taken))) → New v.heard c
-  passed c apart lean = value_passed s past words e h own v runs (λ step. b.goes_on) was c apart lean
+  passed c apart lean = value_passed reads_back s past words e h own v runs (λ step. b.goes_on) was c apart lean
 
   -- a refused look
   by_refused : (c0 : ℕ) (z : RefusedLook s past e v.number c0) (c : ℕ) → (target_in rr (running v) == c) ≡ false → New y.heard c
@@ -467,7 +468,7 @@ module _ (s : SetUp) (past : List Entry) (words : ℕ → Option Word) (e : Entr
       taking = record { on = k.on; awaiting = k.awaiting; opened = k.opened; of_end = k.of_end }
 
       entry : e ≡ Rattle.node_model.specs.Look.entry_of s.number z.by.look (Rattle.node_model.specs.JobStep.hears (turn_at s past e z.by) z.f)
-      entry = heard_so s past words e h own v.number c0 z
+      entry = heard_so reads_back s past words e h own v.number c0 z
 
       of_by : (work_kind (rows_at past rr) rr z.by.w e e.kind).heard ≡ (z.p, Unseen) ∷ z.by.w.heard
       of_by = subst (λ (q : Entry). (work_kind (rows_at past rr) rr z.by.w q q.kind).heard ≡ (z.p, Unseen) ∷ z.by.w.heard) (sym entry)
@@ -481,7 +482,7 @@ module _ (s : SetUp) (past : List Entry) (words : ℕ → Option Word) (e : Entr
       its = stepped_own s past e b.by
 
       sends : e.sent ≡ []
-      sends = refused_sends s past words e h own v.number c0 z
+      sends = refused_sends reads_back s past words e h own v.number c0 z
 
       lean : (z.f.peer == c) ≡ false → (c == rr) ≡ false → Lean (cause_with past e c rr v.number (sender past rr e.taken))
       lean other o = lean_none (cause_with past e c rr v.number (sender past rr e.taken)) (rw (o, its, sends) (ap (λ (t : Option FrameView). cause_taken past rr c (sender past rr e.taken) t) z.took ∙ rw other refl))
@@ -499,19 +500,19 @@ module _ (s : SetUp) (past : List Entry) (words : ℕ → Option Word) (e : Entr
       }
         where
           last : LastIs z.by.w.what.key z.by.w.what.peer z.by.w.phase k.peer (option_map asked_by (last_request past (up_of (way_of rr z.f))))
-          last = taken_last s past h e z.f down (ap Rattle.race_core.proofs.Ways.is_answer (said_is z.f.body Failure z.told)) k (option_map asked_by (last_request past (up_of (way_of rr z.f)))) refl
+          last = taken_last reads_back s past h e z.f down (ap Rattle.race_core.proofs.Ways.is_answer (said_is z.f.body Failure z.told)) k (option_map asked_by (last_request past (up_of (way_of rr z.f)))) refl
 
           looked : (time : ℕ) × (option_map asked_by (last_request past (up_of (way_of rr z.f))) ≡ Some (request time (Some (CheckPresent z.by.w.what.key))))
           looked = subst (λ (q : Phase). LastIs z.by.w.what.key z.by.w.what.peer q k.peer (option_map asked_by (last_request past (up_of (way_of rr z.f))))) z.phase last (sym peer_is ∙ taken_peer s past e z.f k)
 
-          it : (it : Flying) × (slice_get (sent past (way_of rr z.f)) (taken past (way_of rr z.f)) ≡ Some it) × (table.refuses_look it.entry.kind ≡ true)
+          it : (it : Flying) × (slice_get (frames_sent past (way_of rr z.f)) (taken_count past (way_of rr z.f)) ≡ Some it) × (table.refuses_look it.entry.kind ≡ true)
           it = fits z.f z.took down (said_is z.f.body Failure z.told) z.by.w.what.key (look_said (last_request past (up_of (way_of rr z.f))) looked.0 z.by.w.what.key looked.1)
 
           from : sender past rr e.taken ≡ Some (sent_of it.0)
           from = ap (sender past rr) z.took ∙ ap (option_map sent_of) it.1
 
           said : cause_said (message_in z.f.body) (option_map said_of (last_request past (up_of (way_of rr z.f)))) (sender past rr e.taken) ≡ Some (cause_by_sender (sender past rr e.taken))
-          said = takes_failure s past h e z.f down k (said_is z.f.body Failure z.told) (sender past rr e.taken) ∙ ap (λ q. cause_if (refuses_look q) (sender past rr e.taken)) z.phase
+          said = takes_failure reads_back s past h e z.f down k (said_is z.f.body Failure z.told) (sender past rr e.taken) ∙ ap (λ q. cause_if (refuses_look q) (sender past rr e.taken)) z.phase
 
           cause : cause_with past e z.f.peer rr v.number (sender past rr e.taken) ≡ Some (or_fault (cause_of_kind it.0.entry.kind))
           cause = whole (sender past rr e.taken) ∙ ap (λ (t : Option FrameView). cause_taken past rr z.f.peer (sender past rr e.taken) t) z.took ∙ by_frame (sender past rr e.taken) ∙ said ∙ ap (λ q. Some (cause_by_sender q)) from
@@ -537,7 +538,7 @@ module _ (s : SetUp) (past : List Entry) (words : ℕ → Option Word) (e : Entr
               absurd (true≢false (sym same ∙ subst (λ n. (n == c) ≡ false) (ap (λ (d : Side). Jobs.or_own rr d v.what.peer) at) apart))
 
           drop : in_drop past rr v.number ≡ true
-          drop = (at_targets s past h v runs).0 o.part_is
+          drop = (at_targets reads_back s past h v runs).0 o.part_is
 
           none : before_step past rr v.number ≡ None
           none = unread past h v runs o.part_is o.first (remote (side_of v) refl)
@@ -557,10 +558,10 @@ module _ (s : SetUp) (past : List Entry) (words : ℕ → Option Word) (e : Entr
           at = eqb-true k.peer c same
 
           other : (k.peer == rr) ≡ false
-          other = ne_eqb k.peer rr (other_apart s k.peer (partner_other s past h.run v runs k.part_is k.peer k.on))
+          other = ne_eqb k.peer rr (other_apart s k.peer (partner_other reads_back s past h.run v runs k.part_is k.peer k.on))
 
           holds : HoldsOf s past v
-          holds = heard_holds s past h v runs
+          holds = heard_holds reads_back s past h v runs
 
           cand : Candidate s past (running v) v.heard k.peer
           cand = on_candidate s past (running v) v.heard v.phase k.peer (subst (λ q. Fits q v.phase) k.part_is (works_fit s past h.run v runs)) k.on k.no_target (holds.asking k.part_is)
@@ -602,7 +603,7 @@ module _ (s : SetUp) (past : List Entry) (words : ℕ → Option Word) (e : Entr
         where
           go : (d : Bool) → (c == rr) ≡ d → New y.heard c
           go true mine = normal c apart (λ other. absurd (true≢false (sym mine ∙ other)))
-          go false other = elim (lean_or s past words e h own v.number c (sender past rr e.taken) other) [
+          go false other = elim (lean_or reads_back s past words e h own v.number c (sender past rr e.taken) other) [
             | inl lean ↦ normal c apart (λ o. lean)
             | inr z ↦ by_refused c z c apart
           ]
@@ -612,7 +613,7 @@ module _ (s : SetUp) (past : List Entry) (words : ℕ → Option Word) (e : Entr
 abbrev pub LooksFit : SetUp → List Entry → Type 0
 LooksFit s past = Always (λ p e. is_of s.number e ≡ true → LookFit s p e) past
 
-module _ (s : SetUp) where
+module _ (reads_back : SentAreRead) (s : SetUp) where
   -- nothing was told to a job that hasn't begun, but that a connection was closed
   future_lean : (past : List Entry) → OwnPast s past → (j : ℕ) → begun past s.number < j → (c : ℕ) → (c == s.number) ≡ false → Lean (told_cause past s.number j c)
   future_lean [] h j later c other = tt
@@ -622,9 +623,9 @@ module _ (s : SetUp) where
       go before old false is = lean_more past e s.number j c (lean_none (_) (other_cause past e s.number j c (sender past s.number e.taken) is)) old
       go before old true is =
           let own = h.run.0 is in
-          lean_more past e s.number j c (elim (lean_or s past own.0 e (earlier s past e h) own.1 j c (sender past s.number e.taken) other) [
+          lean_more past e s.number j c (elim (lean_or reads_back s past own.0 e (earlier s past e h) own.1 j c (sender past s.number e.taken) other) [
             | inl lean ↦ lean
-            | inr z ↦ absurd (true≢false (sym (refused_step s past own.0 e (earlier s past e h) own.1 j c z) ∙ not_yet s past own.0 e h.run.1 own.1 j before))
+            | inr z ↦ absurd (true≢false (sym (refused_step reads_back s past own.0 e (earlier s past e h) own.1 j c z) ∙ not_yet s past own.0 e h.run.1 own.1 j before))
           ]) old
 
   begins_values : (past : List Entry) (e : Entry) → OwnPast s (e ∷ past) → is_of s.number e ≡ true → (w : Work) → Begins s past e w → Values s (e ∷ past) w
@@ -633,9 +634,9 @@ module _ (s : SetUp) where
       now : (c == s.number) ≡ false → Lean (told_cause (e ∷ past) s.number w.number c)
       now other =
           let own = h.run.0 is in
-          lean_more past e s.number w.number c (elim (lean_or s past own.0 e (earlier s past e h) own.1 w.number c (sender past s.number e.taken) other) [
+          lean_more past e s.number w.number c (elim (lean_or reads_back s past own.0 e (earlier s past e h) own.1 w.number c (sender past s.number e.taken) other) [
             | inl lean ↦ lean
-            | inr z ↦ absurd (true≢false (sym (refused_step s past own.0 e (earlier s past e h) own.1 w.number c z) ∙ begin_still s past e w b))
+            | inr z ↦ absurd (true≢false (sym (refused_step reads_back s past own.0 e (earlier s past e h) own.1 w.number c z) ∙ begin_still s past e w b))
           ]) (future_lean past (earlier s past e h) w.number (begins_later s past e h.run is w b) c other)
 
   -- **the values of what a drop was told**
@@ -647,11 +648,11 @@ module _ (s : SetUp) where
       own p e r is was x (inl b) k l = begins_values p e k is x b
       own p e r is was x (inr (inl b)) k l =
           let mine = k.run.0 is in
-          stays_values s p mine.0 e (earlier s p e k) mine.1 x b (was x b.ran (earlier s p e k) l.1)
+          stays_values reads_back s p mine.0 e (earlier s p e k) mine.1 x b (was x b.ran (earlier s p e k) l.1)
       own p e r is was x (inr (inr b)) k l =
           let before = earlier s p e k in
           let mine = k.run.0 is in
-          step_values s p mine.0 e before mine.1 is (λ f took. ne_eqb f.peer s.number (taken_from_step s p mine.0 e before k.bounds.0 is mine.1 f took)) (l.0 is) unread x b (was b.by.w (step_runs s p e x b) before l.1)
+          step_values reads_back s p mine.0 e before mine.1 is (λ f took. ne_eqb f.peer s.number (taken_from_step reads_back s p mine.0 e before k.bounds.0 is mine.1 f took)) (l.0 is) unread x b (was b.by.w (step_runs s p e x b) before l.1)
 
 -- ---- CausesTold
 
@@ -695,18 +696,18 @@ drops_unread : (s : SetUp) → DropsUnread s
 drops_unread s past h w m part fresh side = fresh_unread s past h.run w m part (ap is_fresh fresh)
 
 -- **CausesTold**, by what answers fit
-pub causes_told : (s : SetUp) → (past : List Entry) → OwnPast s past → LooksFit s past → (w : Work) → Member w (works past s.number) → w.part ≡ Drops → CausesTold s past w
-causes_told s past h fits w m part c candidate asked heard is none =
+pub causes_told : SentAreRead → (s : SetUp) → (past : List Entry) → OwnPast s past → LooksFit s past → (w : Work) → Member w (works past s.number) → w.part ≡ Drops → CausesTold s past w
+causes_told reads_back s past h fits w m part c candidate asked heard is none =
     let apart = candidate_apart (side_of w) (length s.repos) s.number (target_of s.number w) c (target_local s.number (side_of w) w.what.peer) (λ remote. other_target s w (aims s past h.run w m) part remote) candidate in
-    (subst (Value past s.number w.number c) is (told_values s (drops_unread s) past h fits w m c apart) (fails_none heard none)).told
+    (subst (Value past s.number w.number c) is (told_values reads_back s (drops_unread s) past h fits w m c apart) (fails_none heard none)).told
 
 -- ---- in a run
 
-module _ (run : Run) (repos : Each IsSetUp run.repos) where
+module _ (reads_back : SentAreRead) (run : Run) (repos : Each IsSetUp run.repos) where
   look_fit : (r : ℕ) (past : List Entry) (e : Entry) → RunPast (set_up run) past → RunStep (set_up run) past e → is_of r e ≡ true → LookFit (set_up run r) past e
   look_fit r past e h step is f took down says key last =
       let may = (part_of (set_up run) past e r step is).frames.takes f took in
-      let a = answer_of run repos past e r f Failure h step is took down says refl may in
+      let a = answer_of reads_back run repos past e r f Failure h step is took down says refl may in
       let fit : table.AnswerFits a.asked may.it.entry.kind Failure = failure_fits a.asked may.it.entry.kind a.answering in
       let same : Says a.asked ≡ Says (CheckPresent key) = sym a.asked_is ∙ said_inj (sym (ap (option_map said_of) a.last) ∙ last) in
       (may.it, may.next, subst (λ m. table.AnswerFits m may.it.entry.kind Failure) (says_inj same) fit)
@@ -723,4 +724,4 @@ module _ (run : Run) (repos : Each IsSetUp run.repos) where
 
   -- **CausesTold in a run**
   pub run_told : (r : ℕ) (past : List Entry) → RunPast (set_up run) past → (w : Work) → Member w (works past r) → w.part ≡ Drops → CausesTold (set_up run r) past w
-  run_told r past h w m part = causes_told (set_up run r) past (own_past run repos r past h) (looks_fit r past h) w m part
+  run_told r past h w m part = causes_told reads_back (set_up run r) past (own_past run repos r past h) (looks_fit r past h) w m part

@@ -23,7 +23,7 @@ use Rattle.p2p_wire.specs.Messages.{message_of}
 use Rattle.node_model.specs.Ends.{EndName, end_after, end_sends, end_took, frames, sent_at, taken_at}
 use Rattle.node_model.specs.Sessions.{line_in}
 use Rattle.node_model.specs.Jobs
-use Rattle.node_model.specs.Jobs.{Drops, Fresh, Gets, Part, Phase, Puts, PutsAnswer, PutsOffer, Work, claims, closed_part, first_look, hears_frame, is_move, job_end, learns, listens, partner, quiet, talks, talks_on, took, took_line, transferred}
+use Rattle.node_model.specs.Jobs.{Drops, Fresh, Gets, Part, Phase, Puts, PutsAnswer, PutsOffer, Work, claims, closed_part, first_look, hears_frame, is_move, job_end, learns, listens, partner, quiet, talks, talks_on, took, took_line, after_transfer}
 use Rattle.node_model.specs.Look.{Made}
 use Rattle.node_model.specs.JobStep.{Turn, end_with, is_there, me}
 use Rattle.node_model.specs.TransferStep.{next_source}
@@ -84,7 +84,7 @@ closed_stuck r w peer Gets is apart one = inr (is, refl, (one.0, one.1, one_aske
 closed_stuck r w peer Puts is apart one = inl refl
 closed_stuck r w peer Drops is apart one = absurd (apart refl)
 
-transferred_drops : (w : Work) (outcome : Outcome) → is_move w.what.kind ≡ true → (transferred w outcome).part ≡ Drops
+transferred_drops : (w : Work) (outcome : Outcome) → is_move w.what.kind ≡ true → (after_transfer w outcome).part ≡ Drops
 transferred_drops w outcome move = rw move refl
 
 look_stuck : (r : ℕ) (w : Work) (here : Bool) (bar : Option ℕ) → is_move w.what.kind ≡ true → w.part ≡ Gets → (here ≡ true) ⊎ ((peer : ℕ) × (w.what.peer ≡ Some peer) × (slice_get (peer ∷ []) (length w.causes) ≡ None))

@@ -11,7 +11,7 @@ use Rattle.p2p_wire.specs.Messages.{message_of, text_of}
 use Rattle.race_core.proofs.Ways.{completes, is_answer}
 use Rattle.run_model.specs.Said.{is_request, message_in, said_line, wants_answer}
 use Rattle.node_model.specs.Ends.{End, EndName, frames}
-use Rattle.node_model.specs.Sessions.{Doing, Waits, Guards, Gives, Gave, Wants, Takes, Took, Session, doing_after, gave_bytes, gives, guards, reaches, said, sent_more, session_took, took_bytes, took_message, takes_more, wanted, wants}
+use Rattle.node_model.specs.Sessions.{Doing, Waits, Guards, Gives, Gave, Wants, Takes, Took, Session, doing_after, gave_bytes, gives, guards, reaches, message_said, sent_more, session_took, took_bytes, took_message, takes_more, takes_from, wants}
 use Rattle.node_model.specs.SessionStep.{Here, on_frame, on_message, on_text}
 use Rattle.race_core.proofs.Counting.{Closes, Counts, GetCounts, GivesOne, Pieces, bytes_counts, calm, get_counts, is_get, message_counts}
 use Rattle.race_core.proofs.EndMoves.{sends_all}
@@ -75,7 +75,7 @@ more_calm key size left = go (left == 0)
     go true = refl
     go false = refl
 
-wanted_calm : (n : ℕ) (was : Doing) → calm was ≡ true → calm (wanted n was) ≡ true
+wanted_calm : (n : ℕ) (was : Doing) → calm was ≡ true → calm (takes_from n was) ≡ true
 wanted_calm n (Wants key size) w = more_calm key size n
 wanted_calm n was w = w
 
@@ -146,27 +146,27 @@ data_gives Failure left key n good h = absurd h
 data_gives (Error text) left key n good h = absurd h
 
 get_fits : (was : Doing) (a : EndName) (c : End) (says : List FrameText) (key : List ℕ) (n : ℕ) (good : Bool) → ReadsOne says → GetCounts was says
-    → Fits (busy was) (busy (gives key n good (said (frames a c says)))) (answers_in says) 1 (sends_all c (frames a c says)).opened
-get_fits was a c says key n good read (inl x) = closes_fit a c says (busy was) (busy (gives key n good (said (frames a c says)))) 1 x
+    → Fits (busy was) (busy (gives key n good (message_said (frames a c says)))) (answers_in says) 1 (sends_all c (frames a c says)).opened
+get_fits was a c says key n good read (inl x) = closes_fit a c says (busy was) (busy (gives key n good (message_said (frames a c says)))) 1 x
 get_fits was a c says key n good read (inr x) =
     let k = read (text_of (Data x.0)) x.1 in
     let none : answers_in says ≡ 0 = ap answers_in x.1 ∙ rw (line_answers (Data x.0) k.0 k.1 refl) refl in
     let b : busy was ≡ 0 = ap busy x.2 in
-    let told : said (frames a c says) ≡ Some k.0 = ap (λ s. said (frames a c s)) x.1 ∙ k.1 in
-    let b' : busy (gives key n good (said (frames a c says))) ≡ 1 = ap (λ t. busy (gives key n good t)) told ∙ ap (λ d. if d then 0 else 1) (data_gives k.0 x.0 key n good (alike (Data x.0) refl k.0 k.1)) in
+    let told : message_said (frames a c says) ≡ Some k.0 = ap (λ s. message_said (frames a c s)) x.1 ∙ k.1 in
+    let b' : busy (gives key n good (message_said (frames a c says))) ≡ 1 = ap (λ t. busy (gives key n good t)) told ∙ ap (λ d. if d then 0 else 1) (data_gives k.0 x.0 key n good (alike (Data x.0) refl k.0 k.1)) in
     record { within = omega (arith, none); turn = λ o. omega (arith, none, b, b') }
 
 module _ (h : Here) (size : List ℕ → Option ℕ) (was : Session) (a : EndName) (c : End) where
   message_fits : (m : Message) → is_get m ≡ false → ReadsOne (on_message h was.version was.doing m).says
-      → Fits (busy was.doing) (busy (doing_after size (on_message h was.version was.doing m).kind was.doing (said (frames a c (on_message h was.version was.doing m).says)) m))
+      → Fits (busy was.doing) (busy (doing_after size (on_message h was.version was.doing m).kind was.doing (message_said (frames a c (on_message h was.version was.doing m).says)) m))
       (answers_in (on_message h was.version was.doing m).says) (one_if (wants_answer m)) (sends_all c (frames a c (on_message h was.version was.doing m).says)).opened
   message_fits m g read =
       let x = on_message h was.version was.doing m in
-      let told = said (frames a c x.says) in
+      let told = message_said (frames a c x.says) in
       counts_fit (wants_answer m) was.doing (doing_after size x.kind was.doing told m) a c x.says read (calm_after size x.kind was.doing told m g) (message_counts h was.version was.doing m g)
 
   text_fits : (o : Option Message) → ReadsOne (on_text h was o).says
-      → Fits (busy was.doing) (busy (took_message size (on_text h was o).kind was (said (frames a c (on_text h was o).says)) o).doing)
+      → Fits (busy was.doing) (busy (took_message size (on_text h was o).kind was (message_said (frames a c (on_text h was o).says)) o).doing)
       (answers_in (on_text h was o).says) (one_if (is_request (said_line o))) (sends_all c (frames a c (on_text h was o).says)).opened
   text_fits None read = closes_fit a c (on_text h was None).says (busy was.doing) (busy was.doing) 0 (inr refl)
   text_fits (Some (Get n file key)) read = get_fits was.doing a c (on_message h was.version was.doing (Get n file key)).says key n (reaches (size key) n) read (get_counts h was.version was.doing n file key)
@@ -182,7 +182,7 @@ module _ (h : Here) (size : List ℕ → Option ℕ) (was : Session) (a : EndNam
       subst (λ q. Fits (busy was.doing) (busy (took_bytes k was.doing)) (answers_in (on_frame h was (Bytes k)).says) (one_if (is_request q)) (sends_all c (frames a c (on_frame h was (Bytes k)).says)).opened) (sym (said_bytes k))
       (counts_fit false was.doing (took_bytes k was.doing) a c (on_frame h was (Bytes k)).says read (took_calm k was.doing) (bytes_counts h k was.doing))
   frame_fits (Line text) n s read =
-      subst (λ q. Fits (busy was.doing) (busy (took_message size (on_text h was (message_of text)).kind was (said (frames a c (on_text h was (message_of text)).says)) (message_of text)).doing)
+      subst (λ q. Fits (busy was.doing) (busy (took_message size (on_text h was (message_of text)).kind was (message_said (frames a c (on_text h was (message_of text)).says)) (message_of text)).doing)
       (answers_in (on_text h was (message_of text)).says) (one_if (is_request q)) (sends_all c (frames a c (on_text h was (message_of text)).says)).opened) (sym (said_line-is text))
       (text_fits (message_of text) read)
 

@@ -10,7 +10,7 @@ use Rattle.run_data.specs.declared.entry.FrameView.{FrameView}
 use Rattle.run_model.specs.Past.{Always, Occurs, is_of}
 use Rattle.run_model.specs.Said.{Said, message_in, is_request}
 use Rattle.race_core.proofs.Ways.{is_answer, answers}
-use Rattle.run_model.specs.Frames.{Way, Flying, MayTake, flying, is_on, on_way, sender_of, taker_of, sent, sent_if, says, taken, taken_if, up_of, requests, last_of, last_request}
+use Rattle.run_model.specs.Frames.{Way, Flying, MayTake, flying, is_on, on_way, sender_of, taker_of, frames_sent, sent_if, says, taken_count, taken_if, up_of, requests, last_of, last_request}
 use Rattle.race_core.proofs.Own.{AtMostOne}
 use Rattle.race_core.proofs.Flights.{get_none, sending, always_before}
 
@@ -76,64 +76,64 @@ Prefix w past e = (f : FrameView) → is_of (taker_of w) e ≡ true → e.taken 
 abbrev pub of_flying : (Said → Bool) → Flying → Bool
 of_flying q x = says q x.frame
 
-sent_more : (e : Entry) (past : List Entry) (w : Way) → (rest : List Flying) × (sent (e ∷ past) w ≡ sent past w ++ rest)
+sent_more : (e : Entry) (past : List Entry) (w : Way) → (rest : List Flying) × (frames_sent (e ∷ past) w ≡ frames_sent past w ++ rest)
 sent_more e past w = go (is_of (sender_of w) e)
   where
-    go : (b : Bool) → (rest : List Flying) × ((if b then sent past w ++ map (flying e past) (on_way w e) else sent past w) ≡ sent past w ++ rest)
+    go : (b : Bool) → (rest : List Flying) × ((if b then frames_sent past w ++ map (flying e past) (on_way w e) else frames_sent past w) ≡ frames_sent past w ++ rest)
     go true = (map (flying e past) (on_way w e), refl)
-    go false = ([], sym (append-nil (sent past w)))
+    go false = ([], sym (append-nil (frames_sent past w)))
 
 -- how many were taken, and how many of them pass a test
 pub record TakenOf (q : Said → Bool) (past : List Entry) (w : Way) : Type 0 where
-  pub within : taken past w ≤ length (sent past w)
-  pub count : taken_if q past w ≡ length (filter (of_flying q) (take (taken past w) (sent past w)))
+  pub within : taken_count past w ≤ length (frames_sent past w)
+  pub count : taken_if q past w ≡ length (filter (of_flying q) (take (taken_count past w) (frames_sent past w)))
 
 taken_step : (q : Said → Bool) (e : Entry) (past : List Entry) (w : Way) → Prefix w past e → TakenOf q past w → TakenOf q (e ∷ past) w
 taken_step q e past w all old = let t = sent_more e past w in step t.0 t.1
   where
-    step : (rest : List Flying) → sent (e ∷ past) w ≡ sent past w ++ rest → TakenOf q (e ∷ past) w
+    step : (rest : List Flying) → frames_sent (e ∷ past) w ≡ frames_sent past w ++ rest → TakenOf q (e ∷ past) w
     step rest more = go (is_of (taker_of w) e) refl e.taken refl
       where
-        len : length (sent (e ∷ past) w) ≡ length (sent past w) + length rest
-        len = ap length more ∙ length-append (sent past w) rest
+        len : length (frames_sent (e ∷ past) w) ≡ length (frames_sent past w) + length rest
+        len = ap length more ∙ length-append (frames_sent past w) rest
 
-        same : (n : ℕ) → n ≤ length (sent past w) → take n (sent (e ∷ past) w) ≡ take n (sent past w)
-        same n l = ap (λ xs. take n xs) more ∙ take_left (sent past w) rest n l
+        same : (n : ℕ) → n ≤ length (frames_sent past w) → take n (frames_sent (e ∷ past) w) ≡ take n (frames_sent past w)
+        same n l = ap (λ xs. take n xs) more ∙ take_left (frames_sent past w) rest n l
 
         Made : (n m : ℕ) → Type 0
-        Made n m = (n ≤ length (sent (e ∷ past) w)) × (m ≡ length (filter (of_flying q) (take n (sent (e ∷ past) w))))
+        Made n m = (n ≤ length (frames_sent (e ∷ past) w)) × (m ≡ length (filter (of_flying q) (take n (frames_sent (e ∷ past) w))))
 
-        kept : Made (taken past w) (taken_if q past w)
-        kept = (omega (arith, len, old.within), old.count ∙ ap (λ xs. length (filter (of_flying q) xs)) (sym (same (taken past w) old.within)))
+        kept : Made (taken_count past w) (taken_if q past w)
+        kept = (omega (arith, len, old.within), old.count ∙ ap (λ xs. length (filter (of_flying q) xs)) (sym (same (taken_count past w) old.within)))
 
-        one : (f : FrameView) (t : MayTake past w f) → Made (taken past w + 1) (if says q f then taken_if q past w + 1 else taken_if q past w)
+        one : (f : FrameView) (t : MayTake past w f) → Made (taken_count past w + 1) (if says q f then taken_if q past w + 1 else taken_if q past w)
         one f t =
-            let n = take_next (sent past w) (taken past w) t.it t.next in
-            (omega (arith, len, n.1), count (says q f) refl ∙ sym (ap (λ xs. length (filter (of_flying q) xs)) (same (taken past w + 1) n.1 ∙ n.0)))
+            let n = take_next (frames_sent past w) (taken_count past w) t.it t.next in
+            (omega (arith, len, n.1), count (says q f) refl ∙ sym (ap (λ xs. length (filter (of_flying q) xs)) (same (taken_count past w + 1) n.1 ∙ n.0)))
           where
             is : says q t.it.frame ≡ says q f
             is = ap (λ b. q (message_in b)) t.body_is
 
-            parts : length (filter (of_flying q) (take (taken past w) (sent past w) ++ t.it ∷ [])) ≡ taken_if q past w + length (filter (of_flying q) (t.it ∷ []))
-            parts = ap length (filter-append (of_flying q) (take (taken past w) (sent past w)) (t.it ∷ []))
-                ∙ length-append (filter (of_flying q) (take (taken past w) (sent past w))) (filter (of_flying q) (t.it ∷ []))
+            parts : length (filter (of_flying q) (take (taken_count past w) (frames_sent past w) ++ t.it ∷ [])) ≡ taken_if q past w + length (filter (of_flying q) (t.it ∷ []))
+            parts = ap length (filter-append (of_flying q) (take (taken_count past w) (frames_sent past w)) (t.it ∷ []))
+                ∙ length-append (filter (of_flying q) (take (taken_count past w) (frames_sent past w))) (filter (of_flying q) (t.it ∷ []))
                 ∙ ap (λ n. n + length (filter (of_flying q) (t.it ∷ []))) (sym old.count)
 
-            count : (b : Bool) → says q f ≡ b → (if b then taken_if q past w + 1 else taken_if q past w) ≡ length (filter (of_flying q) (take (taken past w) (sent past w) ++ t.it ∷ []))
+            count : (b : Bool) → says q f ≡ b → (if b then taken_if q past w + 1 else taken_if q past w) ≡ length (filter (of_flying q) (take (taken_count past w) (frames_sent past w) ++ t.it ∷ []))
             count true h = let k : says q t.it.frame ≡ true = is ∙ h in sym (parts ∙ ap (λ c. taken_if q past w + length (cond c (t.it ∷ []) [])) k)
             count false h = let k : says q t.it.frame ≡ false = is ∙ h in sym (parts ∙ ap (λ c. taken_if q past w + length (cond c (t.it ∷ []) [])) k ∙ omega arith)
 
-        finish : (n m : ℕ) → Made n m → taken (e ∷ past) w ≡ n → taken_if q (e ∷ past) w ≡ m → TakenOf q (e ∷ past) w
-        finish n m h a b = record { within = subst (λ k. k ≤ length (sent (e ∷ past) w)) (sym a) h.0; count = b ∙ h.1 ∙ ap (λ k. length (filter (of_flying q) (take k (sent (e ∷ past) w)))) (sym a) }
+        finish : (n m : ℕ) → Made n m → taken_count (e ∷ past) w ≡ n → taken_if q (e ∷ past) w ≡ m → TakenOf q (e ∷ past) w
+        finish n m h a b = record { within = subst (λ k. k ≤ length (frames_sent (e ∷ past) w)) (sym a) h.0; count = b ∙ h.1 ∙ ap (λ k. length (filter (of_flying q) (take k (frames_sent (e ∷ past) w)))) (sym a) }
 
         go : (b : Bool) → is_of (taker_of w) e ≡ b → (o : Option FrameView) → e.taken ≡ o → TakenOf q (e ∷ past) w
-        go false is o t = finish (taken past w) (taken_if q past w) kept (rw is refl) (rw is refl)
-        go true is None t = finish (taken past w) (taken_if q past w) kept (rw (is, t) refl) (rw (is, t) refl)
+        go false is o t = finish (taken_count past w) (taken_if q past w) kept (rw is refl) (rw is refl)
+        go true is None t = finish (taken_count past w) (taken_if q past w) kept (rw (is, t) refl) (rw (is, t) refl)
         go true is (Some f) t = on (is_on w (sender_of w) f) refl
           where
             on : (c : Bool) → is_on w (sender_of w) f ≡ c → TakenOf q (e ∷ past) w
-            on false c = finish (taken past w) (taken_if q past w) kept (rw (is, t, c) refl) (rw (is, t, c) refl)
-            on true c = finish (taken past w + 1) (if says q f then taken_if q past w + 1 else taken_if q past w) (one f (all f is t c)) (rw (is, t, c) refl) (rw (is, t, c) refl)
+            on false c = finish (taken_count past w) (taken_if q past w) kept (rw (is, t, c) refl) (rw (is, t, c) refl)
+            on true c = finish (taken_count past w + 1) (if says q f then taken_if q past w + 1 else taken_if q past w) (one f (all f is t c)) (rw (is, t, c) refl) (rw (is, t, c) refl)
 
 pub taken_of : (q : Said → Bool) (past : List Entry) (w : Way) → Always (Prefix w) past → TakenOf q past w
 taken_of q [] w all = record { within = omega arith; count = refl }
@@ -143,15 +143,15 @@ taken_of q (e ∷ past) w all = taken_step q e past w all.0 (taken_of q past w a
 pub next_of : (q : Said → Bool) (past : List Entry) (w : Way) (f : FrameView) → Always (Prefix w) past → (t : MayTake past w f) → says q f ≡ true → slice_get (sent_if q past w) (taken_if q past w) ≡ Some t.it
 next_of q past w f all t ok =
     let is : says q t.it.frame ≡ true = ap (λ b. q (message_in b)) t.body_is ∙ ok in
-    subst (λ k. slice_get (sent_if q past w) k ≡ Some t.it) (sym (taken_of q past w all).count) (filter_get (of_flying q) (sent past w) (taken past w) t.it t.next is)
+    subst (λ k. slice_get (sent_if q past w) k ≡ Some t.it) (sym (taken_of q past w all).count) (filter_get (of_flying q) (frames_sent past w) (taken_count past w) t.it t.next is)
 
 -- ---- the sender of a frame that passes a test
 
 pub sent_if-step : (q : Said → Bool) (e : Entry) (past : List Entry) (w : Way) → is_of (sender_of w) e ≡ true → sent_if q (e ∷ past) w ≡ sent_if q past w ++ map (flying e past) (filter (says q) (on_way w e))
-sent_if-step q e past w is = rw is (filter-append (of_flying q) (sent past w) (map (flying e past) (on_way w e)) ∙ ap (λ ys. sent_if q past w ++ ys) (filter_map (of_flying q) (flying e past) (on_way w e)))
+sent_if-step q e past w is = rw is (filter-append (of_flying q) (frames_sent past w) (map (flying e past) (on_way w e)) ∙ ap (λ ys. sent_if q past w ++ ys) (filter_map (of_flying q) (flying e past) (on_way w e)))
 
 sent_if-more : (q : Said → Bool) (e : Entry) (past : List Entry) (w : Way) → (rest : List Flying) × (sent_if q (e ∷ past) w ≡ sent_if q past w ++ rest)
-sent_if-more q e past w = let t = sent_more e past w in (filter (of_flying q) t.0, ap (filter (of_flying q)) t.1 ∙ filter-append (of_flying q) (sent past w) t.0)
+sent_if-more q e past w = let t = sent_more e past w in (filter (of_flying q) t.0, ap (filter (of_flying q)) t.1 ∙ filter-append (of_flying q) (frames_sent past w) t.0)
 
 -- what was sent before is a prefix
 pub sent_if-prefix : (q : Said → Bool) (past : List Entry) (x : Entry) (before : List Entry) (w : Way) → Occurs past x before → (rest : List Flying) × (sent_if q past w ≡ sent_if q before w ++ rest)
@@ -211,4 +211,4 @@ pub right_turn : (past : List Entry) (w : Way) (f g : FrameView) → Always (Pre
     → length (answers t.it.before w) ≡ taken_if is_request t.it.before (up_of w) → (asked : MayTake t.it.before (up_of w) g) → says is_request g ≡ true
     → last_request past (up_of w) ≡ Some asked.it
 right_turn past w f g down up one t answer awaits turn asked request =
-    turn_of past w f g down up one t answer awaits t.it.entry t.it.before (sending past w (taken past w) t.it t.next).occurs turn asked request
+    turn_of past w f g down up one t answer awaits t.it.entry t.it.before (sending past w (taken_count past w) t.it t.next).occurs turn asked request

@@ -14,7 +14,7 @@ use Rattle.run_data.specs.declared.entry.FrameView.{FrameView}
 use Rattle.run_data.specs.declared.entry.FrameText.{FrameText}
 use Rattle.run_data.specs.declared.entry.FrameText.TheVariants.{Opening, Closing, Bytes, Line}
 use Rattle.run_data.specs.declared.job.Outcome.{Outcome}
-use Rattle.run_model.specs.Past.{Decision, begun, decided, decided_after, is_of}
+use Rattle.run_model.specs.Past.{Decision, begun, decision, decided_after, is_of}
 use Rattle.node_model.specs.Slots.{is_begin, job_of}
 use Rattle.node_model.specs.Rows.{is_lost_ordered, option_is}
 use Rattle.run_model.specs.Drops.{done, done_kind}
@@ -151,7 +151,7 @@ still_done j kind still = refl
 
 -- it decided nothing, and asked nobody
 pub record Unasked (past : List Entry) (r j : ℕ) : Type 0 where
-  pub undecided : decided past r j ≡ None
+  pub undecided : decision past r j ≡ None
   pub unasked : has_asked past r j ≡ false
 
 pub unasked_after : (past : List Entry) (r : ℕ) (e : Entry) (j : ℕ) → is_of r e ≡ true → decided_after (length past) j None e.kind ≡ None → (is_job r j e && asks_by e.kind e.sent) ≡ false

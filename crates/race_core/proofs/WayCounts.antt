@@ -7,7 +7,7 @@ use Rattle.run_data.specs.declared.entry.Entry.{Entry}
 use Rattle.run_data.specs.declared.entry.FrameView.{FrameView}
 use Rattle.run_model.specs.Past.{is_of}
 use Rattle.run_model.specs.Said.{Said}
-use Rattle.run_model.specs.Frames.{Way, Flying, flying, is_on, on_way, sender_of, taker_of, sent, sent_if, says, taken_if, takes_if}
+use Rattle.run_model.specs.Frames.{Way, Flying, flying, is_on, on_way, sender_of, taker_of, frames_sent, sent_if, says, taken_if, takes_if}
 use Rattle.node_model.specs.Ends.{same_bool, EndName, sends_at, sent_at, taken_at, takes_at}
 
 -- the ways at an end of r: what it sends, and what it takes, in one epoch
@@ -100,7 +100,7 @@ filter_map p f (x ∷ xs) = go (filter_map p f xs) (p (f x))
 
 pub sent_own : (q : Said → Bool) (e : Entry) (past : List Entry) (w : Way) → is_of (sender_of w) e ≡ true → length (sent_if q (e ∷ past) w) ≡ length (sent_if q past w) + length (filter (says q) (on_way w e))
 sent_own q e past w is = rw is
-    (ap length (filter-append (λ (x : Flying). says q x.frame) (sent past w) (map (flying e past) (on_way w e)))
+    (ap length (filter-append (λ (x : Flying). says q x.frame) (frames_sent past w) (map (flying e past) (on_way w e)))
     ∙ length-append (sent_if q past w) (filter (λ (x : Flying). says q x.frame) (map (flying e past) (on_way w e)))
     ∙ ap (λ ys. length (sent_if q past w) + length ys) (filter_map (λ (x : Flying). says q x.frame) (flying e past) (on_way w e))
     ∙ ap (λ k. length (sent_if q past w) + k) (length-map (filter (says q) (on_way w e)) (flying e past)))

@@ -10,7 +10,7 @@ use Rattle.run_data.specs.declared.entry.FrameView.{FrameView}
 use Rattle.run_model.specs.Past.{is_of}
 use Rattle.node_model.specs.Rows.{option_is}
 use Rattle.node_model.specs.Slots.{job_of}
-use Rattle.run_model.specs.Frames.{sent, taken, way_of}
+use Rattle.run_model.specs.Frames.{frames_sent, taken_count, way_of}
 use Rattle.node_model.specs.SetUp.{SetUp}
 use Rattle.run_model.specs.Words.{awaits_of, awaits_word, word_of, word_taken, word_told}
 use Rattle.node_model.specs.Jobs.{Work}
@@ -51,7 +51,7 @@ word_still s past e w c run m none =
 
 -- what the job awaited, and took
 pub word_now : (s : SetUp) (past : List Entry) (e : Entry) (w : Work) (c : ℕ) (f : FrameView) → OwnRun s past → Member w (works past s.number) → is_of s.number e ≡ true → job_of e.kind ≡ Some w.number → awaits_word c w.what.peer w.phase ≡ true
-    → e.taken ≡ Some f → f.peer ≡ c → word_told (e ∷ past) s.number w.number c ≡ word_of (slice_get (sent past (way_of s.number f)) (taken past (way_of s.number f)))
+    → e.taken ≡ Some f → f.peer ≡ c → word_told (e ∷ past) s.number w.number c ≡ word_of (slice_get (frames_sent past (way_of s.number f)) (taken_count past (way_of s.number f)))
 word_now s past e w c f run m is job waits took peer =
     let on : awaits_of c (find (λ (x : Work). x.number == w.number) (works past s.number)) ≡ true = ap (awaits_of c) (found_work s past run w m) ∙ waits in
     let at : (f.peer == c) ≡ true = ap (λ n. n == c) peer ∙ eqb_refl c in

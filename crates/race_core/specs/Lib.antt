@@ -1,3 +1,4 @@
+-- The definitions of this crate.
 pub mod Lawful
 pub mod Places
 pub mod Readings

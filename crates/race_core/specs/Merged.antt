@@ -14,7 +14,7 @@ use Rattle.run_data.specs.declared.run.Run.{Run}
 use Rattle.run_data.specs.declared.run.TreeMark.{TreeMark}
 use Rattle.run_model.specs.Past.{Always, begun, is_of, now}
 use Rattle.node_model.specs.Rows.{option_is}
-use Rattle.run_model.specs.Frames.{Flying, Way, sender_of, sent, taken, taker_of, way_of}
+use Rattle.run_model.specs.Frames.{Flying, Way, sender_of, frames_sent, taken_count, taker_of, way_of}
 use Rattle.node_model.specs.Slots.{job_of}
 use Rattle.node_model.specs.SetUp.{SetUp}
 use Rattle.run_model.specs.States.{works}
@@ -83,13 +83,13 @@ letter_of x = record { body = x.frame.body; sender = stamp_of x.entry; word = wo
 
 -- what a repository with this history sent on a way
 abbrev pub letters : List Entry → Way → List Letter
-letters past w = map letter_of (sent past w)
+letters past w = map letter_of (frames_sent past w)
 
 -- the entry takes the frame as the next of the letters that came on the way, sent by an earlier entry
 pub record TakesNext (got : List Letter) (past : List Entry) (w : Way) (e : Entry) (f : FrameView) : Type 0 where
   pub letter : Letter
-  pub next : slice_get got (taken past w) ≡ Some letter
-  pub seq_is : f.seq ≡ taken past w + 1
+  pub next : slice_get got (taken_count past w) ≡ Some letter
+  pub seq_is : f.seq ≡ taken_count past w + 1
   pub body_is : letter.body ≡ f.body
   pub later : earlier letter.sender (stamp_of e) ≡ true
 
@@ -100,7 +100,7 @@ word_in (Some x) = x.word
 
 abbrev pub word_read : (Way → List Letter) → List Entry → ℕ → ℕ → Option FrameView → Option Word → Option Word
 word_read got past r c None was = was
-word_read got past r c (Some f) was = if f.peer == c then word_in (slice_get (got (way_of r f)) (taken past (way_of r f))) else was
+word_read got past r c (Some f) was = if f.peer == c then word_in (slice_get (got (way_of r f)) (taken_count past (way_of r f))) else was
 
 abbrev pub word_got : (Way → List Letter) → List Entry → ℕ → ℕ → ℕ → Option Word
 word_got got [] r j c = None

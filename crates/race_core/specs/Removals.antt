@@ -15,7 +15,7 @@ use Rattle.run_data.specs.declared.run.Run.{Run}
 use Rattle.p2p_wire.specs.Messages.{order_of}
 use Rattle.run_model.specs.Past.{is_of}
 use Rattle.run_model.specs.Said.{Says, message_in}
-use Rattle.run_model.specs.Frames.{Way, sender_of, sent, way_of}
+use Rattle.run_model.specs.Frames.{Way, sender_of, frames_sent, way_of}
 use Rattle.run_model.specs.Logs.{is_drop, need_read}
 use Rattle.node_model.specs.Evidence.{is_trusted}
 use Rattle.run_model.specs.Safety.{Removal, past_at}
@@ -48,8 +48,8 @@ pub record Sends (run : Run) (place : ℕ) (w : Way) (n : ℕ) : Type 0 where
   pub entry : Entry
   pub entry_is : slice_get run.entries place ≡ Some entry
   pub repo_is : is_of (sender_of w) entry ≡ true
-  pub fewer : length (sent (past_at run place) w) < n
-  pub reached : n ≤ length (sent (past_at run (place + 1)) w)
+  pub fewer : length (frames_sent (past_at run place) w) < n
+  pub reached : n ≤ length (frames_sent (past_at run (place + 1)) w)
 
 -- the entry at this place, one of r, takes frame number n of the way
 pub record Takes (run : Run) (place r : ℕ) (w : Way) (n : ℕ) : Type 0 where

@@ -10,6 +10,8 @@ ghost use Rattle.run_model.specs.Run.{IsRun};
 ghost use Rattle.race_core.specs.Places.{claim_at, count_at, removals_at};
 ghost use Rattle.race_core.specs.Removals.{IsReadBefore, IsRemovalBefore, IsTrustedBefore};
 
+use p2p_wire::sent_messages_are_read;
+
 /// The removals of a key before a place are those of the entries before it, and no others. The least need is what one of
 /// them needed, and no other needed less. This is so in any run, lawful or not.
 pub fn removals_are_of_entries()
@@ -33,7 +35,10 @@ pub fn least_is_what_drops_read()
         → least_need (removals_at run key place) ≡ Some least → IsReadBefore run key place m → least ≤ m }
     ensures count { (run : Run) (key : List ℕ) (place least : ℕ) → IsRun run → IsReadBefore run key place least
         → ((m : ℕ) → IsReadBefore run key place m → least ≤ m) → least ≤ count_at run key place }
-{}
+{
+    // a law, for the proof
+    sent_messages_are_read();
+}
 
 /// A repository has a claim only where the drop of a removal before had it as a trusted item. This is so in any run, lawful
 /// or not (counting claims is the project's own).
@@ -47,4 +52,7 @@ pub fn copies_are_enough_without_claims()
     ensures { (run : Run) (key : List ℕ) (place least : ℕ) → IsRun run
         → ((x : Removal) (item : Evidence) → Member x (removals_at run key place) → Member item x.items → is_trusted item.kind ≡ false)
         → least_need (removals_at run key place) ≡ Some least → least ≤ copies_at run key place }
-{}
+{
+    // a law, for the proof
+    sent_messages_are_read();
+}

@@ -14,6 +14,8 @@ ghost use Rattle.race_core.specs.Items.{IsHeld, WasSeen};
 ghost use Rattle.race_core.specs.Places.{count_at, removal_at};
 ghost use Rattle.race_core.specs.Readings.{Judge, judge_at};
 
+use p2p_wire::sent_messages_are_read;
+
 /// The evidence of a removal has each repository at most once, never the one that loses the content, and no repository that
 /// isn't one of the run (git-annex-numcopies; at most one item of a repository is the project's own).
 pub fn evidence_is_of_other_repositories()
@@ -26,7 +28,10 @@ pub fn evidence_is_of_other_repositories()
     ensures known { (run : Run) (key : List ℕ) (place : ℕ) (e : Entry) (x : Removal) (item : Evidence)
         → IsRun run → slice_get run.entries place ≡ Some e → removal_at run key place e ≡ Some x
         → Member item x.items → item.repo < length run.repos }
-{}
+{
+    // a law, for the proof
+    sent_messages_are_read();
+}
 
 /// Right after a removal of the key, the repositories with a copy or a claim are no fewer than the locked and trusted
 /// items of its drop; and where all its items were locked or trusted, no fewer than the larger of the two numbers that it
@@ -39,7 +44,10 @@ pub fn removals_leave_as_many()
         → IsRun run → slice_get run.entries place ≡ Some e → removal_at run key place e ≡ Some x
         → ((item : Evidence) → Member item x.items → is_full item ≡ true)
         → max x.need.n x.need.m ≤ count_at run key (place + 1) }
-{}
+{
+    // a law, for the proof
+    sent_messages_are_read();
+}
 
 /// A recent item of a removal was seen: its repository looked after the drop had asked it, found the content present and
 /// without a bar, and the drop took what it said (git-annex P2P protocol, CHECKPRESENT).
@@ -48,7 +56,10 @@ pub fn recent_items_were_seen()
         → IsRun run → slice_get run.entries place ≡ Some e → removal_at run key place e ≡ Some x
         → judge_at run place e ≡ Some judge → Member item x.items → item.kind ≡ Recent
         → WasSeen judge item.repo key }
-{}
+{
+    // a law, for the proof
+    sent_messages_are_read();
+}
 
 /// A locked item of a removal ends ten minutes after its drop asked for the lock, on the clock of the repository that judged.
 /// As the removal comes, the item's repository still has the hold that it gave for this, which ends no earlier than ten
@@ -59,4 +70,7 @@ pub fn locked_items_are_held()
         → IsRun run → slice_get run.entries place ≡ Some e → removal_at run key place e ≡ Some x
         → judge_at run place e ≡ Some judge → Member item x.items → item.kind ≡ Locked end
         → IsHeld run key place judge item.repo end }
-{}
+{
+    // a law, for the proof
+    sent_messages_are_read();
+}

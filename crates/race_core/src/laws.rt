@@ -6,7 +6,7 @@ ghost use Rattle.drop_proof.specs.declared.evidence.Evidence.{Evidence};
 ghost use Rattle.run_data.specs.declared.entry.Entry.{Entry};
 ghost use Rattle.run_data.specs.declared.run.Run.{Run};
 ghost use Rattle.run_model.specs.Causes.{HasCauses};
-ghost use Rattle.run_model.specs.Logs.{ever, kept, need_read, read_at, settings_of};
+ghost use Rattle.run_model.specs.Logs.{ever, lines_of_file, need_read, read_at, settings_of};
 ghost use Rattle.node_model.specs.Evidence.{is_locked, is_trusted};
 ghost use Rattle.annex_base.specs.Lists.{Member};
 ghost use Rattle.run_model.specs.Past.{present};
@@ -17,22 +17,37 @@ ghost use Rattle.race_core.specs.Places.{claim_at, count_at, removal_at, removal
 ghost use Rattle.race_core.specs.Readings.{IsFirstStep, IsLocalRemoval, Judge, claim_read, judge_at, key_read, level_read};
 ghost use Rattle.trust_groups.specs.Settings.{settings};
 
+use log_lines::{compaction_keeps_the_reading, readings_depend_on_the_set};
+use p2p_wire::sent_messages_are_read;
+use run_data::paths_tell_their_kind;
+use trust_groups::equal_lines_read_alike;
+use union_merge::{files_are_changed_alone, unions_have_the_lines_of_both};
+
 /// Each run is lawful: every entry finds what it has to.
 pub fn runs_are_lawful()
     ensures { (run : Run) → IsRun run → IsLawful run }
-{}
+{
+    // a law, for the proof
+    sent_messages_are_read();
+}
 
 /// Each run is safe: copies and claims of a key are as many as its drops read that they have to be, each removal leaves
 /// its drop's evidence, and is one drop's (git-annex-mincopies).
 pub fn runs_are_safe()
     ensures { (run : Run) → IsRun run → IsSafe run }
-{}
+{
+    // a law, for the proof
+    sent_messages_are_read();
+}
 
 /// Each drop and each transfer of a run that was refused has its cause there: by its row, by a candidate or a source, by
 /// its target or its store, or by a connection that was closed (own).
 pub fn refusals_have_causes()
     ensures { (run : Run) → IsRun run → HasCauses run }
-{}
+{
+    // a law, for the proof
+    sent_messages_are_read();
+}
 
 /// Each lawful run is safe (git-annex-mincopies).
 pub fn lawful_runs_are_safe()
@@ -46,7 +61,10 @@ pub fn never_fewer_than_mincopies()
         → within (least_need (removals_at run key place)) (count_at run key place) ≡ true }
     ensures least { (run : Run) (key : List ℕ) (place least : ℕ) → IsRun run
         → least_need (removals_at run key place) ≡ Some least → least ≤ count_at run key place }
-{}
+{
+    // a law, for the proof
+    sent_messages_are_read();
+}
 
 /// Right after a removal of the key, each repository that its drop had locked still has the content, and each whose
 /// claim its drop trusted is among the claims (git-annex-mincopies; counting claims is the project's own).
@@ -59,13 +77,24 @@ pub fn drops_leave_their_evidence()
         → IsRun run → slice_get run.entries place ≡ Some e → removal_at run key place e ≡ Some x
         → Member item x.items → is_trusted item.kind ≡ true
         → claim_at run key (place + 1) item.repo ≡ true }
-{}
+{
+    // a law, for the proof
+    sent_messages_are_read();
+}
 
 /// What the lines that a repository keeps say is what all lines say that were ever added to its logs, whatever the entries
 /// are: a compaction, whenever it comes, changes nothing that a drop reads (git-annex internals: branch files).
 pub fn kept_lines_read_as_all()
-    ensures { (past : List Entry) (r : ℕ) → settings (kept past r) ≡ settings_of past r }
-{}
+    ensures { (past : List Entry) (r : ℕ) → settings (lines_of_file past r) ≡ settings_of past r }
+{
+    // laws, for the proof
+    readings_depend_on_the_set();
+    compaction_keeps_the_reading();
+    unions_have_the_lines_of_both();
+    files_are_changed_alone();
+    paths_tell_their_kind();
+    equal_lines_read_alike();
+}
 
 /// In every run, lawful or not, no evidence of a removal is of a repository that its drop read as untrusted or dead, and
 /// a repository that counts without a lock, by its claim, was read as trusted, and as one that is claimed to have the
@@ -105,4 +134,7 @@ pub fn drops_read_their_need()
     ensures local { (run : Run) (key : List ℕ) (place r j : ℕ) (x : Removal) → IsRun run
         → (w : IsLocalRemoval run key place r j) → removal_at run key place w.entry ≡ Some x
         → x.need ≡ need_read (past_at run place) r j }
-{}
+{
+    // a law, for the proof
+    sent_messages_are_read();
+}

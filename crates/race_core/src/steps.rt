@@ -13,6 +13,12 @@ ghost use Rattle.run_model.specs.Past.{is_of};
 ghost use Rattle.run_model.specs.Run.{IsRun, OwnPast, set_up};
 ghost use Rattle.run_model.specs.States.{state_of};
 
+use log_lines::{compaction_keeps_the_reading, readings_depend_on_the_set};
+use p2p_wire::sent_messages_are_read;
+use run_data::paths_tell_their_kind;
+use trust_groups::equal_lines_read_alike;
+use union_merge::{files_are_changed_alone, unions_have_the_lines_of_both};
+
 /// The state that a repository carries over its own entries, one after the other, agrees in all that a step reads with what
 /// the entries so far say of it, and so it makes the same step: in each run, and for each past whose own entries are a
 /// repository's own part (own).
@@ -26,7 +32,16 @@ pub fn carried_states_agree()
         → Agrees (state_of s past) (states s (filter (is_of s.number) past)) }
     ensures own_steps { (s : SetUp) (past : List Entry) (k : Look) → OwnPast s past
         → step s (state_of s past) k ≡ step s (states s (filter (is_of s.number) past)) k }
-{}
+{
+    // laws, for the proof
+    sent_messages_are_read();
+    readings_depend_on_the_set();
+    compaction_keeps_the_reading();
+    unions_have_the_lines_of_both();
+    files_are_changed_alone();
+    paths_tell_their_kind();
+    equal_lines_read_alike();
+}
 
 /// A step that makes an entry found what the table of `Found` says of that kind of entry, in any state (own).
 pub fn steps_find_their_cause()

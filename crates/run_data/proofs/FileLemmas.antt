@@ -1,5 +1,5 @@
 -- A file is read off its path, and stands there.
-use Rattle.std.proofs.Common.{◌≡◌, ◌≢◌, ◌↔◌, ℕ, Bool, true, false, List, [], Option, Some, None, IfSome, Result, Ok, Err, IfOk, refl, sym, ap, subst, ◌∙◌}
+use Rattle.std.proofs.Common.{◌≡◌, ◌≢◌, ◌⊎◌, inl, inr, ◌↔◌, ℕ, Bool, true, false, List, [], Option, Some, None, IfSome, Result, Ok, Err, IfOk, refl, sym, ap, subst, ◌∙◌}
 use Rattle.std.specs.Prelude.{if◌then◌else◌, bytes_eq}
 use Rattle.std.specs.List.{list_all}
 use Rattle.std.proofs.lemmas.Slice.Eq.{bytes_eq-Decides}
@@ -144,6 +144,31 @@ named_found name (Some kind) is = (named_kind_other name kind (sym is), named_pa
 -- no two kinds have one name
 pub one_kind : (j k : LogKind) → k ≢ kinds.Location → file_name j ≡ file_name k → j ≡ k
 one_kind j k other same = same_Some j k (sym (named_kind j (λ is. name_some k other (sym same ∙ ap file_name is))) ∙ ap kind_named same ∙ named_kind k other)
+
+-- the kind that a name tells, or none but a location log's
+abbrev or_location : Option LogKind → LogKind
+or_location None = kinds.Location
+or_location (Some kind) = kind
+
+told_kind : (kind : LogKind) → or_location (kind_named (file_name kind)) ≡ kind
+told_kind kinds.Location = refl
+told_kind kinds.Trust = refl
+told_kind kinds.Uuid = refl
+told_kind kinds.Group = refl
+told_kind kinds.Preferred = refl
+told_kind kinds.Required = refl
+told_kind kinds.GroupPreferred = refl
+told_kind kinds.Numcopies = refl
+told_kind kinds.Mincopies = refl
+
+-- two logs at one path are of one kind
+pub kind_there : (file other : LogFile) (kind : LogKind) → file_path file ≡ file_path other → kind_of other ≡ Some kind → (kind_of file ≡ Some kind) ⊎ (kind_of file ≡ None)
+kind_there (Other name) other kind same is = inr refl
+kind_there (Location key) (Location other) kind same is = inl is
+kind_there (Location key) (Of other) kind same is = absurd (apart key other (sym same))
+kind_there (Of own) (Location other) kind same is = absurd (apart other own same)
+kind_there (Of own) (Of other) kind same is = inl (ap Some (sym (told_kind own) ∙ ap (λ n. or_location (kind_named n)) same ∙ told_kind other) ∙ is)
+kind_there file (Other name) kind same is = absurd (cc)
 
 file_of-kind : (kind : LogKind) → kind ≢ kinds.Location → file_of (file_name kind) ≡ Of kind
 file_of-kind kind other = ap (file_by (file_name kind)) (named_kind kind other)

@@ -1,5 +1,6 @@
 //! Laws on the log files of a branch, which no call depends on.
-ghost use Rattle.std.specs.Prelude.{◌≡◌, ◌≢◌, ℕ, List, None};
+ghost use Rattle.std.specs.Prelude.{◌≡◌, ◌≢◌, ◌⊎◌, ℕ, List, Some, None};
+ghost use Rattle.log_lines.specs.declared.entry.LogKind.{LogKind};
 ghost use Rattle.union_merge.specs.LineSet.{IsLine};
 ghost use Rattle.run_data.specs.declared.entry.LogFile.{LogFile};
 ghost use Rattle.run_data.specs.Files.{HasPath, file_of, file_path, kind_of};
@@ -15,3 +16,9 @@ pub fn files_have_their_paths()
 {
     files_name_their_keys();
 }
+
+/// Of the files at one path no two are logs of different kinds (git-annex internals: branch files).
+pub fn paths_tell_their_kind()
+    ensures { (file other : LogFile) (kind : LogKind) → file_path file ≡ file_path other → kind_of other ≡ Some kind
+        → (kind_of file ≡ Some kind) ⊎ (kind_of file ≡ None) }
+{}

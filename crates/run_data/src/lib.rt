@@ -14,7 +14,7 @@ pub use job::{
     CandidateCause, Cause, Denial, DropRefusal, Job, JobKind, Outcome, Proof, SourceCause,
     SourceFailure, TransferRefusal,
 };
-pub use laws::files_have_their_paths;
+pub use laws::{files_have_their_paths, paths_tell_their_kind};
 pub use row::{Hold, HoldView, RowView};
 pub use run::{RepoView, Run, TreeMark};
 

@@ -10,7 +10,7 @@ use Rattle.run_data.specs.declared.run.RepoView.{RepoView}
 use Rattle.node_model.specs.Clocks.{runs_on}
 use Rattle.node_model.specs.Look.{first_of}
 use Rattle.node_model.specs.SetUp.{SetUp}
-use Rattle.run_model.specs.Past.{begun, clock_set, holds, is_of, made}
+use Rattle.run_model.specs.Past.{begun, clock_set, holds, is_of, entry_count}
 use Rattle.run_model.specs.Logs.{before_step, branch, ever, in_drop, is_step, read_at, settings_of}
 use Rattle.run_model.specs.States.{owes, state_of, works}
 
@@ -22,7 +22,7 @@ module _ (past : List Entry) (e : Entry) (r : ℕ) (is : is_of r e ≡ false) wh
   set_other : (repos : List RepoView) → clock_set repos (e ∷ past) r ≡ clock_set repos past r
   set_other repos = rw is refl
 
-  made_other : made (e ∷ past) r ≡ made past r
+  made_other : entry_count (e ∷ past) r ≡ entry_count past r
   made_other = rw is refl
 
   begun_other : begun (e ∷ past) r ≡ begun past r
@@ -62,7 +62,7 @@ other_is s past e is i =
     record {
       clock = ap runs_on (set_other past e r is s.repos) i;
       wall = was.wall;
-      made = made_other past e r is i;
+      entry_count = made_other past e r is i;
       begun = begun_other past e r is i;
       present = funext now.present was.present (λ key. rw is refl) i;
       bar = funext now.bar was.bar (λ key. rw is refl) i;

@@ -41,7 +41,7 @@ use Rattle.run_model.specs.Said.{Said, Says, CloseIt, is_request, message_in}
 use Rattle.run_model.specs.Frames.{Flying, MayTake, Sent, is_job, last_request, said_of, says, sender, taken_if, up_of, way_of}
 use Rattle.run_model.specs.Logs.{before_step, has_stepped, in_drop, need_read}
 use Rattle.run_model.specs.States.{content}
-use Rattle.run_model.specs.Drops.{evidence, asked, in_slot, is_first_step, shuts, standing, why, told_cause}
+use Rattle.run_model.specs.Drops.{evidence, offer_from, in_slot, is_first_step, shuts, standing, why, told_cause}
 use Rattle.node_model.specs.Evidence.{candidates, but, is_locked, proof_of, Fails, Ignored}
 
 -- ---- a job, and its drop
@@ -104,7 +104,7 @@ items repos past r j d = evidence (side_of d) repos past r j (target_of d) (need
 -- the candidate gave nothing, and an entry told the job why, or the logs did
 pub record IsCauseOf (repos : List RepoView) (past : List Entry) (r j : ℕ) (cs : List ℕ) (x : CandidateCause) : Type 0 where
   pub candidate : Member x.repo cs
-  pub failed : asked repos past r j x.repo ≡ Fails
+  pub failed : offer_from repos past r j x.repo ≡ Fails
   pub told : (told_cause past r j x.repo ≡ Some x.cause) ⊎ (standing repos past r j x.repo ≡ Ignored x.cause)
 
 -- each candidate gave evidence or a cause, the evidence is not enough, and the outcome states both
@@ -113,7 +113,7 @@ pub record FoundLacking (repos : List RepoView) (past : List Entry) (r j : ℕ) 
   pub wants : is_enough (side_of d) (need_read past r j) (items repos past r j d) ≡ false
   pub proof_is : proof ≡ proof_of (length repos) (need_read past r j) (items repos past r j d)
   pub causes : Each (IsCauseOf repos past r j (candidates (side_of d) (length repos) r (target_of d))) reasons
-  pub all : Each (λ c. asked repos past r j c ≡ Fails → Member (record { repo = c; cause = why repos past r j c }) reasons) (candidates (side_of d) (length repos) r (target_of d))
+  pub all : Each (λ c. offer_from repos past r j c ≡ Fails → Member (record { repo = c; cause = why repos past r j c }) reasons) (candidates (side_of d) (length repos) r (target_of d))
 
 -- the clock wasn't below the first end of the locked items: now, or as the release of the own share failed
 pub record FoundExpired (repos : List RepoView) (past : List Entry) (r j time end clk : ℕ) : Type 0 where
@@ -138,11 +138,11 @@ pub record Hears (past : List Entry) (r j peer : ℕ) (m : Said) : Type 0 where
   pub says : message_in f.body ≡ m
 
 -- the message that it takes answers this request: the last one on the connection
-pub record Answers (past : List Entry) (r j peer : ℕ) (asked answer : Said) : Type 0 where
+pub record Answers (past : List Entry) (r j peer : ℕ) (offer_from answer : Said) : Type 0 where
   pub hears : Hears past r j peer answer
   pub request : Flying
   pub last : last_request hears.before (up_of (way_of r hears.f)) ≡ Some request
-  pub asked_is : said_of request ≡ asked
+  pub asked_is : said_of request ≡ offer_from
 
 -- and this is the entry that sent it
 pub record SentBy (past : List Entry) (r j peer : ℕ) (m : Said) (h : Hears past r j peer m) : Type 0 where
@@ -363,8 +363,8 @@ pub record WasRejected (past : List Entry) (r j : ℕ) : Type 0 where
   pub peer : ℕ
   pub peer_is : d.what.peer ≡ Some peer
   pub asked : Said
-  pub asked_is : (asked ≡ Says Valid) ⊎ ((file : List ℕ) × (asked ≡ Says (Put file d.what.key)))
-  pub refused : Answers past r j peer asked (Says Failure)
+  pub asked_is : (offer_from ≡ Says Valid) ⊎ ((file : List ℕ) × (offer_from ≡ Says (Put file d.what.key)))
+  pub refused : Answers past r j peer offer_from (Says Failure)
   pub by : SentBy past r j peer (Says Failure) refused.hears
   pub found : rejects by.s.entry.kind ≡ true
 

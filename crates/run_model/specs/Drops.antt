@@ -26,7 +26,7 @@ use Rattle.run_model.specs.Said.{Said, Says, CloseIt, is_close, message_in}
 use Rattle.run_model.specs.Frames.{Sent, is_job, last_request, said_of, sender, up_of, way_of}
 use Rattle.run_model.specs.Logs.{before_step, in_drop, is_step, read_at, settings_of}
 use Rattle.node_model.specs.Look.{first_of}
-use Rattle.node_model.specs.Evidence.{Standing, Claimed, Ignored, Asked, standing_by, Offer, Gives, Fails, gather, candidates, reached}
+use Rattle.node_model.specs.Evidence.{Standing, Claimed, Ignored, Asked, standing_by, Offer, Gives, Fails, gather, candidates, reached_candidates}
 use Rattle.node_model.specs.Clocks.{hold_time}
 
 -- ---- what a repository says of its copy
@@ -142,7 +142,7 @@ cause_by_sender (Some s) = or_fault (cause_of_kind s.entry.kind)
 
 -- a frame says why the server gives nothing: it closes the connection, or refuses a look that was asked for last
 abbrev pub cause_said : Said → Option Said → Option Sent → Option Cause
-cause_said CloseIt asked s = Some Closed
+cause_said CloseIt offer_from s = Some Closed
 cause_said (Says Failure) (Some (Says (CheckPresent key))) s = Some (cause_by_sender s)
 cause_said _ _ s = None
 
@@ -212,8 +212,8 @@ offer clock (Ignored cause) v = Fails
 offer clock Asked v = vouch_offer clock v
 
 -- what a candidate offers job j of a
-abbrev pub asked : List RepoView → List Entry → ℕ → ℕ → ℕ → Offer
-asked repos past a j r = offer (clock repos past a) (standing repos past a j r) (reply past a j r)
+abbrev pub offer_from : List RepoView → List Entry → ℕ → ℕ → ℕ → Offer
+offer_from repos past a j r = offer (clock repos past a) (standing repos past a j r) (reply past a j r)
 
 -- the candidate is to be asked, and has told nothing yet
 abbrev pub is_waiting : {X Y : Type 0} → Standing → Option X → Option Y → Bool
@@ -227,7 +227,7 @@ waits repos past a j r = not (r == a) && is_waiting (standing repos past a j r) 
 -- the evidence of job j of a, a drop from the target: what the candidates gave before the first for which it waits
 abbrev pub evidence : Side → List RepoView → List Entry → ℕ → ℕ → ℕ → Need → List Evidence
 evidence side repos past a j target need =
-    gather side need (asked repos past a j) (reached (waits repos past a j) (candidates side (length repos) a target)) []
+    gather side need (offer_from repos past a j) (reached_candidates (waits repos past a j) (candidates side (length repos) a target)) []
 
 -- ---- what a drop's outcome says
 

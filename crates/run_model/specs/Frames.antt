@@ -53,20 +53,20 @@ abbrev pub flying : Entry → List Entry → FrameView → Flying
 flying e past g = record { frame = g; entry = e; before = past }
 
 -- all frames that were sent on the way, the oldest first: a function of its sender's entries
-abbrev pub sent : List Entry → Way → List Flying
-sent [] w = []
-sent (e ∷ past) w = if is_of (sender_of w) e then sent past w ++ map (flying e past) (on_way w e) else sent past w
+abbrev pub frames_sent : List Entry → Way → List Flying
+frames_sent [] w = []
+frames_sent (e ∷ past) w = if is_of (sender_of w) e then frames_sent past w ++ map (flying e past) (on_way w e) else frames_sent past w
 
 -- how many of them were taken: a function of its taker's entries
-abbrev pub taken : List Entry → Way → ℕ
-taken [] w = 0
-taken (e ∷ past) w = if is_of (taker_of w) e && takes w e.taken then taken past w + 1 else taken past w
+abbrev pub taken_count : List Entry → Way → ℕ
+taken_count [] w = 0
+taken_count (e ∷ past) w = if is_of (taker_of w) e && takes w e.taken then taken_count past w + 1 else taken_count past w
 
 -- the frame that may be taken next on the way: the first that was sent and not yet taken, with its number
 pub record MayTake (past : List Entry) (w : Way) (f : FrameView) : Type 0 where
   pub it : Flying
-  pub next : slice_get (sent past w) (taken past w) ≡ Some it
-  pub seq_is : f.seq ≡ taken past w + 1
+  pub next : slice_get (frames_sent past w) (taken_count past w) ≡ Some it
+  pub seq_is : f.seq ≡ taken_count past w + 1
   pub body_is : it.frame.body ≡ f.body
 
 -- an entry with the past before it
@@ -79,7 +79,7 @@ sent_of x = record { entry = x.entry; before = x.before }
 
 -- who sent the frame that may be taken next on the way
 abbrev pub next_sender : List Entry → Way → Option Sent
-next_sender past w = option_map sent_of (slice_get (sent past w) (taken past w))
+next_sender past w = option_map sent_of (slice_get (frames_sent past w) (taken_count past w))
 
 -- the sender of the frame that the entry of r took
 abbrev pub sender : List Entry → ℕ → Option FrameView → Option Sent
@@ -97,7 +97,7 @@ says q f = q (message_in f.body)
 
 -- of what was sent on a way, the frames whose message passes a test
 abbrev pub sent_if : (Said → Bool) → List Entry → Way → List Flying
-sent_if q past w = filter (λ x. says q x.frame) (sent past w)
+sent_if q past w = filter (λ x. says q x.frame) (frames_sent past w)
 
 abbrev pub takes_if : (Said → Bool) → Way → Option FrameView → Bool
 takes_if q w None = false

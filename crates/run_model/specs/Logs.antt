@@ -54,8 +54,8 @@ branch [] r = []
 branch (e ∷ past) r = if is_of r e then branch_after (branch past r) e.kind e.lines else branch past r
 
 -- the lines that r's file of this path has
-abbrev pub kept : List Entry → ℕ → List ℕ → List (List ℕ)
-kept past r path = lines_at (branch past r) path
+abbrev pub lines_of_file : List Entry → ℕ → List ℕ → List (List ℕ)
+lines_of_file past r path = lines_at (branch past r) path
 
 -- ---- what a job reads
 

@@ -97,9 +97,9 @@ decided_after place j was (Bar job need k) = if job == j then Some (record { pla
 decided_after place j was _ = was
 
 -- the decision of job j of r, if it has put its bar
-abbrev pub decided : List Entry → ℕ → ℕ → Option Decision
-decided [] r j = None
-decided (e ∷ past) r j = if is_of r e then decided_after (length past) j (decided past r j) e.kind else decided past r j
+abbrev pub decision : List Entry → ℕ → ℕ → Option Decision
+decision [] r j = None
+decision (e ∷ past) r j = if is_of r e then decided_after (length past) j (decision past r j) e.kind else decision past r j
 
 -- how many jobs the repository has begun
 abbrev pub begun : List Entry → ℕ → ℕ
@@ -107,9 +107,9 @@ begun [] r = 0
 begun (e ∷ past) r = if is_of r e && is_begin e.kind then begun past r + 1 else begun past r
 
 -- how many entries the repository has made
-abbrev pub made : List Entry → ℕ → ℕ
-made [] r = 0
-made (e ∷ past) r = if is_of r e then made past r + 1 else made past r
+abbrev pub entry_count : List Entry → ℕ → ℕ
+entry_count [] r = 0
+entry_count (e ∷ past) r = if is_of r e then entry_count past r + 1 else entry_count past r
 
 abbrev pub begun_job_after : ℕ → Option Job → EntryKind → Option Job
 begun_job_after j was (Begin job what) = if job == j then Some what else was

@@ -2,13 +2,13 @@
 -- that it makes next.
 use Rattle.std.specs.Prelude.{ℕ, if◌then◌else◌, List, [], ◌∷◌, Option, None}
 use Rattle.run_data.specs.declared.entry.Entry.{Entry}
-use Rattle.run_model.specs.Past.{is_of, bar, present, begun, clock, holds, made}
+use Rattle.run_model.specs.Past.{is_of, bar, present, begun, clock, holds, entry_count}
 use Rattle.node_model.specs.Ends.{EndName, taken_at, sent_at, End, end_after, never}
 use Rattle.node_model.specs.Rows.{content_after}
 use Rattle.node_model.specs.Sessions.{Session, new_session, session_after}
 use Rattle.run_data.specs.declared.run.RepoView.{RepoView}
 use Rattle.node_model.specs.Clocks.{wall}
-use Rattle.run_model.specs.Logs.{kept, read_at, settings_of}
+use Rattle.run_model.specs.Logs.{lines_of_file, read_at, settings_of}
 use Rattle.node_model.specs.Jobs.{Work, Rows, works_after}
 use Rattle.node_model.specs.SetUp.{SetUp}
 use Rattle.node_model.specs.Owed.{Owed, owed_after}
@@ -43,7 +43,7 @@ works (e ∷ past) r = if is_of r e then works_after (rows_at past r) r (works p
 abbrev pub owes : List RepoView → List Entry → ℕ → List Owed
 owes repos [] r = []
 owes repos (e ∷ past) r =
-    if is_of r e then owed_after repos (kept past r) (wall repos r e.time) (works past r) r (owes repos past r) e e.kind else owes repos past r
+    if is_of r e then owed_after repos (lines_of_file past r) (wall repos r e.time) (works past r) r (owes repos past r) e e.kind else owes repos past r
 
 abbrev pub state_of : SetUp → List Entry → State
 state_of s past =
@@ -51,7 +51,7 @@ state_of s past =
     record {
       clock = clock s.repos past r;
       wall = wall s.repos r;
-      made = made past r;
+      entry_count = entry_count past r;
       begun = begun past r;
       present = present past r;
       bar = bar past r;
@@ -61,7 +61,7 @@ state_of s past =
       sessions = session past r;
       works = works past r;
       owed = owes s.repos past r;
-      lines = kept past r;
+      lines = lines_of_file past r;
       logs = settings_of past r;
       read = λ j. settings_of (read_at past r j) r;
     }

@@ -10,7 +10,7 @@ use Rattle.run_data.specs.declared.entry.EntryKind.TheVariants.{Check, Fault}
 use Rattle.run_data.specs.declared.entry.FrameView.{FrameView}
 use Rattle.run_model.specs.Past.{is_of}
 use Rattle.node_model.specs.Rows.{option_is}
-use Rattle.run_model.specs.Frames.{Flying, sent, taken, way_of}
+use Rattle.run_model.specs.Frames.{Flying, frames_sent, taken_count, way_of}
 use Rattle.node_model.specs.Slots.{job_of}
 use Rattle.node_model.specs.Jobs.{Phase, AsksLook, Orders, Work}
 use Rattle.run_model.specs.States.{works}
@@ -44,7 +44,7 @@ awaits_of c (Some w) = awaits_word c w.what.peer w.phase
 
 abbrev pub word_taken : List Entry → ℕ → ℕ → Option FrameView → Option Word → Option Word
 word_taken past r c None was = was
-word_taken past r c (Some f) was = if f.peer == c then word_of (slice_get (sent past (way_of r f)) (taken past (way_of r f))) else was
+word_taken past r c (Some f) was = if f.peer == c then word_of (slice_get (frames_sent past (way_of r f)) (taken_count past (way_of r f))) else was
 
 -- the word beside the answer that job j of r took from c
 abbrev pub word_told : List Entry → ℕ → ℕ → ℕ → Option Word

@@ -1,3 +1,4 @@
+-- The lemmas of this crate.
 pub mod FrontLemmas
 pub mod PlaceLemmas
 pub mod SpellingLemmas

@@ -98,7 +98,8 @@ pub fn read_level(word: &[u8]) -> Option<Level>
         .find(|level| level_text(*level) == word)
 }
 
-fn call_text(call: Call) -> &'static [u8]
+/// The word of a call of a store (own).
+pub fn call_text(call: Call) -> &'static [u8]
     ensures { result.now ≡ call_word call }
 {
     match call {

@@ -1,3 +1,4 @@
+-- The lemmas of this crate.
 mod Alone
 mod CopyAndMove
 mod CrashAfterOrder

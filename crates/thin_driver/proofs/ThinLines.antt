@@ -10,7 +10,7 @@ use Rattle.annex_base.proofs.RepoLemmas.{repo_text-all}
 use Rattle.annex_base.specs.declared.kinds.Level.{Level}
 use Rattle.annex_base.specs.declared.kinds.Level.TheVariants as levels
 use Rattle.annex_base.specs.StampText.{stamp_text, digits_after_point, fraction_text}
-use Rattle.annex_base.specs.Lines.{newline}
+use Rattle.annex_base.specs.Lines.{newline, space, is_not_newline}
 use Rattle.annex_base.proofs.Lists.{list_all_append}
 use Rattle.log_lines.specs.declared.entry.LogKind.{LogKind}
 use Rattle.log_lines.specs.declared.entry.LogKind.TheVariants as kinds
@@ -19,8 +19,7 @@ use Rattle.log_lines.specs.declared.entry.Topic.TheVariants as topics
 use Rattle.log_lines.specs.declared.entry.Value.{Value}
 use Rattle.log_lines.specs.declared.entry.Value.TheVariants as values
 use Rattle.log_lines.specs.declared.entry.Entry.{Entry}
-use Rattle.log_lines.specs.LineText.{space, stamp_mark, topic_text, value_text, spaced_value, level_letter, stamp_first, stamp_last, line_text, repo_line_text, number_line_text}
-use Rattle.log_lines.specs.Reading.{is_not_newline}
+use Rattle.log_lines.specs.LineText.{stamp_mark, topic_text, value_text, spaced_value, level_letter, stamp_first, stamp_last, line_text, repo_line_text, number_line_text}
 use Rattle.union_merge.specs.LineSet.{IsLine}
 use Rattle.std.proofs.lemmas.Bool.{true≢false, and_parts}
 

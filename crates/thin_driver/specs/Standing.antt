@@ -3,7 +3,7 @@ use Rattle.std.specs.Prelude.{◌≡◌, ◌≢◌, ℕ, ◌<◌, ◌≤◌, tru
 use Rattle.annex_base.specs.Lists.{Each}
 use Rattle.annex_key.specs.KeyText.{IsKeyText}
 use Rattle.annex_key.specs.View.{size_part}
-use Rattle.log_lines.specs.LineText.{newline}
+use Rattle.annex_base.specs.Lines.{newline}
 use Rattle.run_data.specs.declared.run.RepoView.{RepoView}
 use Rattle.run_data.specs.Files.{HasPath, kind_of}
 use Rattle.run_data.specs.Repos.{fits_size}

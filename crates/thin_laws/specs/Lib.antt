@@ -1,3 +1,4 @@
+-- The definitions of this crate.
 pub use Rattle.annex_base.specs.Lists
 pub use Rattle.run_data.specs.Repos
 pub use Rattle.thin_model.specs.Past

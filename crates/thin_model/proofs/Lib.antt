@@ -1,3 +1,4 @@
+-- The lemmas of this crate.
 mod BranchLemmas
 pub mod LogLemmas
 pub mod Reading

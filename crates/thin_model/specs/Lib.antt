@@ -1,3 +1,4 @@
+-- The definitions of this crate.
 pub mod Past
 pub mod Frames
 pub mod Logs

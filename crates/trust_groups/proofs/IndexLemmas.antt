@@ -23,31 +23,6 @@ use Rattle.trust_groups.specs.Reads.{Indices, index_at, seen}
 abbrev Row : Type 0
 Row = Vec ℕ Global × Index
 
-pub seen-insert_entry : (es : List Row) (path : Vec ℕ Global) (index : Index) → seen (insert_entry path_cmp es path index) ≡ insert_entry text_cmp (seen es) path.items index
-seen-insert_entry [] path index = refl
-seen-insert_entry (e ∷ es) path index =
-    elim (text_cmp path.items e.0.items) as (λ o. seen (match_ordering o ((path, index) ∷ e ∷ es) ((e.0, index) ∷ es) (e ∷ insert_entry path_cmp es path index)) ≡ match_ordering o ((path.items, index) ∷ seen (e ∷ es)) ((e.0.items, index) ∷ seen es) ((e.0.items, e.1) ∷ insert_entry text_cmp (seen es) path.items index)) [
-      | Less ↦ refl
-      | Equal ↦ refl
-      | Greater ↦ ap (λ (w : Indices). (e.0.items, e.1) ∷ w) (seen-insert_entry es path index)
-    ]
-
-pub lookup-seen : (es : List Row) (path : List ℕ) → lookup (λ k. is_eq (text_cmp path k.items)) es ≡ index_at (seen es) path
-lookup-seen [] path = refl
-lookup-seen (e ∷ es) path =
-    elim (is_eq (text_cmp path e.0.items)) as (λ b. cond b (Some e.1) (lookup (λ k. is_eq (text_cmp path k.items)) es) ≡ cond b (Some e.1) (index_at (seen es) path)) [
-      | true ↦ refl
-      | false ↦ lookup-seen es path
-    ]
-
-pub seen-set_value : (es : List Row) (path : List ℕ) (index : Index) → seen (set_value (λ k. is_eq (text_cmp path k.items)) es index) ≡ set_value (is_at (text_cmp path)) (seen es) index
-seen-set_value [] path index = refl
-seen-set_value (e ∷ es) path index =
-    elim (is_eq (text_cmp path e.0.items)) as (λ b. seen (cond b ((e.0, index) ∷ es) (e ∷ set_value (λ k. is_eq (text_cmp path k.items)) es index)) ≡ cond b ((e.0.items, index) ∷ seen es) ((e.0.items, e.1) ∷ set_value (is_at (text_cmp path)) (seen es) index)) [
-      | true ↦ refl
-      | false ↦ ap (λ (w : Indices). (e.0.items, e.1) ∷ w) (seen-set_value es path index)
-    ]
-
 -- ---- what is found at a path
 
 same_path : (x y : List ℕ) → is_eq (text_cmp x y) ≡ true → x ≡ y

@@ -1,3 +1,4 @@
+-- The lemmas of this crate.
 pub mod ClaimLemmas
 pub mod IndexLemmas
 pub mod KeptLemmas

@@ -21,12 +21,13 @@ use Rattle.log_lines.specs.Reading.{entry_of}
 use Rattle.log_lines.specs.Index.{Index, empty_index, index_with, index_of}
 use Rattle.annex_base.specs.ByteOrder.{path_cmp}
 use Rattle.annex_base.proofs.Conditions.{by_test}
+use Rattle.annex_base.proofs.Rows.{shown-insert_entry}
 use Rattle.union_merge.specs.FileView as view
 use Rattle.union_merge.specs.Branch.{Files, IsBranch, lines_at}
 use Rattle.trust_groups.specs.Settings.{Lines}
 use Rattle.trust_groups.specs.Adding.{indices_and, indices_with, is_nil, lines_and}
 use Rattle.trust_groups.specs.Reads.{Indices, IsIndexOf, Reads, index_at, kind_at, lines_with, seen}
-use Rattle.trust_groups.proofs.IndexLemmas.{put_other, put_own, seen-insert_entry, set_other, set_own}
+use Rattle.trust_groups.proofs.IndexLemmas.{put_other, put_own, set_other, set_own}
 
 -- ---- the index of one file
 
@@ -84,7 +85,7 @@ first_reads es path line lines absent reads =
 pub first_added : (old new : List (Vec ℕ Global × Index)) (key : Vec ℕ Global) (path : List ℕ) (was is : Index) → new ≡ insert_entry path_cmp old key was → key.items ≡ path → (was.entries ≡ [] → ⊥) → was ≡ is → seen new ≡ indices_and (seen old) path is
 first_added old new key path was is put named some same =
     ap seen put
-    ∙ seen-insert_entry old key was
+    ∙ shown-insert_entry old key was
     ∙ ap (λ (p : List ℕ). insert_entry text_cmp (seen old) p was) named
     ∙ sym (added (some_entries was.entries some))
     ∙ ap (indices_and (seen old) path) same

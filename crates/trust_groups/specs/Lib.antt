@@ -1,3 +1,4 @@
+-- The definitions of this crate.
 pub mod Adding
 pub mod Alike
 pub mod Claims

@@ -19,13 +19,13 @@ IsFile f = IsLine f.0 × IsLineSet f.1
 
 -- ---- looking up
 
-file_at-tied : (f : File) (files : Files) (path : List ℕ) → path ≡ f.0 → file_at (f ∷ files) path ≡ Some f.1
+pub file_at-tied : (f : File) (files : Files) (path : List ℕ) → path ≡ f.0 → file_at (f ∷ files) path ≡ Some f.1
 file_at-tied f files path same = let e = text_cmp-same path f.0 same in rw e refl
 
 file_at-below : (f : File) (files : Files) (path : List ℕ) → Before path f.0 → file_at (f ∷ files) path ≡ file_at files path
 file_at-below f files path less = rw less refl
 
-file_at-above : (f : File) (files : Files) (path : List ℕ) → Before f.0 path → file_at (f ∷ files) path ≡ file_at files path
+pub file_at-above : (f : File) (files : Files) (path : List ℕ) → Before f.0 path → file_at (f ∷ files) path ≡ file_at files path
 file_at-above f files path more = let e = before_after f.0 path more in rw e refl
 
 file_at-other : (f : File) (files : Files) (path : List ℕ) → (path ≡ f.0 → ⊥) → file_at (f ∷ files) path ≡ file_at files path
@@ -87,7 +87,7 @@ lines_at-missing files path none = ap or_none (file_at-missing files path none)
 
 -- ---- a file that is set
 
-with_file-below : (f : File) (files : Files) (path : List ℕ) (lines : Lines) → Before path f.0 → with_file (f ∷ files) path lines ≡ (path, lines) ∷ f ∷ files
+pub with_file-below : (f : File) (files : Files) (path : List ℕ) (lines : Lines) → Before path f.0 → with_file (f ∷ files) path lines ≡ (path, lines) ∷ f ∷ files
 with_file-below f files path lines less = rw less refl
 
 pub with_file-tied : (f : File) (files : Files) (path : List ℕ) (lines : Lines) → path ≡ f.0 → with_file (f ∷ files) path lines ≡ (f.0, lines) ∷ files

@@ -1,3 +1,4 @@
+-- The lemmas of this crate.
 pub mod BranchLemmas
 pub mod DifferenceLemmas
 pub mod LineLemmas
@@ -6,3 +7,4 @@ pub mod PathLemmas
 pub mod PlaceLemmas
 pub mod SetLemmas
 pub mod ViewLemmas
+pub mod UndoneLemmas

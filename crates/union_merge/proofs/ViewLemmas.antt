@@ -2,15 +2,15 @@
 use Rattle.std.proofs.Common.{◌≡◌, inl, inr, ℕ, Bool, true, false, cond, List, [], ◌∷◌, map, Some, refl, sym, ap, ◌∙◌}
 use Rattle.std.specs.declared.vec.Vec.{Vec}
 use Rattle.std.specs.declared.alloc.Global.{Global}
-use Rattle.std.specs.declared.cmp.Ordering.TheVariants.{Less, Equal, Greater}
-use Rattle.std.specs.Ordering.{match_ordering, is_eq}
+use Rattle.std.specs.Ordering.{is_eq}
 use Rattle.std.specs.Map.{keys_of, lookup, set_value}
 use Rattle.std.specs.BTreeMap.{insert_entry}
 use Rattle.std.specs.List.{AllZip}
 use Rattle.annex_base.specs.ByteOrder.{text_cmp, Before, IsInOrder, path_cmp}
 use Rattle.annex_base.specs.Lists.{Member}
 use Rattle.annex_base.proofs.TextOrder.{below, tied, above, compared, text_cmp-same, before_after, Before-other, Before-back, order_head, order_tail, BeforeAll-member}
-use Rattle.union_merge.specs.Branch.{Files, file_at, with_file}
+use Rattle.annex_base.proofs.Rows.{shown-insert_entry}
+use Rattle.union_merge.specs.Branch.{Files, with_file}
 use Rattle.union_merge.specs.FileView.{files_of}
 use Rattle.union_merge.proofs.SetLemmas.{Lines}
 use Rattle.union_merge.proofs.BranchLemmas.{with_file-tied, with_file-above}
@@ -18,26 +18,9 @@ use Rattle.union_merge.proofs.BranchLemmas.{with_file-tied, with_file-above}
 abbrev pub Row : Type 0
 Row = Vec ℕ Global × List (List ℕ)
 
-pub files_of-insert_entry : (es : List Row) (path : Vec ℕ Global) (lines : Lines) → files_of (insert_entry path_cmp es path lines) ≡ with_file (files_of es) path.items lines
-files_of-insert_entry [] path lines = refl
-files_of-insert_entry (e ∷ es) path lines =
-    elim (text_cmp path.items e.0.items) as (λ o. files_of (match_ordering o ((path, lines) ∷ e ∷ es) ((e.0, lines) ∷ es) (e ∷ insert_entry path_cmp es path lines)) ≡ match_ordering o ((path.items, lines) ∷ files_of (e ∷ es)) ((e.0.items, lines) ∷ files_of es) ((e.0.items, e.1) ∷ with_file (files_of es) path.items lines)) [
-      | Less ↦ refl
-      | Equal ↦ refl
-      | Greater ↦ ap (λ (w : Files). (e.0.items, e.1) ∷ w) (files_of-insert_entry es path lines)
-    ]
-
-pub lookup-files_of : (es : List Row) (path : List ℕ) → lookup (λ k. is_eq (text_cmp path k.items)) es ≡ file_at (files_of es) path
-lookup-files_of [] path = refl
-lookup-files_of (e ∷ es) path =
-    elim (is_eq (text_cmp path e.0.items)) as (λ b. cond b (Some e.1) (lookup (λ k. is_eq (text_cmp path k.items)) es) ≡ cond b (Some e.1) (file_at (files_of es) path)) [
-      | true ↦ refl
-      | false ↦ lookup-files_of es path
-    ]
-
 pub file_is : (old new : Files) (es : List Row) (path : Vec ℕ Global) (lines : Lines) (p : List ℕ) → new ≡ files_of (insert_entry path_cmp es path lines) → files_of es ≡ old → path.items ≡ p → new ≡ with_file old p lines
 file_is old new es path lines p is before same =
-    is ∙ files_of-insert_entry es path lines ∙ ap (λ (w : Files). with_file w path.items lines) before ∙ ap (λ (w : List ℕ). with_file old w lines) same
+    is ∙ shown-insert_entry es path lines ∙ ap (λ (w : Files). with_file w path.items lines) before ∙ ap (λ (w : List ℕ). with_file old w lines) same
 
 -- a clone has the same files
 pub files_of-clone : (C : Vec ℕ Global → Vec ℕ Global → Type 0) (D : Lines → Lines → Type 0) → ((x y : Vec ℕ Global) → C x y → y.items ≡ x.items) → ((v w : Lines) → D v w → w ≡ v) → (es fs : List Row) → AllZip (λ p q. C p.0 q.0 × D p.1 q.1) es fs → files_of fs ≡ files_of es

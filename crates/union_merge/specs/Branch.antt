@@ -3,7 +3,7 @@
 use Rattle.std.specs.Prelude.{◌≡◌, ℕ, List, [], ◌∷◌, Option, Some, None}
 use Rattle.std.specs.List.{fold}
 use Rattle.std.specs.List.Sorted.{IsStrictlySortedBy}
-use Rattle.std.specs.Map.{lookup, keys_of}
+use Rattle.std.specs.Map.{lookup, keys_of, remove_entry}
 use Rattle.std.specs.BTreeMap.{insert_entry, is_at}
 use Rattle.annex_base.specs.ByteOrder.{text_cmp}
 use Rattle.annex_base.specs.Lists.{Each}
@@ -32,6 +32,15 @@ lines_at files path = or_none (file_at files path)
 -- the branch with these lines as the file's
 abbrev pub with_file : Files → List ℕ → List (List ℕ) → Files
 with_file files path lines = insert_entry text_cmp files path lines
+
+-- the branch without the file
+abbrev pub without_file : Files → List ℕ → Files
+without_file files path = remove_entry (is_at (text_cmp path)) files
+
+-- the branch with the file as it was: with these lines, or not there
+abbrev pub with_back : Files → List ℕ → Option (List (List ℕ)) → Files
+with_back files path None = without_file files path
+with_back files path (Some lines) = with_file files path lines
 
 -- the branch with these lines beside those of the file
 abbrev pub merged_file : Files → List ℕ → List (List ℕ) → Files

@@ -1,3 +1,4 @@
+-- The definitions of this crate.
 pub mod Branch
 pub mod FileView
 pub mod LineSet

@@ -1,12 +1,12 @@
 //! A branch: its files by path.
-ghost use Rattle.std.specs.Prelude.{◌≡◌, List, ℕ, [], not, None, IsTrue, IfOk, OnOk, OnErr};
+ghost use Rattle.std.specs.Prelude.{◌≡◌, List, ℕ, [], not, None, IsSome, IsTrue, IfOk, OnOk, OnErr};
 ghost use Rattle.std.specs.BTreeMap.{insert_entry};
 ghost use Rattle.std.specs.List.Sorted.{IsStrictlySortedBy};
 ghost use Rattle.std.specs.Map.{keys_of};
 ghost use Rattle.annex_base.specs.ByteOrder.{text_cmp, path_cmp};
 ghost use Rattle.std.specs.Option.{option_copied};
 ghost use Rattle.union_merge.specs.LineSet.{IsLine};
-ghost use Rattle.union_merge.specs.Branch.{IsBranch, file_at, with_file, merged_file};
+ghost use Rattle.union_merge.specs.Branch.{IsBranch, file_at, with_back, with_file, without_file, merged_file};
 ghost use Rattle.union_merge.specs.FileView.{files_of};
 
 use crate::line_set::LineSet;
@@ -76,6 +76,34 @@ impl Branch {
         Ok(())
     }
 
+    /// Gives a file that is there what it had before: these lines, or no place in the branch. It takes no memory.
+    pub fn put_back(&mut self, path: &[u8], was: Option<LineSet>)
+        requires line { IsLine path.now }
+        requires there { IsSome (file_at self.old path.now) }
+        ensures { self.new ≡ with_back self.old path.now was }
+    {
+        match was {
+            Some(lines) => self.set_file(path, lines),
+            None => self.take_off(path),
+        }
+    }
+
+    fn set_file(&mut self, path: &[u8], lines: LineSet)
+        requires line { IsLine path.now }
+        requires there { IsSome (file_at self.old path.now) }
+        ensures { self.new ≡ with_file self.old path.now lines }
+    {
+        // For the proof: the lines are in order, which the branch keeps.
+        let _ = lines.lines();
+        set_lines(&mut self.files, path, lines);
+    }
+
+    fn take_off(&mut self, path: &[u8])
+        ensures { self.new ≡ without_file self.old path.now }
+    {
+        take_off(&mut self.files, path);
+    }
+
     /// The lines of a file.
     pub fn file(&self, path: &[u8]) -> Option<&LineSet>
         ensures { option_copied result ≡ file_at self.now path.now }
@@ -138,6 +166,24 @@ fn put(
 {
     files.insert(path, lines)?;
     Ok(())
+}
+
+// Gives a file that is there these lines.
+fn set_lines(files: &mut BTreeMap<Vec<u8>, LineSet>, path: &[u8], lines: LineSet)
+    requires order { IsStrictlySortedBy text_cmp (keys_of (files_of files.old.entries)) }
+    requires there { IsSome (file_at (files_of files.old.entries) path.now) }
+    ensures { files_of files.new.entries ≡ with_file (files_of files.old.entries) path.now lines }
+{
+    let Some(own) = files.get_mut(path) else {
+        unreachable!();
+    };
+    *own = lines;
+}
+
+fn take_off(files: &mut BTreeMap<Vec<u8>, LineSet>, path: &[u8])
+    ensures { files_of files.new.entries ≡ without_file (files_of files.old.entries) path.now }
+{
+    files.remove(path);
 }
 
 fn paths_in(alloc: Global, files: &BTreeMap<Vec<u8>, LineSet>) -> Result<Vec<Text>, NoMemory>

@@ -1,10 +1,10 @@
 //! Laws of sets of lines, and of the merges of sets and of branches.
 
-ghost use Rattle.std.specs.Prelude.{◌≡◌, ◌≢◌, ◌⊎◌, ◌↔◌, List, ℕ, []};
+ghost use Rattle.std.specs.Prelude.{◌≡◌, ◌≢◌, ◌⊎◌, ◌↔◌, List, ℕ, [], Some};
 ghost use Rattle.std.specs.Map.{keys_of};
 ghost use Rattle.annex_base.specs.Lists.{Member, Each};
 ghost use Rattle.union_merge.specs.LineSet.{IsLineSet, union, difference, set_of, text_of};
-ghost use Rattle.union_merge.specs.Branch.{Files, IsBranch, lines_at, file_at, merged_branch, merge_by_path, merged_branches, HasLinesOfBoth};
+ghost use Rattle.union_merge.specs.Branch.{Files, IsBranch, lines_at, file_at, with_back, with_file, merged_branch, merge_by_path, merged_branches, HasLinesOfBoth};
 
 /// The union of two sets of lines has exactly the lines of both, whichever comes first, in whatever groups, and however
 /// often (git-annex internals: branch files).
@@ -57,4 +57,13 @@ pub fn any_order_of_merges_gives_one_branch()
 /// A branch is told by what a look-up at each path finds.
 pub fn branches_are_told_by_their_files()
     ensures { (xs ys : Files) → IsBranch xs → IsBranch ys → ((path : List ℕ) → file_at xs path ≡ file_at ys path) → xs ≡ ys }
+{}
+
+/// A file that is given lines has these, and the others have theirs. Given back what it had, the branch is as before
+/// (git-annex internals: branch files).
+pub fn files_are_changed_alone()
+    ensures set { (files : Files) (path : List ℕ) → IsBranch files → IsLineSet (lines_at files path) }
+    ensures there { (files : Files) (path : List ℕ) (lines : List (List ℕ)) → file_at (with_file files path lines) path ≡ Some lines }
+    ensures other { (files : Files) (path other : List ℕ) (lines : List (List ℕ)) → other ≢ path → lines_at (with_file files path lines) other ≡ lines_at files other }
+    ensures back { (files : Files) (path : List ℕ) (lines : List (List ℕ)) → IsBranch files → with_back (with_file files path lines) path (file_at files path) ≡ files }
 {}

@@ -1,3 +1,4 @@
+-- The lemmas of this crate.
 pub mod CopiesLemmas
 pub mod CutLemmas
 pub mod FaultLemmas

@@ -1,3 +1,4 @@
+-- The definitions of this crate.
 pub mod Expressions
 pub mod Finding
 pub mod Formula

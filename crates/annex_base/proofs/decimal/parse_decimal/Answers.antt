@@ -1,3 +1,4 @@
+-- What the proof of `decimal::parse_decimal` needs beside the tactics.
 use Rattle.std.proofs.Common.{◌<◌, ◌≤◌, ◌⊎◌, inl, inr, length, get_or, sym, ◌∙◌}
 use Rattle.annex_base.proofs.DecimalLemmas.{number_of-sign, number_of-text, number_of-parsed}
 use Rattle.annex_base.proofs.decimal.parse_decimal.Goals as goal

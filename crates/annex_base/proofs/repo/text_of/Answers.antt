@@ -1,3 +1,4 @@
+-- What the proof of `repo::text_of` needs beside the tactics.
 use Rattle.std.proofs.Common.{length, ap, sym, ◌∙◌}
 use Rattle.annex_base.proofs.RepoLemmas.{length-repo_text}
 use Rattle.annex_base.proofs.repo.text_of.Goals as goal

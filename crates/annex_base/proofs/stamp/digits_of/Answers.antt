@@ -1,3 +1,4 @@
+-- What the proof of `stamp::digits_of` needs beside the tactics.
 use Rattle.std.specs.Char.{is_ascii_digit}
 use Rattle.std.proofs.lemmas.List.Sums.{prefix_len-le-length}
 use Rattle.annex_base.proofs.StampLemmas.{front_digits}

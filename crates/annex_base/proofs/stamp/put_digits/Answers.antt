@@ -1,3 +1,4 @@
+-- What the proof of `stamp::put_digits` needs beside the tactics.
 use Rattle.std.proofs.Common.{◌≡◌, ◌-◌, ◌++◌, List, ℕ, sym, ap, ◌∙◌, append-nil, append_assoc, arith}
 use Rattle.std.proofs.Math.Nat.{mod-lt}
 use Rattle.annex_base.specs.StampText.{digits_after_point}

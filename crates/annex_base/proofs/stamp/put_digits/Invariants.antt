@@ -1,3 +1,4 @@
+-- What holds at each turn of the loops of `stamp::put_digits`.
 use Rattle.std.proofs.Common.{◌≡◌, ◌≤◌, ◌<◌, ◌^◌, ◌++◌}
 use Rattle.annex_base.specs.StampText.{digits_after_point}
 use Rattle.annex_base.proofs.stamp.put_digits.Given as goal

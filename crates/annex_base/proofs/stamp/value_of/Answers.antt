@@ -1,3 +1,4 @@
+-- What the proof of `stamp::value_of` needs beside the tactics.
 use Rattle.std.proofs.Common.{arith}
 use Rattle.std.proofs.lemmas.List.{take_all}
 use Rattle.annex_base.proofs.StampLemmas.{ten_digits_below, one_digit_more, digits_below}

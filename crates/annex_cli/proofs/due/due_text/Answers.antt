@@ -1,3 +1,4 @@
+-- What the proof of `due::due_text` needs beside the tactics.
 use Rattle.std.proofs.Common.{ap, sym, subst, ◌∙◌, arith, ◌++◌, codes, IfOk, Result, Ok, Err}
 use Rattle.std.specs.Fmt.{decimal}
 use Rattle.thin_script.specs.declared.fault.ScriptFault.TheVariants.{TooMuch}

@@ -1,3 +1,4 @@
+-- What holds at each turn of the loops of `escape::escape`.
 use Rattle.std.proofs.Common.{◌≡◌, take}
 use Rattle.annex_key.specs.KeyFile.{file_text}
 use Rattle.annex_key.proofs.escape.escape.Given as goal

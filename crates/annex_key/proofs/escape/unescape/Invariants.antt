@@ -1,3 +1,4 @@
+-- What holds at each turn of the loops of `escape::unescape`.
 use Rattle.std.proofs.Common.{◌≡◌, ◌++◌, length}
 use Rattle.annex_key.specs.KeyFile.{file_text}
 use Rattle.annex_key.proofs.escape.unescape.Given as goal

@@ -1,3 +1,4 @@
+-- What the proof of `index::add_first` needs beside the tactics.
 use Rattle.std.proofs.Common.{Some}
 use Rattle.annex_key.proofs.FirstLemmas.{adds_same}
 use Rattle.annex_key.proofs.index.add_first.Goals as goal

@@ -1,3 +1,4 @@
+-- What holds at each turn of the loops of `index::copies`.
 use Rattle.std.proofs.Common.{◌≡◌, ◌++◌}
 use Rattle.annex_key.proofs.index.copies.Given as goal
 

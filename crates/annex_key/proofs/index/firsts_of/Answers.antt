@@ -1,3 +1,4 @@
+-- What the proof of `index::firsts_of` needs beside the tactics.
 use Rattle.std.specs.Map.Iter.{deref_pair}
 use Rattle.std.proofs.lemmas.Map.Iter.{rest_more, rest_all}
 use Rattle.annex_key.proofs.FirstLemmas.{firsts_more, firsts_all}

@@ -1,3 +1,4 @@
+-- What holds at each turn of the loops of `index::firsts_of`.
 use Rattle.annex_key.proofs.FirstLemmas.{FirstsSoFar}
 use Rattle.annex_key.proofs.index.firsts_of.Given as goal
 

@@ -1,3 +1,4 @@
+-- What the proof of `index::take_path` needs beside the tactics.
 use Rattle.std.proofs.Common.{Some, None, ap, sym, ◌∙◌}
 use Rattle.std.specs.Option.{option_copied_mut}
 use Rattle.annex_key.proofs.IndexLemmas.{index_taken, set_less, sets_none, has_none, written}

@@ -1,3 +1,4 @@
+-- What the proof of `key::read` needs beside the tactics.
 use Rattle.annex_key.proofs.AnswerLemmas.{handed_on}
 use Rattle.annex_key.proofs.key.read.Goals as goal
 

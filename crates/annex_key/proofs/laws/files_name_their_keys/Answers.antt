@@ -1,3 +1,4 @@
+-- What the proof of `laws::files_name_their_keys` needs beside the tactics.
 use Rattle.annex_key.proofs.FileKeyLemmas.{key_of_file-is}
 use Rattle.annex_key.proofs.laws.files_name_their_keys.Goals as goal
 

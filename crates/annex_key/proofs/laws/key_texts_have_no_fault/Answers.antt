@@ -1,3 +1,4 @@
+-- What the proof of `laws::key_texts_have_no_fault` needs beside the tactics.
 use Rattle.annex_key.proofs.LineLemmas.{key_line, sound_text}
 use Rattle.annex_key.proofs.laws.key_texts_have_no_fault.Goals as goal
 

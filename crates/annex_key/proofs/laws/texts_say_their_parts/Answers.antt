@@ -1,3 +1,4 @@
+-- What the proof of `laws::texts_say_their_parts` needs beside the tactics.
 use Rattle.std.proofs.Common.{refl}
 use Rattle.annex_key.specs.KeyText.{key_text}
 use Rattle.annex_key.proofs.AnswerLemmas.{backend_part-key, size_part-key, name_part-key}

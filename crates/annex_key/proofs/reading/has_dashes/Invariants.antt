@@ -1,3 +1,4 @@
+-- What holds at each turn of the loops of `reading::has_dashes`.
 use Rattle.std.proofs.Common.{◌≡◌, ◌&&◌, ◌||◌, drop}
 use Rattle.annex_key.specs.KeyText.{dash}
 use Rattle.annex_key.specs.Reading.{has_dashes, begins}

@@ -1,3 +1,4 @@
+-- What the proof of `reading::name_front` needs beside the tactics.
 use Rattle.std.proofs.Common.{◌≤◌, ◌≡◌, length, not, arith}
 use Rattle.std.specs.List.{position_or_len}
 use Rattle.std.specs.Str.Lossy.{utf8_valid_len}

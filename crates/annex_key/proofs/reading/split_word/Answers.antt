@@ -1,3 +1,4 @@
+-- What the proof of `reading::split_word` needs beside the tactics.
 use Rattle.std.proofs.lemmas.List.Sums.{prefix_len-le-length}
 use Rattle.std.specs.Prelude.{not}
 use Rattle.annex_key.specs.Reading.{is_dash}

@@ -1,3 +1,4 @@
+-- What holds at each turn of the loops of `tree::copies`.
 use Rattle.std.proofs.Common.{◌≡◌, ◌++◌}
 use Rattle.std.specs.Map.{values_of}
 use Rattle.annex_key.proofs.tree.copies.Given as goal

@@ -1,3 +1,4 @@
+-- What the proof of `tree::put` needs beside the tactics.
 use Rattle.std.proofs.Common.{ap, sym, ◌∙◌}
 use Rattle.std.specs.Option.{option_copied}
 use Rattle.annex_key.specs.Tree.{key_of}

@@ -1,3 +1,4 @@
+-- What the proof of `laws::bundles_are_exact` needs beside the tactics.
 use Rattle.std.proofs.Common.{◌∙◌, refl, sym}
 use Rattle.branch_bundle.proofs.ExactLemmas.{one_branch, one_place}
 use Rattle.branch_bundle.proofs.laws.bundles_are_exact.Goals as goal

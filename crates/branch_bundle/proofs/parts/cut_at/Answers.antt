@@ -1,3 +1,4 @@
+-- What the proof of `parts::cut_at` needs beside the tactics.
 use Rattle.std.proofs.Common.{◌≤◌, ◌≡◌, ◌∙◌, length, sym, ap, subst, take, drop, [], ◌∷◌}
 use Rattle.std.proofs.lemmas.List.{nil_from_length}
 use Rattle.branch_bundle.specs.Parts.{IsCut}

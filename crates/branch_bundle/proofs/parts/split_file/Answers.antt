@@ -1,3 +1,4 @@
+-- What the proof of `parts::split_file` needs beside the tactics.
 use Rattle.std.proofs.Common.{sym, rules}
 use Rattle.branch_bundle.proofs.PartLemmas.{length_none, found_parts, no_number, no_count, no_path, no_empty, no_room}
 use Rattle.branch_bundle.proofs.parts.split_file.Goals as goal

@@ -1,3 +1,4 @@
+-- What the proof of `parts::strip` needs beside the tactics.
 use Rattle.branch_bundle.proofs.PartLemmas.{stripped}
 use Rattle.branch_bundle.proofs.parts.strip.Goals as goal
 

@@ -1,3 +1,4 @@
+-- What the proof of `place::begins_bundle` needs beside the tactics.
 use Rattle.branch_bundle.proofs.TestLemmas.{bundle_files_test, bundle_header_test}
 use Rattle.branch_bundle.proofs.place.begins_bundle.Goals as goal
 

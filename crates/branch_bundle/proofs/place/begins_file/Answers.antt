@@ -1,3 +1,4 @@
+-- What the proof of `place::begins_file` needs beside the tactics.
 use Rattle.std.proofs.Common.{rules}
 use Rattle.branch_bundle.proofs.FillLemmas.{Each-from_reads}
 use Rattle.branch_bundle.proofs.TestLemmas.{file_word_test, file_number_test}

@@ -1,3 +1,4 @@
+-- What the proof of `place::begins_files` needs beside the tactics.
 use Rattle.std.proofs.Common.{◌∙◌, refl, ap, sym, arith, length}
 use Rattle.std.proofs.lemmas.Bool.{true≢false}
 use Rattle.branch_bundle.proofs.FillLemmas.{no_more, some_more}

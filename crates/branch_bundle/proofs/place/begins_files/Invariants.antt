@@ -1,3 +1,4 @@
+-- What holds at each turn of the loops of `place::begins_files`.
 use Rattle.std.proofs.Common.{[], length}
 use Rattle.branch_bundle.specs.Parts.{BeginsFiles}
 use Rattle.branch_bundle.proofs.place.begins_files.Given as goal

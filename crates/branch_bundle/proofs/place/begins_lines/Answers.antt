@@ -1,3 +1,4 @@
+-- What the proof of `place::begins_lines` needs beside the tactics.
 use Rattle.branch_bundle.proofs.TestLemmas.{lines_test}
 use Rattle.branch_bundle.proofs.place.begins_lines.Goals as goal
 

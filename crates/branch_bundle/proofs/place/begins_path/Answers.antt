@@ -1,3 +1,4 @@
+-- What the proof of `place::begins_path` needs beside the tactics.
 use Rattle.std.proofs.Common.{rules, ap, sym, not, eqb}
 use Rattle.branch_bundle.proofs.FillLemmas.{Each-from_reads}
 use Rattle.branch_bundle.proofs.TestLemmas.{path_free_test, path_one_test, path_cut_test, path_below_test}

@@ -1,3 +1,4 @@
+-- What the proof of `place::first_wrong` needs beside the tactics.
 use Rattle.std.proofs.Common.{◌∙◌, sym, subst, arith}
 use Rattle.std.proofs.Math.Seq.{take-length}
 use Rattle.std.proofs.lemmas.Bool.{true≢false}

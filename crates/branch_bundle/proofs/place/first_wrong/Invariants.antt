@@ -1,3 +1,4 @@
+-- What holds at each turn of the loops of `place::first_wrong`.
 use Rattle.std.proofs.Common.{◌<◌, ◌≤◌, ◌-◌, length, take}
 use Rattle.branch_bundle.specs.Bundle.{BeginsBundle}
 use Rattle.branch_bundle.proofs.place.first_wrong.Given as goal

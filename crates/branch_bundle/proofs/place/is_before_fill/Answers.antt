@@ -1,3 +1,4 @@
+-- What the proof of `place::is_before_fill` needs beside the tactics.
 use Rattle.std.proofs.Common.{◌∙◌, ap, sym, rules}
 use Rattle.std.specs.Bool.{nat_lt}
 use Rattle.branch_bundle.proofs.FillLemmas.{fill_test, Each-from_reads}

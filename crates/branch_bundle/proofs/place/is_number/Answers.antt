@@ -1,3 +1,4 @@
+-- What the proof of `place::is_number` needs beside the tactics.
 use Rattle.std.proofs.Common.{refl}
 use Rattle.std.proofs.Common.{◌≡◌, ℕ, false}
 use Rattle.annex_base.proofs.Conditions.{denied}

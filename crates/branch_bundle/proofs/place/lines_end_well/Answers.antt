@@ -1,3 +1,4 @@
+-- What the proof of `place::lines_end_well` needs beside the tactics.
 use Rattle.std.proofs.Common.{◌∙◌, ◌-◌, ◌≡◌, suc, sym, arith}
 use Rattle.branch_bundle.proofs.EndLemmas.{next_good, next_bad, last_none, last_some, is_empty-length}
 use Rattle.branch_bundle.proofs.place.lines_end_well.Goals as goal

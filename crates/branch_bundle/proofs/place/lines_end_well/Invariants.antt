@@ -1,3 +1,4 @@
+-- What holds at each turn of the loops of `place::lines_end_well`.
 use Rattle.std.proofs.Common.{◌≡◌, [], length}
 use Rattle.branch_bundle.specs.Parts.{ends_well}
 use Rattle.branch_bundle.proofs.place.lines_end_well.Given as goal

@@ -1,3 +1,4 @@
+-- What the proof of `place::may_follow` needs beside the tactics.
 use Rattle.std.proofs.Common.{sym}
 use Rattle.branch_bundle.proofs.TestLemmas.{may_follow_test, may_follow_below}
 use Rattle.branch_bundle.proofs.place.may_follow.Goals as goal

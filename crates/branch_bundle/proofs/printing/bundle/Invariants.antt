@@ -1,3 +1,4 @@
+-- What holds at each turn of the loops of `printing::bundle`.
 use Rattle.std.proofs.Common.{◌≡◌, ◌++◌}
 use Rattle.std.specs.List.{flat_map}
 use Rattle.branch_bundle.specs.Bundle.{file_text, bundle_text}

@@ -1,3 +1,4 @@
+-- What the proof of `printing::put_file` needs beside the tactics.
 use Rattle.std.proofs.Common.{◌∙◌, ◌++◌, ap, rules}
 use Rattle.branch_bundle.proofs.TextLemmas.{put_file_is}
 use Rattle.branch_bundle.proofs.printing.put_file.Goals as goal

@@ -1,3 +1,4 @@
+-- What the proof of `reading::read` needs beside the tactics.
 use Rattle.std.specs.List.{flat_map}
 use Rattle.branch_bundle.specs.Bundle.{file_text}
 use Rattle.branch_bundle.proofs.reading.read.Goals as goal

@@ -1,3 +1,4 @@
+-- What the proof of `reading::read_bundle` needs beside the tactics.
 use Rattle.std.proofs.Common.{inl, ap, Err, rules}
 use Rattle.branch_bundle.specs.Bundle.{IsFirstWrong}
 use Rattle.branch_bundle.specs.declared.fault.BundleFault.TheVariants.{BadBundle}

@@ -1,3 +1,4 @@
+-- What the proof of `reading::read_files` needs beside the tactics.
 use Rattle.branch_bundle.proofs.ReadLemmas.{reads_on-more, reads_on-all}
 use Rattle.branch_bundle.proofs.reading.read_files.Goals as goal
 

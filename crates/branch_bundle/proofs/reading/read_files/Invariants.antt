@@ -1,3 +1,4 @@
+-- What holds at each turn of the loops of `reading::read_files`.
 use Rattle.std.proofs.Common.{length}
 use Rattle.branch_bundle.proofs.ReadLemmas.{ReadsOn}
 use Rattle.branch_bundle.proofs.reading.read_files.Given as goal

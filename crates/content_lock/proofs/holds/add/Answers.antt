@@ -1,3 +1,4 @@
+-- What the proof of `holds::add` needs beside the tactics.
 use Rattle.std.proofs.Common.{ℕ, ◌<◌, refl, subst}
 use Rattle.std.specs.Map.{values_of}
 use Rattle.annex_base.proofs.Lists.{Each-from_All}

@@ -1,3 +1,4 @@
+-- What the proof of `holds::delist` needs beside the tactics.
 use Rattle.std.proofs.Common.{ℕ, List, Some, None, not, filter, ap, sym, ◌∙◌, is_some, rules, ◌≡◌, length, arith}
 use Rattle.std.specs.Prelude.{◌==◌}
 use Rattle.std.specs.Option.{option_copied_mut}

@@ -1,3 +1,4 @@
+-- What the proof of `holds::enlist` needs beside the tactics.
 use Rattle.std.proofs.Common.{Some, ap, sym, ◌∙◌, is_some}
 use Rattle.std.specs.Option.{option_copied_mut}
 use Rattle.annex_base.proofs.Results.{OnErr-always}

@@ -1,3 +1,4 @@
+-- What the proof of `holds::first_blocker` needs beside the tactics.
 use Rattle.std.proofs.Common.{ap, sym, ◌∙◌, None, ℕ, Option, get_or}
 use Rattle.std.proofs.lemmas.List.Sums.{fold_more}
 use Rattle.content_lock.specs.declared.hold.Blocker.{Blocker}

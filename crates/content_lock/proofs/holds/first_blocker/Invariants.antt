@@ -1,3 +1,4 @@
+-- What holds at each turn of the loops of `holds::first_blocker`.
 use Rattle.std.proofs.Common.{◌≡◌, fold, take, None}
 use Rattle.content_lock.specs.Indexed.{after_hold, hold_at}
 use Rattle.content_lock.proofs.holds.first_blocker.Given as goal

@@ -1,3 +1,4 @@
+-- What the proof of `holds::index_of` needs beside the tactics.
 use Rattle.std.proofs.Common.{◌≡◌, ◌∷◌, ◌++◌, List, append-nil, ap, sym, ◌∙◌, rules}
 use Rattle.std.specs.Map.{values_of}
 use Rattle.run_data.specs.declared.row.Hold.{Hold}

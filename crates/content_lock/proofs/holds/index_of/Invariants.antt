@@ -1,3 +1,4 @@
+-- What holds at each turn of the loops of `holds::index_of`.
 use Rattle.std.proofs.Common.{◌≡◌, ◌++◌, List, ℕ}
 use Rattle.std.specs.Map.{values_of}
 use Rattle.content_lock.specs.Indexed.{listed_at}

@@ -1,3 +1,4 @@
+-- What the proof of `holds::keep` needs beside the tactics.
 use Rattle.std.proofs.Common.{true, sym, ap, ◌∙◌}
 use Rattle.std.specs.Option.{option_copied_mut}
 use Rattle.content_lock.proofs.NumberedLemmas.{kept_none, kept_one}

@@ -1,3 +1,4 @@
+-- What holds at each turn of the loops of `holds::recovered`.
 use Rattle.content_lock.specs.Indexed.{IsRecovered}
 use Rattle.content_lock.proofs.holds.recovered.Given as goal
 

@@ -1,3 +1,4 @@
+-- What the proof of `holds::restart_all` needs beside the tactics.
 use Rattle.std.proofs.Common.{rules}
 use Rattle.std.proofs.lemmas.Map.Made.{map_same_pairs}
 use Rattle.node_model.specs.Rows.{restart}

@@ -1,3 +1,4 @@
+-- What the proof of `holds::take_off` needs beside the tactics.
 use Rattle.std.proofs.Common.{Some}
 use Rattle.content_lock.proofs.IndexedLemmas.{indexed_less}
 use Rattle.content_lock.proofs.NumberedLemmas.{looked_up, removed, values_less}

@@ -1,3 +1,4 @@
+-- What the proof of `rule::judge` needs beside the tactics.
 use Rattle.std.proofs.Common.{arith, ◌≡◌, true, refl}
 use Rattle.drop_proof.specs.Judging.{is_enough}
 use Rattle.drop_proof.proofs.JudgingLemmas.{is_enough-from_MeetsRule, least_end-IsFirstEnd}

@@ -1,3 +1,4 @@
+-- What the proof of `item::is_in_ranges` needs beside the tactics.
 use Rattle.std.proofs.Common.{◌∙◌, inl, inr}
 use Rattle.glob_match.proofs.SetLemmas.{in_ranges_step, outside}
 use Rattle.glob_match.specs.Glob.{in_ranges}

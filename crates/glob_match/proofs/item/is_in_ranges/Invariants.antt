@@ -1,3 +1,4 @@
+-- What holds at each turn of the loops of `item::is_in_ranges`.
 use Rattle.std.proofs.Common.{◌≡◌, length}
 use Rattle.glob_match.specs.Glob.{in_ranges}
 use Rattle.glob_match.proofs.item.is_in_ranges.Given as goal

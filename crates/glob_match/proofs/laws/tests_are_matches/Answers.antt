@@ -1,3 +1,4 @@
+-- What the proof of `laws::tests_are_matches` needs beside the tactics.
 use Rattle.glob_match.proofs.MatchLemmas.{match_from_test, test_from_match}
 use Rattle.glob_match.proofs.laws.tests_are_matches.Goals as goal
 

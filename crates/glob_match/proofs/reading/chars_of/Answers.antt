@@ -1,3 +1,4 @@
+-- What the proof of `reading::chars_of` needs beside the tactics.
 use Rattle.std.proofs.Common.{rules}
 use Rattle.std.proofs.lemmas.Str.{chars_from_encodes}
 use Rattle.glob_match.proofs.reading.chars_of.Goals as goal

@@ -1,3 +1,4 @@
+-- What the proof of `reading::read_items` needs beside the tactics.
 use Rattle.std.proofs.Common.{rules, ◌≡◌, ◌++◌, ◌∷◌, [], Some, ◌∙◌, ap, length, arith, List, ℕ, flat_map}
 use Rattle.glob_match.specs.Glob.{item_text}
 use Rattle.glob_match.specs.Walk.{item_at}

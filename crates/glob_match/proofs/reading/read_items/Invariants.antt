@@ -1,3 +1,4 @@
+-- What holds at each turn of the loops of `reading::read_items`.
 use Rattle.std.proofs.Common.{◌≡◌, ◌++◌, length, flat_map, true}
 use Rattle.std.specs.List.{list_all}
 use Rattle.glob_match.specs.Glob.{is_item, item_text}

@@ -1,3 +1,4 @@
+-- What the proof of `reading::read_pattern` needs beside the tactics.
 use Rattle.std.proofs.Common.{◌≡◌, arith, length, ◌∙◌, ◌-◌, flat_map, sym}
 use Rattle.std.proofs.lemmas.Bool.{eqb-true}
 use Rattle.std.specs.Str.{encode_utf8_all}

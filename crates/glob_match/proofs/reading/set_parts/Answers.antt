@@ -1,3 +1,4 @@
+-- What the proof of `reading::set_parts` needs beside the tactics.
 use Rattle.glob_match.proofs.ReadingLemmas.{set_found, set_open_here, set_within, set_taken, set_dropped}
 use Rattle.glob_match.proofs.reading.set_parts.Goals as goal
 

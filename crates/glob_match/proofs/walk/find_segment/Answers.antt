@@ -1,3 +1,4 @@
+-- What the proof of `walk::find_segment` needs beside the tactics.
 use Rattle.std.proofs.Common.{◌∙◌}
 use Rattle.std.specs.Str.{chars}
 use Rattle.glob_match.proofs.WalkLemmas.{find_here}

@@ -1,3 +1,4 @@
+-- What holds at each turn of the loops of `walk::find_segment`.
 use Rattle.std.proofs.Common.{◌≡◌, length}
 use denote.Shadow.{shadow}
 use denote.Text.{Utf8}

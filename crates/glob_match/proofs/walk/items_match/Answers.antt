@@ -1,3 +1,4 @@
+-- What the proof of `walk::items_match` needs beside the tactics.
 use Rattle.std.proofs.Common.{rules, ◌∙◌, sym, ap, length, arith}
 use Rattle.std.specs.Str.{chars}
 use Rattle.glob_match.specs.Walk.{segment_at, find_at}

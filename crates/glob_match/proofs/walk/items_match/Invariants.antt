@@ -1,3 +1,4 @@
+-- What holds at each turn of the loops of `walk::items_match`.
 use Rattle.std.proofs.Common.{◌≡◌, length, true}
 use denote.Shadow.{shadow}
 use denote.Text.{Utf8}

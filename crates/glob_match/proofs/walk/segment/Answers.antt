@@ -1,3 +1,4 @@
+-- What the proof of `walk::segment` needs beside the tactics.
 use Rattle.std.proofs.Common.{◌∙◌}
 use Rattle.std.specs.Str.{chars}
 use Rattle.glob_match.proofs.WalkLemmas.{segment_ends, segment_goes_on}

@@ -1,3 +1,4 @@
+-- What the proof of `walk::split_char` needs beside the tactics.
 use Rattle.std.proofs.Common.{◌≡◌, ◌++◌, sym, ap}
 use Rattle.std.specs.Char.{encode_utf8}
 use Rattle.std.specs.Str.Iter.{chars_rest}

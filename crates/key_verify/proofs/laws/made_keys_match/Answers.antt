@@ -1,3 +1,4 @@
+-- What the proof of `laws::made_keys_match` needs beside the tactics.
 use Rattle.annex_key.specs.KeyText.{key_text}
 use Rattle.key_verify.specs.MakingKeys.{made_key}
 use Rattle.key_verify.proofs.MadeKeys.{made_key-is, made_matches}

@@ -1,3 +1,4 @@
+-- What the proof of `making::after_last` needs beside the tactics.
 use Rattle.std.proofs.Common.{arith, reverse}
 use Rattle.std.specs.Prelude.{not, ◌==◌}
 use Rattle.std.proofs.lemmas.List.Sums.{prefix_len-le-length}

@@ -1,3 +1,4 @@
+-- What the proof of `method::told_digest` needs beside the tactics.
 use Rattle.std.specs.Prelude.{not}
 use Rattle.std.proofs.lemmas.List.Sums.{prefix_len-le-length}
 use Rattle.key_verify.specs.Digests.{is_dot}

@@ -1,3 +1,4 @@
+-- What the proof of `verdict::judge_sum` needs beside the tactics.
 use Rattle.key_verify.proofs.Verdicts.{judged_right}
 use Rattle.key_verify.proofs.verdict.judge_sum.Goals as goal
 

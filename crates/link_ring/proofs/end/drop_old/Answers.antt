@@ -1,3 +1,4 @@
+-- What the proof of `end::drop_old` needs beside the tactics.
 use Rattle.std.proofs.Common.{nat_lt, rules}
 use Rattle.std.proofs.lemmas.Fn.{filter_same}
 use Rattle.link_ring.proofs.end.drop_old.Goals as goal

@@ -1,3 +1,4 @@
+-- What the proof of `end::take_first` needs beside the tactics.
 use Rattle.std.proofs.Common.{◌≡◌, ◌<◌, ◌∙◌, length, not, false, rules}
 use Rattle.link_ring.specs.Frames.{is_old}
 use Rattle.link_ring.proofs.Taking.{passed_over}

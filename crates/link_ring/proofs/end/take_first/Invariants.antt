@@ -1,3 +1,4 @@
+-- What holds at each turn of the loops of `end::take_first`.
 use Rattle.std.proofs.Common.{◌≡◌, not, vec_capacity, vec_len}
 use Rattle.std.specs.List.{find, after_first}
 use Rattle.link_ring.specs.Frames.{is_old}

@@ -1,3 +1,4 @@
+-- What the proof of `laws::ends_stay_paired` needs beside the tactics.
 use Rattle.std.proofs.Common.{arith}
 use Rattle.link_ring.proofs.Pairs.{paired_call, paired_carry}
 use Rattle.link_ring.proofs.laws.ends_stay_paired.Goals as goal

@@ -1,3 +1,4 @@
+-- What the proof of `laws::frames_keep_their_order` needs beside the tactics.
 use Rattle.link_ring.proofs.Order.{next_live, in_order}
 use Rattle.link_ring.proofs.laws.frames_keep_their_order.Goals as goal
 

@@ -1,3 +1,4 @@
+-- What holds at each turn of the loops of `links::make_links`.
 use Rattle.std.proofs.Common.{◌≡◌, ◌*◌, All, replicate, vec_len}
 use Rattle.link_ring.specs.Ends.{fresh}
 use Rattle.link_ring.proofs.links.make_links.Given as goal

@@ -1,3 +1,4 @@
+-- What the proof of `compaction::compact` needs beside the tactics.
 use Rattle.std.proofs.Common.{sym, ap, ◌∙◌, ◌++◌, ◌∷◌, [], not}
 use Rattle.log_lines.specs.Reading.{entry_of}
 use Rattle.log_lines.specs.Index.{Index, index_of}

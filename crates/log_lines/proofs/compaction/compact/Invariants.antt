@@ -1,3 +1,4 @@
+-- What holds at each turn of the loops of `compaction::compact`.
 use Rattle.std.proofs.Common.{◌≡◌, filter, not}
 use Rattle.log_lines.specs.Newest.{is_outdated}
 use Rattle.log_lines.proofs.compaction.compact.Given as goal

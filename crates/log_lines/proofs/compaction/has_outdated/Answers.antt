@@ -1,3 +1,4 @@
+-- What the proof of `compaction::has_outdated` needs beside the tactics.
 use Rattle.std.proofs.Common.{sym, ap, ◌∙◌, ◌||◌, get_or, arith}
 use Rattle.std.specs.List.{list_any}
 use Rattle.std.proofs.lemmas.List.{take_all}

@@ -1,3 +1,4 @@
+-- What holds at each turn of the loops of `compaction::has_outdated`.
 use Rattle.std.proofs.Common.{◌≡◌, take, false}
 use Rattle.std.specs.List.{list_any}
 use Rattle.log_lines.specs.Newest.{is_outdated}

@@ -1,3 +1,4 @@
+-- What holds at each turn of the loops of `groups::names`.
 use Rattle.std.proofs.Common.{◌≡◌, map, take}
 use Rattle.log_lines.proofs.groups.names.Given as goal
 

@@ -1,3 +1,4 @@
+-- What the proof of `groups::split_groups` needs beside the tactics.
 use Rattle.std.proofs.Common.{sym, ap, map, ◌∙◌}
 use Rattle.log_lines.proofs.GroupLemmas.{groups_some, groups_none}
 use Rattle.log_lines.proofs.groups.split_groups.Goals as goal

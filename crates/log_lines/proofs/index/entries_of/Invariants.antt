@@ -1,3 +1,4 @@
+-- What holds at each turn of the loops of `index::entries_of`.
 use Rattle.std.proofs.Common.{◌≡◌}
 use Rattle.log_lines.specs.Index.{entries_in}
 use Rattle.log_lines.proofs.index.entries_of.Given as goal

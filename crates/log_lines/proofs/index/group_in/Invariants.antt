@@ -1,3 +1,4 @@
+-- What holds at each turn of the loops of `index::group_in`.
 use Rattle.std.proofs.Common.{◌≡◌}
 use Rattle.std.specs.Map.{lookup}
 use Rattle.log_lines.specs.declared.entry.Topic.TheVariants as topics

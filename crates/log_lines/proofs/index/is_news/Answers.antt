@@ -1,3 +1,4 @@
+-- What the proof of `index::is_news` needs beside the tactics.
 use Rattle.std.proofs.Common.{ap, ◌∙◌}
 use Rattle.std.specs.BTreeMap.{get}
 use Rattle.log_lines.specs.Latest.{is_news}

@@ -1,3 +1,4 @@
+-- What the proof of `index::is_outdated` needs beside the tactics.
 use Rattle.std.proofs.Common.{sym, ap, ◌∙◌}
 use Rattle.log_lines.specs.declared.statement.Statement.{Statement}
 use Rattle.log_lines.specs.Index.{entries_in}

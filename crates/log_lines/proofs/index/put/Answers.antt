@@ -1,3 +1,4 @@
+-- What the proof of `index::put` needs beside the tactics.
 use Rattle.std.proofs.Common.{sym, ap, ◌∙◌}
 use Rattle.std.specs.BTreeMap.{insert_entry}
 use Rattle.log_lines.specs.declared.statement.Statement.{Statement}

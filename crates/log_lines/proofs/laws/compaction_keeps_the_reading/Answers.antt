@@ -1,3 +1,4 @@
+-- What the proof of `laws::compaction_keeps_the_reading` needs beside the tactics.
 use Rattle.log_lines.proofs.NewestLemmas.{alike_append}
 use Rattle.log_lines.proofs.CompactLemmas.{compacted_alike, compacted_among, alike_both, kept_alike, left_out, stays}
 use Rattle.log_lines.proofs.laws.compaction_keeps_the_reading.Goals as goal

@@ -1,3 +1,4 @@
+-- What the proof of `laws::next_entries_are_read` needs beside the tactics.
 use Rattle.log_lines.proofs.NextLemmas.{next_is_newest, pushed_newer, front_newer, pushed_only, newest_of-push_other}
 use Rattle.log_lines.proofs.laws.next_entries_are_read.Goals as goal
 

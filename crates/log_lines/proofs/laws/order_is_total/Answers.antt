@@ -1,3 +1,4 @@
+-- What the proof of `laws::order_is_total` needs beside the tactics.
 use Rattle.log_lines.proofs.OrderLemmas.{topic_total, topic_exact, entry_total, entry_exact}
 use Rattle.log_lines.proofs.laws.order_is_total.Goals as goal
 

@@ -1,3 +1,4 @@
+-- What the proof of `laws::readings_are_exact` needs beside the tactics.
 use Rattle.log_lines.proofs.NewestLemmas.{reading_same, newest_reading, newest_of_found, newest_of_none}
 use Rattle.log_lines.proofs.laws.readings_are_exact.Goals as goal
 

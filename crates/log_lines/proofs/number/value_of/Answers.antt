@@ -1,3 +1,4 @@
+-- What the proof of `number::value_of` needs beside the tactics.
 use Rattle.std.proofs.Common.{◌+◌, arith}
 use Rattle.annex_base.proofs.StampLemmas.{one_digit_more}
 use Rattle.log_lines.proofs.NumberLemmas.{nine_digits_below}

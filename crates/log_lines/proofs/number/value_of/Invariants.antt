@@ -1,3 +1,4 @@
+-- What holds at each turn of the loops of `number::value_of`.
 use Rattle.std.proofs.Common.{◌≡◌, take}
 use Rattle.std.specs.Str.Parse.{digits_value}
 use Rattle.log_lines.proofs.number.value_of.Given as goal

@@ -1,3 +1,4 @@
+-- What the proof of `one_topic::newest_of` needs beside the tactics.
 use Rattle.std.proofs.Common.{sym, ap, ◌∙◌}
 use Rattle.log_lines.specs.Reading.{entry_of}
 use Rattle.log_lines.specs.Latest.{said_of, newer_of}

@@ -1,3 +1,4 @@
+-- What holds at each turn of the loops of `one_topic::newest_of`.
 use Rattle.std.proofs.Common.{◌≡◌, take}
 use Rattle.log_lines.specs.Newest.{newest_of}
 use Rattle.log_lines.proofs.one_topic.newest_of.Given as goal

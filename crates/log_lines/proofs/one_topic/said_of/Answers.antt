@@ -1,3 +1,4 @@
+-- What the proof of `one_topic::said_of` needs beside the tactics.
 use Rattle.std.proofs.Common.{sym, ap, ◌∙◌}
 use Rattle.log_lines.specs.Latest.{said_of}
 use Rattle.log_lines.proofs.NewerLemmas.{said_when, said_other}

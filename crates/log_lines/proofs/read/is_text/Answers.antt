@@ -1,3 +1,4 @@
+-- What the proof of `read::is_text` needs beside the tactics.
 use Rattle.std.proofs.Common.{sym}
 use Rattle.std.specs.Str.{is_utf8}
 use Rattle.std.proofs.lemmas.Str.{is_utf8-from_IsUtf8, IsUtf8-from_is_utf8}

@@ -1,3 +1,4 @@
+-- What the proof of `read::lines_are_exact` needs beside the tactics.
 use Rattle.log_lines.proofs.FormLemmas.{one_entry}
 use Rattle.log_lines.proofs.read.lines_are_exact.Goals as goal
 

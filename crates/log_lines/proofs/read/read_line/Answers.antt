@@ -1,3 +1,4 @@
+-- What the proof of `read::read_line` needs beside the tactics.
 use Rattle.log_lines.proofs.ReadLemmas.{read_found, read_only}
 use Rattle.log_lines.proofs.read.read_line.Goals as goal
 

@@ -1,3 +1,4 @@
+-- What the proof of `reading::newest` needs beside the tactics.
 use Rattle.std.proofs.Common.{ap}
 use Rattle.log_lines.specs.Index.{Index}
 use Rattle.log_lines.proofs.NewestLemmas.{reading_by}

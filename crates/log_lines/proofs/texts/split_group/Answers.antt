@@ -1,6 +1,7 @@
+-- What the proof of `texts::split_group` needs beside the tactics.
 use Rattle.std.specs.Prelude.{not}
 use Rattle.std.proofs.lemmas.List.Sums.{prefix_len-le-length}
-use Rattle.log_lines.specs.Reading.{is_space}
+use Rattle.annex_base.specs.Lines.{is_space}
 use Rattle.log_lines.proofs.texts.split_group.Goals as goal
 
 pub split_at-requires : goal.split_at-requires

@@ -1,3 +1,4 @@
+-- What the proof of `write::is_same` needs beside the tactics.
 use Rattle.std.proofs.Common.{sym, ap, ◌∙◌}
 use Rattle.log_lines.specs.contracts.entry.EntryPartialEq.TheImpl as entry_impl
 use Rattle.log_lines.proofs.EqualLemmas.{entry_same, entry_equal}

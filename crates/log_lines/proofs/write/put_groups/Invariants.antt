@@ -1,5 +1,6 @@
+-- What holds at each turn of the loops of `write::put_groups`.
 use Rattle.std.proofs.Common.{◌≡◌, ◌∷◌, ◌++◌, flat_map, take}
-use Rattle.log_lines.specs.LineText.{space}
+use Rattle.annex_base.specs.Lines.{space}
 use Rattle.log_lines.proofs.write.put_groups.Given as goal
 
 -- the groups so far, each with its space

@@ -1,3 +1,4 @@
+-- What the proof of `write::reads_as` needs beside the tactics.
 use Rattle.std.proofs.Common.{sym, ◌∙◌}
 use Rattle.log_lines.proofs.ReadLemmas.{read_as, read_nothing}
 use Rattle.log_lines.proofs.write.reads_as.Goals as goal

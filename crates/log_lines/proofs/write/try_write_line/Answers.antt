@@ -1,3 +1,4 @@
+-- What the proof of `write::try_write_line` needs beside the tactics.
 use Rattle.std.proofs.Common.{sym, ◌∙◌, true≢false, subst}
 use Rattle.log_lines.specs.LineText.{IsLine}
 use Rattle.log_lines.proofs.WriteLemmas.{line_again}

@@ -1,3 +1,4 @@
+-- What the proof of `write::write_line` needs beside the tactics.
 use Rattle.std.proofs.Common.{◌∙◌}
 use Rattle.log_lines.proofs.WriteLemmas.{written_again}
 use Rattle.log_lines.proofs.write.write_line.Goals as goal

@@ -1,3 +1,4 @@
+-- What the proof of `laws::crashes_keep_contents_and_holds` needs beside the tactics.
 use Rattle.std.proofs.Common.{refl}
 use Rattle.node_model.proofs.Crashes.{clock_set, holds_kept}
 use Rattle.node_model.proofs.laws.crashes_keep_contents_and_holds.Goals as goal

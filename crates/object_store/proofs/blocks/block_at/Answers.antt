@@ -1,3 +1,4 @@
+-- What the proof of `blocks::block_at` needs beside the tactics.
 use Rattle.std.proofs.Common.{sym, ap, ◌∙◌, arith}
 use Rattle.object_store.proofs.BlockLemmas.{last_block, no_block, whole_block}
 use Rattle.object_store.proofs.blocks.block_at.Goals as goal

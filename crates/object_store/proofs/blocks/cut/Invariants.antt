@@ -1,3 +1,4 @@
+-- What holds at each turn of the loops of `blocks::cut`.
 use Rattle.std.proofs.Common.{◌≡◌, ◌++◌, length}
 use Rattle.annex_base.specs.Lists.{Each}
 use Rattle.object_store.specs.BlockLists.{joined}

@@ -1,3 +1,4 @@
+-- What the proof of `blocks::length_of` needs beside the tactics.
 use Rattle.std.proofs.Common.{arith}
 use Rattle.object_store.proofs.BlockLemmas.{length-blocks}
 use Rattle.object_store.proofs.blocks.length_of.Goals as goal

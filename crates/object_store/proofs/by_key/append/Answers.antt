@@ -1,3 +1,4 @@
+-- What the proof of `by_key::append` needs beside the tactics.
 use Rattle.std.proofs.Common.{◌≡◌, ◌++◌, [], Some, true, ap, sym, ◌∙◌}
 use Rattle.std.specs.Prelude.{is_some}
 use Rattle.std.specs.Option.{unwrap_or}

@@ -1,3 +1,4 @@
+-- What the proof of `by_key::fill_place` needs beside the tactics.
 use Rattle.std.proofs.Common.{Some, ap, sym}
 use Rattle.std.specs.Prelude.{is_some}
 use Rattle.object_store.proofs.ByKeyLemmas.{updated}

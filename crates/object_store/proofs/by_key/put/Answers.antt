@@ -1,3 +1,4 @@
+-- What the proof of `by_key::put` needs beside the tactics.
 use Rattle.std.proofs.Common.{Some}
 use Rattle.object_store.proofs.ByKeyLemmas.{updated}
 use Rattle.object_store.proofs.by_key.put.Goals as goal

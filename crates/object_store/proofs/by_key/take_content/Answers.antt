@@ -1,3 +1,4 @@
+-- What the proof of `by_key::take_content` needs beside the tactics.
 use Rattle.std.proofs.Common.{None}
 use Rattle.object_store.specs.ByKey.{bytes_at}
 use Rattle.object_store.specs.Stores.{with_at}

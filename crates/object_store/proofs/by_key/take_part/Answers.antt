@@ -1,3 +1,4 @@
+-- What the proof of `by_key::take_part` needs beside the tactics.
 use Rattle.std.proofs.Common.{None}
 use Rattle.object_store.proofs.ByKeyLemmas.{part_from, updated}
 use Rattle.object_store.proofs.by_key.take_part.Goals as goal

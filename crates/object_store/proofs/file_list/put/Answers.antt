@@ -1,3 +1,4 @@
+-- What the proof of `file_list::put` needs beside the tactics.
 use Rattle.std.proofs.Common.{Some, ap, ◌∙◌}
 use Rattle.object_store.specs.ByKey.{bytes_at}
 use Rattle.object_store.specs.Stores.{with_at}

@@ -1,3 +1,4 @@
+-- What the proof of `hold_list::put` needs beside the tactics.
 use Rattle.std.proofs.Common.{ap, ◌∙◌}
 use Rattle.object_store.specs.HoldList.{records_of}
 use Rattle.object_store.specs.Stores.{with_record}

@@ -1,3 +1,4 @@
+-- What the proof of `hold_list::records` needs beside the tactics.
 use Rattle.std.proofs.Common.{◌≡◌, [], ◌∷◌, ◌++◌, ap, sym, ◌∙◌, subst, append_assoc, append-nil}
 use Rattle.std.proofs.lemmas.List.Elements.{All-push}
 use Rattle.std.specs.Prelude.{◌<◌, ◌^◌}

@@ -1,3 +1,4 @@
+-- What holds at each turn of the loops of `hold_list::records`.
 use Rattle.std.proofs.Common.{◌≡◌, ◌++◌}
 use Rattle.object_store.specs.HoldList.{records_of}
 use Rattle.object_store.specs.Stores.{AreEarly}

@@ -1,3 +1,4 @@
+-- What the proof of `buffer::search_on` needs beside the tactics.
 use Rattle.std.proofs.Common.{arith}
 use Rattle.p2p_wire.proofs.BufferLemmas.{line_within}
 use Rattle.p2p_wire.proofs.buffer.search_on.Goals as goal

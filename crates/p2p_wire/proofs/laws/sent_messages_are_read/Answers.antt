@@ -1,3 +1,4 @@
+-- What the proof of `laws::sent_messages_are_read` needs beside the tactics.
 use Rattle.p2p_wire.proofs.MessageFacts.{line_short, sent_back}
 use Rattle.p2p_wire.proofs.laws.sent_messages_are_read.Goals as goal
 

@@ -1,3 +1,4 @@
+-- What the proof of `laws::sent_messages_have_lines` needs beside the tactics.
 use Rattle.p2p_wire.proofs.SentLemmas.{sent_line}
 use Rattle.p2p_wire.proofs.laws.sent_messages_have_lines.Goals as goal
 

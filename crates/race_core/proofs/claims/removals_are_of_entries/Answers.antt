@@ -1,3 +1,4 @@
+-- What the proof of `claims::removals_are_of_entries` needs beside the tactics.
 use Rattle.race_core.proofs.ClaimSources.{least_of_all, least_removal, removal_before, removal_counts}
 use Rattle.race_core.proofs.claims.removals_are_of_entries.Goals as goal
 

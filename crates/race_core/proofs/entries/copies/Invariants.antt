@@ -1,3 +1,4 @@
+-- What holds at each turn of the loops of `entries::copies`.
 use Rattle.std.proofs.Common.{◌≡◌, ◌≤◌, reverse, count_by}
 use Rattle.std.specs.List.{range_with_len}
 use Rattle.run_model.specs.Past.{present}

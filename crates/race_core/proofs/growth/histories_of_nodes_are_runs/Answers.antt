@@ -1,3 +1,4 @@
+-- What the proof of `growth::histories_of_nodes_are_runs` needs beside the tactics.
 use Rattle.race_core.proofs.MergedNodes.{nodes_merge}
 use Rattle.race_core.proofs.RunsGrow.{block_begins, run_kept}
 use Rattle.race_core.proofs.growth.histories_of_nodes_are_runs.Goals as goal

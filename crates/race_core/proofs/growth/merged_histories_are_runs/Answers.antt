@@ -1,3 +1,4 @@
+-- What the proof of `growth::merged_histories_are_runs` needs beside the tactics.
 use Rattle.race_core.proofs.MergedRuns.{in_order_is_run, merged_runs_are_runs}
 use Rattle.race_core.proofs.growth.merged_histories_are_runs.Goals as goal
 

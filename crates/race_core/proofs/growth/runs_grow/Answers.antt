@@ -1,3 +1,4 @@
+-- What the proof of `growth::runs_grow` needs beside the tactics.
 use Rattle.race_core.proofs.RunsGrow.{command_done, mark_added, own_turn_added, turn_added, wait_added}
 use Rattle.race_core.proofs.RunStarts.{begins, start_is_run}
 use Rattle.race_core.proofs.growth.runs_grow.Goals as goal

@@ -1,17 +1,29 @@
+-- What the proof of `steps::carried_states_agree` needs beside the tactics.
 use Rattle.std.specs.Prelude.{reverse}
 use Rattle.run_model.specs.Run.{set_up}
+use Rattle.std.proofs.Common.{ap}
+use Rattle.union_merge.specs.Branch.{or_none}
+use Rattle.race_core.proofs.Below.{LogLaws, SentAreRead}
 use Rattle.race_core.proofs.FromStep.{own_past}
 use Rattle.race_core.proofs.States.{states_agree, step_states}
 use Rattle.race_core.proofs.steps.carried_states_agree.Goals as goal
 
-pub returns-clause-states : goal.returns-clause-states
-returns-clause-states c = λ run r h. states_agree (set_up run r) (reverse run.entries) (own_past run h.repos r (reverse run.entries) h.steps)
-
-pub returns-clause-steps : goal.returns-clause-steps
-returns-clause-steps c = λ run r k h. step_states (set_up run r) (reverse run.entries) k (own_past run h.repos r (reverse run.entries) h.steps)
-
-pub returns-clause-own_states : goal.returns-clause-own_states
-returns-clause-own_states c = states_agree
-
-pub returns-clause-own_steps : goal.returns-clause-own_steps
-returns-clause-own_steps c = step_states
+pub returns : goal.returns
+returns c =
+    let laws : LogLaws = record {
+      by_set = c.readings_depend_on_the_set.ensures;
+      compaction = c.compaction_keeps_the_reading.ensures.alike;
+      joined = c.compaction_keeps_the_reading.ensures.merged;
+      of_both = c.unions_have_the_lines_of_both.ensures.either;
+      set = λ files path lines. ap or_none (c.files_are_changed_alone.ensures.there files path lines);
+      set_others = c.files_are_changed_alone.ensures.other;
+      kinds = c.paths_tell_their_kind.ensures;
+      alike = c.equal_lines_read_alike.ensures.readings;
+    } in
+    let read : SentAreRead = c.sent_messages_are_read.ensures.read in
+    record {
+      states = λ run r h. states_agree laws read (set_up run r) (reverse run.entries) (own_past run h.repos r (reverse run.entries) h.steps);
+      steps = λ run r k h. step_states laws read (set_up run r) (reverse run.entries) k (own_past run h.repos r (reverse run.entries) h.steps);
+      own_states = states_agree laws read;
+      own_steps = step_states laws read;
+    }

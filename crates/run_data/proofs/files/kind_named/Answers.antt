@@ -1,3 +1,4 @@
+-- What the proof of `files::kind_named` needs beside the tactics.
 use Rattle.std.proofs.Common.{◌∙◌, sym, ap}
 use Rattle.log_lines.specs.Files.{kind_named}
 use Rattle.run_data.proofs.FileLemmas.{named_found, named_kind}

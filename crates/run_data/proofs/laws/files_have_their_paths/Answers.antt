@@ -1,3 +1,4 @@
+-- What the proof of `laws::files_have_their_paths` needs beside the tactics.
 use Rattle.run_data.proofs.FileLemmas.{path_is_line, file_path-file_of, file_has_path, file_of-file_path}
 use Rattle.run_data.proofs.laws.files_have_their_paths.Goals as goal
 

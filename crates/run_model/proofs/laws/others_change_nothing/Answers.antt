@@ -1,3 +1,4 @@
+-- What the proof of `laws::others_change_nothing` needs beside the tactics.
 use Rattle.run_model.proofs.Others.{other_is}
 use Rattle.run_model.proofs.laws.others_change_nothing.Goals as goal
 

@@ -1,3 +1,4 @@
+-- What holds at each turn of the loops of `thin_model_tests::copies`.
 use Rattle.std.proofs.Common.{◌≡◌, take}
 use Rattle.run_tests.proofs.thin_model_tests.copies.Given as goal
 

@@ -1,9 +1,5 @@
--- The sum of the content, by a key of the same method.
-use Rattle.std.proofs.Common.{◌≡◌, List, ℕ, IfOk, refl, subst}
-use Rattle.std.specs.Prelude.{codes}
-use Rattle.annex_key.specs.KeyText.{key_text}
-use Rattle.key_verify.specs.MakingKeys as making
-use Rattle.script_lang.specs.Verify.{made_key}
+-- What the proof of `verify::key_for` needs beside the tactics.
+use Rattle.std.proofs.lemmas.Str.{IsUtf8-from_is_utf8}
 use Rattle.script_lang.proofs.verify.key_for.Goals as goal
 
 abbrev some_key : List ℕ

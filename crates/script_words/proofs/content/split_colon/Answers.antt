@@ -1,3 +1,4 @@
+-- What the proof of `content::split_colon` needs beside the tactics.
 use Rattle.std.proofs.Common.{sym, ap, drop, ◌∙◌, drop-drop}
 use Rattle.std.proofs.lemmas.List.Sums.{prefix_len-le-length}
 use Rattle.std.specs.Prelude.{not}

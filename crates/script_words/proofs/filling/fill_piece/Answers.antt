@@ -1,3 +1,4 @@
+-- What the proof of `filling::fill_piece` needs beside the tactics.
 use Rattle.std.proofs.Common.{length, ap, ◌∙◌}
 use Rattle.std.specs.Prelude.{min}
 use Rattle.script_words.proofs.FillLemmas.{piece_fill, length-fill_bytes}

@@ -1,3 +1,4 @@
+-- What the proof of `filling::write_filling` needs beside the tactics.
 use Rattle.std.proofs.Common.{arith}
 use Rattle.script_words.proofs.FillLemmas.{fill_more}
 use Rattle.script_words.proofs.filling.write_filling.Goals as goal

@@ -1,3 +1,4 @@
+-- What holds at each turn of the loops of `filling::write_filling`.
 use Rattle.std.proofs.Common.{◌-◌, ◌≡◌, ◌≤◌, length}
 use Rattle.script_words.specs.Contents.{fill_bytes, with_front}
 use Rattle.script_words.proofs.filling.write_filling.Given as goal

@@ -1,3 +1,4 @@
+-- What the proof of `laws::contents_are_as_described` needs beside the tactics.
 use Rattle.script_words.proofs.ContentLemmas.{content_found, content_described}
 use Rattle.script_words.proofs.laws.contents_are_as_described.Goals as goal
 

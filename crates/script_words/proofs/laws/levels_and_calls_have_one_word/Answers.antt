@@ -1,3 +1,4 @@
+-- What the proof of `laws::levels_and_calls_have_one_word` needs beside the tactics.
 use Rattle.script_words.proofs.FieldLemmas.{level_written, level_found, call_written, call_found}
 use Rattle.script_words.proofs.laws.levels_and_calls_have_one_word.Goals as goal
 

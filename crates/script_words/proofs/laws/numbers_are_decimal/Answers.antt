@@ -1,3 +1,4 @@
+-- What the proof of `laws::numbers_are_decimal` needs beside the tactics.
 use Rattle.std.proofs.Common.{arith}
 use Rattle.script_words.proofs.NumberLemmas.{number_read, number_written}
 use Rattle.script_words.proofs.laws.numbers_are_decimal.Goals as goal

@@ -1,3 +1,4 @@
+-- What the proof of `laws::options_are_as_written` needs beside the tactics.
 use Rattle.std.proofs.Common.{arith}
 use Rattle.std.specs.Prelude.{codes}
 use Rattle.script_words.specs.Fields.{greatest_offset}

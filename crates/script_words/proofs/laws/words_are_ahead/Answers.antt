@@ -1,3 +1,4 @@
+-- What the proof of `laws::words_are_ahead` needs beside the tactics.
 use Rattle.script_words.proofs.PlaceLemmas.{next_ahead, rest_ahead}
 use Rattle.script_words.proofs.laws.words_are_ahead.Goals as goal
 

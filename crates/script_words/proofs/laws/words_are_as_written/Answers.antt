@@ -1,3 +1,4 @@
+-- What the proof of `laws::words_are_as_written` needs beside the tactics.
 use Rattle.script_words.proofs.SpellingLemmas.{next_found, next_written, blank_found, none_blank, next_wrong}
 use Rattle.script_words.proofs.laws.words_are_as_written.Goals as goal
 

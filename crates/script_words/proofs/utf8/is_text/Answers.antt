@@ -1,3 +1,4 @@
+-- What the proof of `utf8::is_text` needs beside the tactics.
 use Rattle.std.proofs.Common.{sym}
 use Rattle.std.specs.Str.{is_utf8}
 use Rattle.std.proofs.lemmas.Bool.{false_from_ne_true}

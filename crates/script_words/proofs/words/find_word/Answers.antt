@@ -1,3 +1,4 @@
+-- What the proof of `words::find_word` needs beside the tactics.
 use Rattle.std.proofs.lemmas.List.Sums.{prefix_len-le-length}
 use Rattle.annex_base.specs.Lines.{is_space}
 use Rattle.script_words.proofs.words.find_word.Goals as goal

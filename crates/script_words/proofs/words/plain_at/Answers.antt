@@ -1,3 +1,4 @@
+-- What the proof of `words::plain_at` needs beside the tactics.
 use Rattle.std.proofs.lemmas.List.Sums.{prefix_len-le-length}
 use Rattle.annex_base.specs.Lines.{is_not_space}
 use Rattle.script_words.proofs.words.plain_at.Goals as goal

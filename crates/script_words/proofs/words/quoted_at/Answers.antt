@@ -1,3 +1,4 @@
+-- What the proof of `words::quoted_at` needs beside the tactics.
 use Rattle.std.proofs.lemmas.List.Sums.{prefix_len-le-length}
 use Rattle.script_words.specs.Words.{is_not_quote}
 use Rattle.script_words.proofs.words.quoted_at.Goals as goal

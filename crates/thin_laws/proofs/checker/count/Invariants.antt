@@ -1,3 +1,4 @@
+-- What holds at each turn of the loops of `checker::count`.
 use Rattle.std.proofs.Common.{◌≡◌, ◌≤◌, reverse, count_by, ◌||◌}
 use Rattle.std.specs.List.{list_any, range_with_len}
 use Rattle.thin_model.specs.Past.{present}

@@ -1,3 +1,4 @@
+-- What holds at each turn of the loops of `checker::has_claim`.
 use Rattle.std.proofs.Common.{◌≡◌, take, reverse}
 use Rattle.std.specs.List.{list_any}
 use Rattle.thin_laws.specs.Checked.{trusts_given}

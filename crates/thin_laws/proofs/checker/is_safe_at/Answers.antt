@@ -1,3 +1,4 @@
+-- What the proof of `checker::is_safe_at` needs beside the tactics.
 use Rattle.std.proofs.Common.{ap, ◌∙◌, reverse}
 use Rattle.thin_model.specs.Safety.{past_at}
 use Rattle.thin_laws.proofs.CheckedFacts.{safe_same}

@@ -1,3 +1,4 @@
+-- What holds at each turn of the loops of `entries::is_present`.
 use Rattle.std.proofs.Common.{◌≡◌, take, reverse}
 use Rattle.thin_model.specs.Past.{present}
 use Rattle.thin_laws.proofs.entries.is_present.Given as goal

@@ -1,3 +1,4 @@
+-- What holds at each turn of the loops of `entries::need_of_bar`.
 use Rattle.std.proofs.Common.{◌≡◌, take, reverse}
 use Rattle.std.specs.Prelude.{option_map}
 use Rattle.thin_model.specs.Past.{decided}

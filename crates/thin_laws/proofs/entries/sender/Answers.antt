@@ -1,3 +1,4 @@
+-- What the proof of `entries::sender` needs beside the tactics.
 use Rattle.std.proofs.Common.{Some, ap, ◌∙◌}
 use Rattle.std.specs.Prelude.{if◌then◌else◌}
 use Rattle.thin_laws.proofs.Checking.{sender_more, sender_within}

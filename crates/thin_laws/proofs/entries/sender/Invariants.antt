@@ -1,3 +1,4 @@
+-- What holds at each turn of the loops of `entries::sender`.
 use Rattle.std.proofs.Common.{◌≡◌, ◌<◌, length, take, reverse}
 use Rattle.std.specs.Prelude.{IfSome}
 use Rattle.thin_model.specs.Frames.{sent_by}

@@ -1,3 +1,4 @@
+-- What the proof of `gathering::evidence` needs beside the tactics.
 use Rattle.std.proofs.Common.{◌≡◌, [], length, reverse, subst, sym, ap, ◌∙◌}
 use Rattle.std.specs.Prelude.{IfOk, map}
 use Rattle.thin_model.specs.Drops.{candidates}

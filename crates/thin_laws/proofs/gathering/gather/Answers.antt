@@ -1,3 +1,4 @@
+-- What the proof of `gathering::gather` needs beside the tactics.
 use Rattle.std.proofs.Common.{◌≡◌, true, sym, ap, ◌∙◌, drop}
 use Rattle.thin_laws.specs.Checked.{enough_given}
 use Rattle.thin_laws.proofs.CheckedFacts.{gather_enough}

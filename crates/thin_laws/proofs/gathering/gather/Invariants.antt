@@ -1,3 +1,4 @@
+-- What holds at each turn of the loops of `gathering::gather`.
 use Rattle.std.proofs.Common.{◌≡◌, [], drop}
 use Rattle.thin_laws.specs.Checked.{gather_given}
 use Rattle.thin_laws.proofs.gathering.gather.Given as goal

@@ -1,3 +1,4 @@
+-- What the proof of `laws::drops_leave_their_evidence` needs beside the tactics.
 use Rattle.thin_laws.proofs.AtPlaces.{locked_left, trusted_left}
 use Rattle.thin_laws.proofs.laws.drops_leave_their_evidence.Goals as goal
 

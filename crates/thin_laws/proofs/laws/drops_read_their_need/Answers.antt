@@ -1,3 +1,4 @@
+-- What the proof of `laws::drops_read_their_need` needs beside the tactics.
 use Rattle.thin_laws.proofs.ReadLaws.{bar_of_removal, least_bound, least_read, need_at_bar, need_is_read}
 use Rattle.thin_laws.proofs.laws.drops_read_their_need.Goals as goal
 

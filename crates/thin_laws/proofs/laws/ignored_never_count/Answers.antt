@@ -1,3 +1,4 @@
+-- What the proof of `laws::ignored_never_count` needs beside the tactics.
 use Rattle.thin_laws.proofs.ReadLaws.{dead_never, judge_there, trusted_claim, trusted_level, untrusted_never}
 use Rattle.thin_laws.proofs.laws.ignored_never_count.Goals as goal
 

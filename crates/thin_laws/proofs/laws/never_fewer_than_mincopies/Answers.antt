@@ -1,3 +1,4 @@
+-- What the proof of `laws::never_fewer_than_mincopies` needs beside the tactics.
 use Rattle.thin_laws.proofs.AtPlaces.{enough_within, enough_least}
 use Rattle.thin_laws.proofs.laws.never_fewer_than_mincopies.Goals as goal
 

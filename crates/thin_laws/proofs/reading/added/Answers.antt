@@ -1,3 +1,4 @@
+-- What the proof of `reading::added` needs beside the tactics.
 use Rattle.std.proofs.Common.{List, [], ◌∷◌, sym, ap, ◌∙◌}
 use Rattle.std.specs.Prelude.{map}
 use Rattle.std.proofs.lemmas.List.{map-append}

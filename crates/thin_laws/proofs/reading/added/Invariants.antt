@@ -1,3 +1,4 @@
+-- What holds at each turn of the loops of `reading::added`.
 use Rattle.std.proofs.Common.{◌≡◌}
 use Rattle.std.specs.Prelude.{map}
 use Rattle.thin_model.specs.Logs.{ever}

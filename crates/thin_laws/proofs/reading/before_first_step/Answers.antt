@@ -1,3 +1,4 @@
+-- What the proof of `reading::before_first_step` needs beside the tactics.
 use Rattle.std.proofs.Common.{not, ap, ◌∙◌, reverse, take}
 use Rattle.std.proofs.lemmas.List.Sums.{prefix_len-le-length}
 use Rattle.thin_laws.specs.Steps.{is_step_of}

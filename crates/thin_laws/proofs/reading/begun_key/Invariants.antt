@@ -1,3 +1,4 @@
+-- What holds at each turn of the loops of `reading::begun_key`.
 use Rattle.std.proofs.Common.{◌≡◌, take, reverse}
 use Rattle.std.specs.Prelude.{option_map}
 use Rattle.std.specs.Option.{option_copied}

@@ -1,3 +1,4 @@
+-- What the proof of `reading::log_path` needs beside the tactics.
 use Rattle.std.proofs.Common.{◌≡◌, [], sym, subst, ap, ◌∙◌}
 use Rattle.std.specs.Prelude.{IfOk, unwrap_or}
 use Rattle.std.specs.Option.{option_copied}

@@ -1,3 +1,4 @@
+-- What holds at each turn of the loops of `reading::push_all`.
 use Rattle.std.proofs.Common.{◌≡◌, ◌++◌, take}
 use Rattle.thin_laws.proofs.reading.push_all.Given as goal
 

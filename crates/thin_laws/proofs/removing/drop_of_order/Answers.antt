@@ -1,3 +1,4 @@
+-- What the proof of `removing::drop_of_order` needs beside the tactics.
 use Rattle.std.proofs.Common.{reverse, rules}
 use Rattle.thin_laws.proofs.CheckedFacts.{order_same}
 use Rattle.thin_laws.proofs.removing.drop_of_order.Goals as goal

@@ -1,3 +1,4 @@
+-- What the proof of `removing::ordered_drop` needs beside the tactics.
 use Rattle.std.proofs.Common.{◌≡◌, reverse, subst}
 use Rattle.std.specs.Prelude.{IfOk, option_map}
 use Rattle.thin_model.specs.Frames.{sent_by}

@@ -1,3 +1,4 @@
+-- What the proof of `removing::own_drop` needs beside the tactics.
 use Rattle.std.proofs.Common.{reverse}
 use Rattle.thin_model.specs.Past.{decided}
 use Rattle.thin_laws.proofs.CheckedFacts.{own_same}

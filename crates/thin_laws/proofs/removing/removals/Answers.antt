@@ -1,3 +1,4 @@
+-- What the proof of `removing::removals` needs beside the tactics.
 use Rattle.std.proofs.Common.{reverse, ap, ◌∙◌}
 use Rattle.std.specs.Prelude.{option_map}
 use Rattle.thin_model.specs.Safety.{removal}

@@ -1,3 +1,4 @@
+-- What holds at each turn of the loops of `removing::removals`.
 use Rattle.std.proofs.Common.{◌≡◌, ℕ, take, reverse}
 use Rattle.std.specs.Prelude.{map}
 use Rattle.thin_model.specs.Safety.{removals}

@@ -1,3 +1,4 @@
+-- What holds at each turn of the loops of `vouching::is_told_cause`.
 use Rattle.std.proofs.Common.{◌≡◌, take, reverse}
 use Rattle.std.specs.Prelude.{is_some}
 use Rattle.thin_model.specs.Drops.{told_cause}

@@ -1,3 +1,4 @@
+-- What the proof of `vouching::job_numbers` needs beside the tactics.
 use Rattle.thin_laws.proofs.Checking.{numbers_more}
 use Rattle.thin_laws.proofs.vouching.job_numbers.Goals as goal
 

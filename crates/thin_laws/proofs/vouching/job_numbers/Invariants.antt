@@ -1,3 +1,4 @@
+-- What holds at each turn of the loops of `vouching::job_numbers`.
 use Rattle.std.proofs.Common.{◌≡◌, take, reverse}
 use Rattle.std.specs.Prelude.{map}
 use Rattle.thin_model.specs.Past.{jobs}

@@ -1,3 +1,4 @@
+-- What the proof of `vouching::runs` needs beside the tactics.
 use Rattle.std.proofs.Common.{◌==◌, ap, ◌∙◌, reverse}
 use Rattle.std.specs.List.{list_any}
 use Rattle.thin_model.specs.Past.{jobs}

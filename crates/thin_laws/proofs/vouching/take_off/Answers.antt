@@ -1,3 +1,4 @@
+-- What the proof of `vouching::take_off` needs beside the tactics.
 use Rattle.std.proofs.Common.{rules}
 use Rattle.std.proofs.lemmas.Fn.{filter_same}
 use Rattle.thin_laws.proofs.vouching.take_off.Goals as goal

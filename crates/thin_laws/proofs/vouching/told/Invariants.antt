@@ -1,3 +1,4 @@
+-- What holds at each turn of the loops of `vouching::told`.
 use Rattle.std.proofs.Common.{◌≡◌, take, reverse}
 use Rattle.thin_model.specs.Drops.{reply}
 use Rattle.thin_laws.specs.Checked.{given_by}

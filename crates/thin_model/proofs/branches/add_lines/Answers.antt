@@ -1,3 +1,4 @@
+-- What the proof of `branches::add_lines` needs beside the tactics.
 use Rattle.std.proofs.Common.{◌∙◌, [], ap}
 use Rattle.union_merge.specs.LineSet.{union}
 use Rattle.union_merge.specs.Branch.{merged_file}

@@ -1,3 +1,4 @@
+-- What the proof of `branches::compact_file` needs beside the tactics.
 use Rattle.std.proofs.Common.{◌∙◌, sym, subst}
 use Rattle.union_merge.specs.LineSet.{IsLine}
 use Rattle.thin_model.proofs.BranchLemmas.{found_is_line}

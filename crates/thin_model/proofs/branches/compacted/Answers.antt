@@ -1,3 +1,4 @@
+-- What the proof of `branches::compacted` needs beside the tactics.
 use Rattle.std.proofs.Common.{◌∙◌, [], sym, ap, subst}
 use Rattle.annex_base.specs.Lists.{Each}
 use Rattle.log_lines.specs.Newest.{compacted}

@@ -1,3 +1,4 @@
+-- What holds at each turn of the loops of `branches::copies`.
 use Rattle.std.proofs.Common.{◌≡◌, take}
 use Rattle.thin_model.proofs.branches.copies.Given as goal
 

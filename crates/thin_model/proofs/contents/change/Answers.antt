@@ -1,3 +1,4 @@
+-- What the proof of `contents::change` needs beside the tactics.
 use Rattle.std.proofs.Common.{◌≡◌, ℕ, List, ◌||◌, subst}
 use Rattle.std.specs.BTreeSet.{contains}
 use Rattle.std.specs.Str.{bytes_eq}

@@ -1,3 +1,4 @@
+-- What the proof of `actions::read_merge` needs beside the tactics.
 use Rattle.thin_script.proofs.FormLemmas.{merge_unnamed, merge_same}
 use Rattle.thin_script.proofs.actions.read_merge.Goals as goal
 

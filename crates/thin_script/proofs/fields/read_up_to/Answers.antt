@@ -1,3 +1,4 @@
+-- What the proof of `fields::read_up_to` needs beside the tactics.
 use Rattle.thin_script.proofs.FieldLemmas.{number_reads, number_large, number_missing}
 use Rattle.thin_script.proofs.fields.read_up_to.Goals as goal
 

@@ -1,3 +1,4 @@
+-- What the proof of `lines::read_closed` needs beside the tactics.
 use Rattle.thin_script.proofs.LineLemmas.{closed_finds, closed_none}
 use Rattle.thin_script.proofs.lines.read_closed.Goals as goal
 

@@ -1,3 +1,4 @@
+-- What the proof of `lines::read_line` needs beside the tactics.
 use Rattle.std.proofs.Common.{sym}
 use Rattle.thin_script.proofs.LineLemmas.{line_finds, line_none}
 use Rattle.thin_script.proofs.lines.read_line.Goals as goal

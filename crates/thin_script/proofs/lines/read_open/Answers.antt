@@ -1,3 +1,4 @@
+-- What the proof of `lines::read_open` needs beside the tactics.
 use Rattle.std.proofs.Common.{[], sym, arith}
 use Rattle.thin_script.proofs.LineLemmas.{opens_none, opens_two, opens_without}
 use Rattle.thin_script.proofs.lines.read_open.Goals as goal

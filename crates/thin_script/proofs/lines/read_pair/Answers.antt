@@ -1,3 +1,4 @@
+-- What the proof of `lines::read_pair` needs beside the tactics.
 use Rattle.thin_script.proofs.FormLemmas.{pair_none}
 use Rattle.thin_script.proofs.lines.read_pair.Goals as goal
 

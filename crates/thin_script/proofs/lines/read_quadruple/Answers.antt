@@ -1,3 +1,4 @@
+-- What the proof of `lines::read_quadruple` needs beside the tactics.
 use Rattle.thin_script.proofs.FormLemmas.{quadruple_none}
 use Rattle.thin_script.proofs.lines.read_quadruple.Goals as goal
 

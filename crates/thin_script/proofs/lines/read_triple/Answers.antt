@@ -1,3 +1,4 @@
+-- What the proof of `lines::read_triple` needs beside the tactics.
 use Rattle.thin_script.proofs.FormLemmas.{triple_none}
 use Rattle.thin_script.proofs.lines.read_triple.Goals as goal
 

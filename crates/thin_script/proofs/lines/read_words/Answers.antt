@@ -1,3 +1,4 @@
+-- What the proof of `lines::read_words` needs beside the tactics.
 use Rattle.std.proofs.Common.{◌≡◌, ◌∷◌, length, subst, arith}
 use Rattle.std.proofs.lemmas.List.{length-map}
 use Rattle.std.proofs.lemmas.Grind.{common_steps}

@@ -1,3 +1,4 @@
+-- What the proof of `log_files::read_location_log` needs beside the tactics.
 use Rattle.std.proofs.Common.{sym}
 use Rattle.thin_script.proofs.RestLemmas.{location_on, location_wordless, location_keyless, location_without_line}
 use Rattle.thin_script.proofs.log_files.read_location_log.Goals as goal

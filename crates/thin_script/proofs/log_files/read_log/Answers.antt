@@ -1,3 +1,4 @@
+-- What the proof of `log_files::read_log` needs beside the tactics.
 use Rattle.thin_script.proofs.log_files.read_log.Goals as goal
 
 pub returns-then-is_word : goal.returns-then-is_word

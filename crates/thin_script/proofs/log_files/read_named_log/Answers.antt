@@ -1,3 +1,4 @@
+-- What the proof of `log_files::read_named_log` needs beside the tactics.
 use Rattle.thin_script.proofs.RestLemmas.{log_unknown, log_without_line}
 use Rattle.thin_script.proofs.log_files.read_named_log.Goals as goal
 

@@ -1,3 +1,4 @@
+-- What the proof of `reader::read_lines` needs beside the tactics.
 use Rattle.std.proofs.Common.{◌+◌, ◌≤◌, [], length, map, take, drop, sym, ap, subst}
 use Rattle.std.proofs.lemmas.Result.{err_from_is_err_and}
 use Rattle.thin_script.specs.Lines.{declared}

@@ -1,3 +1,4 @@
+-- What holds at each turn of the loops of `reader::read_lines`.
 use Rattle.std.proofs.Common.{[], map, take}
 use Rattle.thin_script.specs.Script.{Reads}
 use Rattle.thin_script.specs.Steps.{Keeps}

@@ -1,3 +1,4 @@
+-- What the proof of `repository::find_repository` needs beside the tactics.
 use Rattle.thin_script.proofs.FieldLemmas.{position_named, position_missing}
 use Rattle.thin_script.proofs.repository.find_repository.Goals as goal
 

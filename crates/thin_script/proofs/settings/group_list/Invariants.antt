@@ -1,3 +1,4 @@
+-- What holds at each turn of the loops of `settings::group_list`.
 use Rattle.std.proofs.Common.{◌≡◌, map, take}
 use Rattle.thin_script.proofs.settings.group_list.Given as goal
 

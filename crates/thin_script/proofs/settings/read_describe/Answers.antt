@@ -1,3 +1,4 @@
+-- What the proof of `settings::read_describe` needs beside the tactics.
 use Rattle.thin_script.proofs.RestLemmas.{describe_unnamed}
 use Rattle.thin_script.proofs.settings.read_describe.Goals as goal
 

@@ -1,3 +1,4 @@
+-- What the proof of `settings::read_group` needs beside the tactics.
 use Rattle.thin_script.proofs.RestLemmas.{group_unnamed, group_refused}
 use Rattle.thin_script.proofs.settings.read_group.Goals as goal
 

@@ -1,3 +1,4 @@
+-- What the proof of `settings::read_groups` needs beside the tactics.
 use Rattle.std.proofs.Common.{sym, ◌∙◌}
 use Rattle.thin_script.proofs.RestLemmas.{groups_found, groups_missing}
 use Rattle.thin_script.proofs.settings.read_groups.Goals as goal

@@ -1,3 +1,4 @@
+-- What the proof of `settings::read_trust` needs beside the tactics.
 use Rattle.thin_script.proofs.FormLemmas.{trust_unnamed}
 use Rattle.thin_script.proofs.settings.read_trust.Goals as goal
 

@@ -1,3 +1,4 @@
+-- What the proof of `shows::read_quadruple_show` needs beside the tactics.
 use Rattle.thin_script.proofs.FormLemmas.{quadruple_show_none}
 use Rattle.thin_script.proofs.shows.read_quadruple_show.Goals as goal
 

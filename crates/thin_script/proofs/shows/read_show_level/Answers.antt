@@ -1,3 +1,4 @@
+-- What the proof of `shows::read_show_level` needs beside the tactics.
 use Rattle.thin_script.proofs.FormLemmas.{level_unnamed}
 use Rattle.thin_script.proofs.shows.read_show_level.Goals as goal
 

@@ -1,3 +1,4 @@
+-- What the proof of `words::quoted_word` needs beside the tactics.
 use Rattle.std.proofs.lemmas.List.Sums.{prefix_len-le-length}
 use Rattle.thin_script.specs.Reading.{is_not_quote}
 use Rattle.thin_script.proofs.words.quoted_word.Goals as goal

@@ -1,3 +1,4 @@
+-- What the proof of `words::skip_spaces` needs beside the tactics.
 use Rattle.std.proofs.lemmas.List.Sums.{prefix_len-le-length}
 use Rattle.thin_script.specs.Reading.{is_space}
 use Rattle.thin_script.proofs.words.skip_spaces.Goals as goal

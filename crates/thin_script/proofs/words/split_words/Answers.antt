@@ -1,3 +1,4 @@
+-- What the proof of `words::split_words` needs beside the tactics.
 use Rattle.std.proofs.Common.{sym}
 use Rattle.std.proofs.lemmas.List.{map-append}
 use Rattle.thin_script.proofs.WordLemmas.{after_spaces_begins}

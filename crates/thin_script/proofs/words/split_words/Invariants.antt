@@ -1,3 +1,4 @@
+-- What holds at each turn of the loops of `words::split_words`.
 use Rattle.std.proofs.Common.{◌≡◌, false, map, length}
 use Rattle.thin_script.specs.Words.{space}
 use Rattle.thin_script.specs.Reading.{begins}

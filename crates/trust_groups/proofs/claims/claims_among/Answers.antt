@@ -1,3 +1,4 @@
+-- What the proof of `claims::claims_among` needs beside the tactics.
 use Rattle.std.proofs.Common.{List, ℕ, sym, ap, subst, ◌∙◌}
 use Rattle.std.specs.List.Sorted.{IsStrictlySortedBy}
 use Rattle.std.specs.Option.{option_copied}

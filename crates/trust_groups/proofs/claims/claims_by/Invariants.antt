@@ -1,3 +1,4 @@
+-- What holds at each turn of the loops of `claims::claims_by`.
 use Rattle.std.proofs.Common.{◌≡◌, ◌++◌}
 use Rattle.std.specs.Option.{option_copied}
 use Rattle.log_lines.specs.Index.{entries_in}

@@ -1,3 +1,4 @@
+-- What the proof of `claims::claims_of` needs beside the tactics.
 use Rattle.std.proofs.Common.{◌≡◌, ◌↔◌, List, ℕ, sym, ap, subst, ◌∙◌}
 use Rattle.annex_base.specs.Lists.{Member}
 use Rattle.log_lines.specs.Index.{Index}

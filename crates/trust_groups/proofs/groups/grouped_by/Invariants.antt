@@ -1,3 +1,4 @@
+-- What holds at each turn of the loops of `groups::grouped_by`.
 use Rattle.std.proofs.Common.{◌≡◌, ◌++◌}
 use Rattle.log_lines.specs.Index.{entries_in}
 use Rattle.trust_groups.specs.Kept.{grouped_among}

@@ -1,3 +1,4 @@
+-- What the proof of `groups::grouped_in` needs beside the tactics.
 use Rattle.std.proofs.Common.{sym, subst}
 use Rattle.std.specs.List.Sorted.{IsStrictlySortedBy}
 use Rattle.annex_base.specs.ByteOrder.{text_cmp}

@@ -1,3 +1,4 @@
+-- What the proof of `indices::add_file` needs beside the tactics.
 use Rattle.std.proofs.Common.{take, ◌+◌}
 use Rattle.trust_groups.specs.Adding.{lines_and}
 use Rattle.trust_groups.specs.Reads.{lines_with, seen}

@@ -1,3 +1,4 @@
+-- What holds at each turn of the loops of `indices::add_file`.
 use Rattle.std.proofs.Common.{take}
 use Rattle.trust_groups.specs.Settings.{Lines}
 use Rattle.trust_groups.specs.Adding.{lines_and}

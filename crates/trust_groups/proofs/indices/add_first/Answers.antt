@@ -1,3 +1,4 @@
+-- What the proof of `indices::add_first` needs beside the tactics.
 use Rattle.std.proofs.Common.{sym, ap, ◌∙◌, true≢false}
 use Rattle.log_lines.specs.Index.{Index, empty_index, index_with}
 use Rattle.trust_groups.proofs.ReadsLemmas.{first_added}

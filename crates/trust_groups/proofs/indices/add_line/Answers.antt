@@ -1,3 +1,4 @@
+-- What the proof of `indices::add_line` needs beside the tactics.
 use Rattle.std.proofs.Common.{sym, ap, subst, ◌∙◌}
 use Rattle.log_lines.specs.Index.{empty_index, index_with}
 use Rattle.trust_groups.specs.Adding.{indices_and}

@@ -1,3 +1,4 @@
+-- What the proof of `laws::claims_are_exact` needs beside the tactics.
 use Rattle.trust_groups.proofs.ClaimLemmas.{claims_exact, claims_sorted}
 use Rattle.trust_groups.proofs.laws.claims_are_exact.Goals as goal
 

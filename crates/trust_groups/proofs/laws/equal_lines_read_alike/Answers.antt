@@ -1,3 +1,4 @@
+-- What the proof of `laws::equal_lines_read_alike` needs beside the tactics.
 use Rattle.std.proofs.Common.{sym}
 use Rattle.trust_groups.proofs.SameLemmas.{settings-same, files_read_alike, compacted_read_alike, kept_read_alike}
 use Rattle.trust_groups.proofs.laws.equal_lines_read_alike.Goals as goal

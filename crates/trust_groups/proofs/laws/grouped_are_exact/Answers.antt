@@ -1,3 +1,4 @@
+-- What the proof of `laws::grouped_are_exact` needs beside the tactics.
 use Rattle.trust_groups.proofs.ClaimLemmas.{grouped_exact, grouped_sorted}
 use Rattle.trust_groups.proofs.laws.grouped_are_exact.Goals as goal
 

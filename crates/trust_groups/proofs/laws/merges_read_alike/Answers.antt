@@ -1,3 +1,4 @@
+-- What the proof of `laws::merges_read_alike` needs beside the tactics.
 use Rattle.trust_groups.proofs.MergeLemmas.{own_files, added_files, compacted_files, merged_files, any_order}
 use Rattle.trust_groups.proofs.laws.merges_read_alike.Goals as goal
 

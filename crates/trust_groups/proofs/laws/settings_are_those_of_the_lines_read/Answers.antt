@@ -1,3 +1,4 @@
+-- What the proof of `laws::settings_are_those_of_the_lines_read` needs beside the tactics.
 use Rattle.std.proofs.Common.{sym, ◌∙◌}
 use Rattle.trust_groups.proofs.KeptLemmas.{settings_read}
 use Rattle.trust_groups.proofs.MergeLemmas.{other_file}

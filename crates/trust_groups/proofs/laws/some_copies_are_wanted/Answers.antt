@@ -1,3 +1,4 @@
+-- What the proof of `laws::some_copies_are_wanted` needs beside the tactics.
 use Rattle.log_lines.specs.declared.entry.LogKind.TheVariants as kinds
 use Rattle.log_lines.specs.declared.entry.Topic.TheVariants as topics
 use Rattle.trust_groups.specs.Settings.{entry_in, value_in}

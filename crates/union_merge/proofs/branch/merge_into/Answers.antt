@@ -1,15 +1,17 @@
+-- What the proof of `branch::merge_into` needs beside the tactics.
 use Rattle.std.proofs.Common.{◌≡◌, ◌∙◌, Some, Result, Ok, Err, OnErr, sym, ap}
+use Rattle.annex_base.proofs.Rows.{lookup-shown}
 use Rattle.union_merge.specs.LineSet.{union}
 use Rattle.union_merge.specs.Branch.{file_at, or_none, with_file}
 use Rattle.union_merge.specs.FileView.{files_of}
 use Rattle.union_merge.proofs.SetLemmas.{Lines}
 use Rattle.union_merge.proofs.BranchLemmas.{Member-file_at}
-use Rattle.union_merge.proofs.ViewLemmas.{lookup-files_of, files_of-set_value, set_value-same}
+use Rattle.union_merge.proofs.ViewLemmas.{files_of-set_value, set_value-same}
 use Rattle.union_merge.proofs.branch.merge_into.Goals as goal
 
 pub returns-in_default-clause-missing : goal.returns-in_default-clause-missing
 returns-in_default-clause-missing c = λ is.
-    (sym (lookup-files_of c.args.files.now.entries c.args.path.now) ∙ sym c.in_default.ensures.value, ap (λ m. files_of m.entries) c.get_mut.follows.holds-at-none)
+    (sym (lookup-shown c.args.files.now.entries c.args.path.now) ∙ sym c.in_default.ensures.value, ap (λ m. files_of m.entries) c.get_mut.follows.holds-at-none)
 
 in_any_err : {A E : Type 0} (r : Result A E) (X : Type 0) → X → OnErr r X
 in_any_err (Ok x) X h = tt
@@ -22,7 +24,7 @@ returns-in_err-merge-clause-err c =
 
 pub returns-clause-there : goal.returns-clause-there
 returns-clause-there c = λ is.
-    let found : file_at (files_of c.args.files.now.entries) c.args.path.now ≡ Some c.in-Some.own.now = sym (lookup-files_of c.args.files.now.entries c.args.path.now) ∙ sym c.in-Some.ensures.value in
+    let found : file_at (files_of c.args.files.now.entries) c.args.path.now ≡ Some c.in-Some.own.now = sym (lookup-shown c.args.files.now.entries c.args.path.now) ∙ sym c.in-Some.ensures.value in
     ap files_of (c.get_mut.follows.holds c.merge.new.self).0
     ∙ files_of-set_value c.args.files.now.entries c.args.path.now c.merge.new.self c.requires (Member-file_at (files_of c.args.files.now.entries) c.args.path.now c.in-Some.own.now found)
     ∙ ap (with_file (files_of c.args.files.now.entries) c.args.path.now) (c.in_ok-merge.ensures.ok ∙ ap (λ (w : Lines). union w c.args.lines.now) (ap or_none (sym found)))

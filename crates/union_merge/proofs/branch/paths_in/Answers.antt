@@ -1,3 +1,4 @@
+-- What the proof of `branch::paths_in` needs beside the tactics.
 use Rattle.std.proofs.Common.{◌++◌, ◌∙◌, List, ℕ, map, ap, sym}
 use Rattle.union_merge.proofs.ViewLemmas.{keys_of-files_of}
 use Rattle.union_merge.proofs.branch.paths_in.Goals as goal

@@ -1,3 +1,4 @@
+-- What holds at each turn of the loops of `branch::paths_in`.
 use Rattle.std.proofs.Common.{◌≡◌, ◌++◌, map}
 use Rattle.std.specs.Map.{keys_of}
 use Rattle.union_merge.specs.FileView.{files_of}

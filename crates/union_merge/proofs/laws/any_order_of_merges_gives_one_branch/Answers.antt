@@ -1,3 +1,4 @@
+-- What the proof of `laws::any_order_of_merges_gives_one_branch` needs beside the tactics.
 use Rattle.std.proofs.Common.{[]}
 use Rattle.union_merge.proofs.BranchLemmas.{empty-is_branch}
 use Rattle.union_merge.proofs.MergeLemmas.{merged_branches-order}

@@ -1,3 +1,4 @@
+-- What the proof of `laws::differences_make_the_union` needs beside the tactics.
 use Rattle.union_merge.proofs.DifferenceLemmas.{difference-is_set, difference-parts, difference-from, union-difference}
 use Rattle.union_merge.proofs.laws.differences_make_the_union.Goals as goal
 

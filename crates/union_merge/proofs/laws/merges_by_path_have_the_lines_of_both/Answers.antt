@@ -1,3 +1,4 @@
+-- What the proof of `laws::merges_by_path_have_the_lines_of_both` needs beside the tactics.
 use Rattle.union_merge.proofs.PathLemmas.{merge_by_path-is_branch, lines_at-merge_by_path, merge_by_path-whole}
 use Rattle.union_merge.proofs.laws.merges_by_path_have_the_lines_of_both.Goals as goal
 

@@ -1,3 +1,4 @@
+-- What the proof of `laws::merges_have_the_files_of_both` needs beside the tactics.
 use Rattle.union_merge.proofs.MergeLemmas.{swap_cases, Paths-merged_branch, merged_branch-path_left, merged_branch-path_right, merged_branch-is_branch, lines_at-merged_branch, merged_comm, merged_assoc, merged_idem}
 use Rattle.union_merge.proofs.laws.merges_have_the_files_of_both.Goals as goal
 

@@ -1,3 +1,4 @@
+-- What the proof of `laws::unions_have_the_lines_of_both` needs beside the tactics.
 use Rattle.union_merge.proofs.SetLemmas.{Member-union, union-left, union-right, union-is_set, union-nil}
 use Rattle.union_merge.proofs.MergeLemmas.{swap_cases, union_comm, union_assoc, union_idem}
 use Rattle.union_merge.proofs.laws.unions_have_the_lines_of_both.Goals as goal

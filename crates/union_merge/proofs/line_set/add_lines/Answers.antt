@@ -1,3 +1,4 @@
+-- What the proof of `line_set::add_lines` needs beside the tactics.
 use Rattle.std.proofs.Common.{◌∙◌, []}
 use Rattle.std.proofs.Common.{ap}
 use Rattle.union_merge.specs.LineSet.{union}

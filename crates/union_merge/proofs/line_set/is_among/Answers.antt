@@ -1,3 +1,4 @@
+-- What the proof of `line_set::is_among` needs beside the tactics.
 use Rattle.union_merge.proofs.DifferenceLemmas.{any_is}
 use Rattle.union_merge.proofs.line_set.is_among.Goals as goal
 

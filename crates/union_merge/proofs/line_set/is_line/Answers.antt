@@ -1,3 +1,4 @@
+-- What the proof of `line_set::is_line` needs beside the tactics.
 use Rattle.union_merge.proofs.LineLemmas.{line_test}
 use Rattle.union_merge.proofs.line_set.is_line.Goals as goal
 

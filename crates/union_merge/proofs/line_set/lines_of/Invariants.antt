@@ -1,3 +1,4 @@
+-- What holds at each turn of the loops of `line_set::lines_of`.
 use Rattle.std.proofs.Common.{◌≡◌, take, map, filter, not}
 use Rattle.union_merge.specs.LineSet.{is_empty}
 use Rattle.union_merge.proofs.line_set.lines_of.Given as goal

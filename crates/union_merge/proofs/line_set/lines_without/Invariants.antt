@@ -1,3 +1,4 @@
+-- What holds at each turn of the loops of `line_set::lines_without`.
 use Rattle.std.proofs.Common.{◌≡◌, take}
 use Rattle.union_merge.specs.LineSet.{difference}
 use Rattle.union_merge.proofs.line_set.lines_without.Given as goal

@@ -1,3 +1,4 @@
+-- What the proof of `line_set::pieces_of` needs beside the tactics.
 use Rattle.std.specs.Bool.{◌==◌}
 use Rattle.std.proofs.Common.{rules}
 use Rattle.std.proofs.lemmas.Iterator.Consumers.{map_from_collect}

@@ -1,3 +1,4 @@
+-- What the proof of `line_set::place_of` needs beside the tactics.
 use Rattle.std.proofs.Common.{◌≡◌, rules}
 use Rattle.std.specs.List.{insert}
 use Rattle.std.specs.Result.{MatchResult}

@@ -1,3 +1,4 @@
+-- What the proof of `line_set::put_each` needs beside the tactics.
 use Rattle.std.proofs.Common.{◌∙◌, sym, ap, subst, arith}
 use Rattle.std.specs.Vec.Iter.{into_iter_items}
 use Rattle.annex_base.specs.ByteOrder.{IsInOrder}

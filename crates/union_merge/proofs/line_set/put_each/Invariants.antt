@@ -1,3 +1,4 @@
+-- What holds at each turn of the loops of `line_set::put_each`.
 use Rattle.std.proofs.Common.{◌≡◌, ◌+◌, ◌≤◌, vec_len, vec_capacity, length}
 use Rattle.std.specs.Vec.Iter.{into_iter_items}
 use Rattle.annex_base.specs.ByteOrder.{IsInOrder}

@@ -1,3 +1,4 @@
+-- What the proof of `line_set::put_in_order` needs beside the tactics.
 use Rattle.union_merge.proofs.PlaceLemmas.{sorted_set}
 use Rattle.union_merge.proofs.line_set.put_in_order.Goals as goal
 

@@ -1,3 +1,4 @@
+-- What the proof of `line_set::put_line` needs beside the tactics.
 use Rattle.std.proofs.Common.{sym, subst}
 use Rattle.annex_base.specs.Lists.{Member}
 use Rattle.union_merge.proofs.SetLemmas.{with_line-there}

@@ -1,3 +1,4 @@
+-- What holds at each turn of the loops of `line_set::put_lines`.
 use Rattle.std.proofs.Common.{◌≡◌, ◌++◌, take}
 use Rattle.union_merge.specs.LineSet.{text_of}
 use Rattle.union_merge.proofs.line_set.put_lines.Given as goal

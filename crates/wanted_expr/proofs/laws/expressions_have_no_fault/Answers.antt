@@ -1,3 +1,4 @@
+-- What the proof of `laws::expressions_have_no_fault` needs beside the tactics.
 use Rattle.wanted_expr.proofs.ParseLemmas.{not_both}
 use Rattle.wanted_expr.proofs.laws.expressions_have_no_fault.Goals as goal
 

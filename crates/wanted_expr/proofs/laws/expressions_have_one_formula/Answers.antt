@@ -1,3 +1,4 @@
+-- What the proof of `laws::expressions_have_one_formula` needs beside the tactics.
 use Rattle.wanted_expr.proofs.ParseLemmas.{one_formula}
 use Rattle.wanted_expr.proofs.laws.expressions_have_one_formula.Goals as goal
 

@@ -1,3 +1,4 @@
+-- What the proof of `reading::before_group` needs beside the tactics.
 use Rattle.std.proofs.Common.{sym, ◌∙◌, refl, length}
 use Rattle.wanted_expr.proofs.StackLemmas.{group_last, no_group_last}
 use Rattle.wanted_expr.proofs.reading.before_group.Goals as goal

@@ -1,3 +1,4 @@
+-- What the proof of `reading::deeper` needs beside the tactics.
 use Rattle.std.proofs.Common.{rules, ◌≡◌, ◌++◌, ◌∷◌, [], arith}
 use Rattle.wanted_expr.specs.Reading.{above, pending_of}
 use Rattle.wanted_expr.proofs.StackLemmas.{above_pushed, deepens}

@@ -1,3 +1,4 @@
+-- What the proof of `reading::first_paren` needs beside the tactics.
 use Rattle.wanted_expr.proofs.StackLemmas.{found_paren}
 use Rattle.wanted_expr.proofs.reading.first_paren.Goals as goal
 

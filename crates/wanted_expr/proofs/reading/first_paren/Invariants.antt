@@ -1,3 +1,4 @@
+-- What holds at each turn of the loops of `reading::first_paren`.
 use Rattle.std.proofs.Common.{◌≡◌, [], List, length}
 use Rattle.wanted_expr.specs.Reading.{Pending, above, open_places}
 use Rattle.wanted_expr.proofs.reading.first_paren.Given as goal

@@ -1,3 +1,4 @@
+-- What the proof of `reading::has_pending` needs beside the tactics.
 use Rattle.std.proofs.Common.{sym, ap, ◌∙◌}
 use Rattle.std.specs.Prelude.{not}
 use Rattle.wanted_expr.proofs.StackLemmas.{has_last}

@@ -1,3 +1,4 @@
+-- What the proof of `reading::no_term` needs beside the tactics.
 use Rattle.wanted_expr.specs.Reading.{above, open_places}
 use Rattle.std.proofs.Common.{[]}
 use Rattle.wanted_expr.proofs.StackLemmas.{never_opened}

@@ -1,3 +1,4 @@
+-- What the proof of `reading::pop_pending` needs beside the tactics.
 use Rattle.std.proofs.Common.{[], ap, sym, ◌∙◌}
 use Rattle.wanted_expr.specs.Reading.{above, has_pending}
 use Rattle.wanted_expr.proofs.StackLemmas.{popped_pending}

@@ -1,3 +1,4 @@
+-- What the proof of `reading::read` needs beside the tactics.
 use Rattle.std.proofs.Common.{◌++◌, ◌∷◌, [], length, arith}
 use Rattle.wanted_expr.specs.Expressions.{NextIs}
 use Rattle.wanted_expr.specs.Reading.{Awaiting, reading_state}

@@ -1,3 +1,4 @@
+-- What holds at each turn of the loops of `reading::read`.
 use Rattle.std.proofs.Common.{◌≡◌, ◌≤◌, ℕ, [], List, Ok, length}
 use Rattle.wanted_expr.specs.declared.lexeme.Lexeme.{Lexeme}
 use Rattle.wanted_expr.specs.Expressions.{Reads}

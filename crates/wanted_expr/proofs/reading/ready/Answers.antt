@@ -1,3 +1,4 @@
+-- What the proof of `reading::ready` needs beside the tactics.
 use Rattle.std.proofs.Common.{rules, ◌≡◌, ◌++◌, ◌∷◌, [], ap, arith}
 use Rattle.wanted_expr.specs.declared.lexeme.Operator.TheVariants.{And}
 use Rattle.wanted_expr.specs.declared.reading.Frame.TheVariants as frames

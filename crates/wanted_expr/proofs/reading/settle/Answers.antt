@@ -1,3 +1,4 @@
+-- What the proof of `reading::settle` needs beside the tactics.
 use Rattle.std.proofs.Common.{◌≡◌, ◌+◌, [], sym, ap, ◌∙◌, arith}
 use Rattle.wanted_expr.specs.Formula.{formula_of}
 use Rattle.wanted_expr.specs.Reading.{above, open_count, opens, pending_of, settle}

@@ -1,3 +1,4 @@
+-- What holds at each turn of the loops of `reading::settle`.
 use Rattle.std.proofs.Common.{◌≡◌, [], length}
 use Rattle.wanted_expr.specs.Formula.{formula_of}
 use Rattle.wanted_expr.specs.Reading.{above, open_count, settle}

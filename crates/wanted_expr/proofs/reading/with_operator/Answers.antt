@@ -1,3 +1,4 @@
+-- What the proof of `reading::with_operator` needs beside the tactics.
 use Rattle.std.proofs.Common.{rules, ◌≡◌, ◌++◌, ◌∷◌, [], ap, arith}
 use Rattle.wanted_expr.specs.declared.reading.Frame.TheVariants as frames
 use Rattle.wanted_expr.specs.Reading.{open_count}

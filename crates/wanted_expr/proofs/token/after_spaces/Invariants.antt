@@ -1,3 +1,4 @@
+-- What holds at each turn of the loops of `token::after_spaces`.
 use Rattle.std.proofs.Common.{◌≤◌, ◌≡◌, length}
 use Rattle.wanted_expr.specs.Pieces.{after_spaces}
 use Rattle.wanted_expr.proofs.token.after_spaces.Given as goal

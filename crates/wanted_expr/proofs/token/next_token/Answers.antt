@@ -1,3 +1,4 @@
+-- What the proof of `token::next_token` needs beside the tactics.
 use Rattle.std.proofs.Common.{rules, arith}
 use Rattle.wanted_expr.proofs.TokenLemmas.{word_begins}
 use Rattle.wanted_expr.proofs.token.next_token.Goals as goal

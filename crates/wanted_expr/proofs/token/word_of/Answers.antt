@@ -1,3 +1,4 @@
+-- What the proof of `token::word_of` needs beside the tactics.
 use Rattle.std.proofs.Common.{rules, ◌≡◌, ◌<◌, ◌++◌, ◌∷◌, [], None, inl, inr, false, ap, length, arith, sym, ◌∙◌}
 use Rattle.wanted_expr.specs.Pieces.{ends_word, word_at}
 use Rattle.wanted_expr.proofs.TokenLemmas.{differs, word_on}

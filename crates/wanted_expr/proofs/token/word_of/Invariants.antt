@@ -1,3 +1,4 @@
+-- What holds at each turn of the loops of `token::word_of`.
 use Rattle.std.proofs.Common.{◌≤◌, ◌<◌, ◌≡◌, ◌⊎◌, length, None}
 use Rattle.wanted_expr.specs.Pieces.{word_at, after_bytes}
 use Rattle.wanted_expr.proofs.token.word_of.Given as goal

@@ -1,3 +1,4 @@
+-- What the proof of `word::among` needs beside the tactics.
 use Rattle.std.proofs.Common.{arith, ap, length}
 use Rattle.wanted_expr.proofs.word.among.Goals as goal
 

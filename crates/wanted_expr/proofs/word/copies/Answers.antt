@@ -1,3 +1,4 @@
+-- What the proof of `word::copies` needs beside the tactics.
 use Rattle.std.proofs.Common.{◌∙◌, sym}
 use Rattle.wanted_expr.proofs.CopiesLemmas.{copies_cut}
 use Rattle.wanted_expr.proofs.word.copies.Goals as goal

@@ -1,3 +1,4 @@
+-- What the proof of `word::count` needs beside the tactics.
 use Rattle.std.proofs.Common.{sym, subst, ℕ, Option}
 use Rattle.annex_base.specs.Finding.{Found}
 use Rattle.wanted_expr.specs.Words.{IsCount}

@@ -1,3 +1,4 @@
+-- What the proof of `word::glob` needs beside the tactics.
 use Rattle.std.proofs.Common.{rules, ◌<◌, length, arith, subst, List, ℕ}
 use Rattle.std.specs.Str.{chars}
 use Rattle.std.proofs.lemmas.Str.{is_utf8-from_IsUtf8, IsUtf8-from_is_utf8}

@@ -1,3 +1,4 @@
+-- What holds at each turn of the loops of `word::last_colon`.
 use Rattle.wanted_expr.specs.Finding.{IsLastColon}
 use Rattle.wanted_expr.proofs.word.last_colon.Given as goal
 

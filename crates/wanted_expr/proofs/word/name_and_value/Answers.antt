@@ -1,3 +1,4 @@
+-- What the proof of `word::name_and_value` needs beside the tactics.
 use Rattle.wanted_expr.proofs.CutLemmas.{within, name_is, with_value}
 use Rattle.wanted_expr.proofs.word.name_and_value.Goals as goal
 

@@ -1,3 +1,4 @@
+-- What the proof of `word::number` needs beside the tactics.
 use Rattle.std.proofs.Common.{rules, sym, subst, ℕ, Option}
 use Rattle.annex_base.specs.Finding.{Found}
 use Rattle.wanted_expr.specs.Words.{IsDigits}

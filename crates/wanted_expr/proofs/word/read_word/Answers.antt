@@ -1,3 +1,4 @@
+-- What the proof of `word::read_word` needs beside the tactics.
 use Rattle.std.proofs.Common.{◌≡◌, ◌++◌, sym, ◌∙◌}
 use Rattle.std.specs.Prelude.{codes}
 use Rattle.wanted_expr.proofs.ReadWordLemmas.{found_alone, found_valued, bare_with_value}

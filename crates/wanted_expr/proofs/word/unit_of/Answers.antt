@@ -1,3 +1,4 @@
+-- What the proof of `word::unit_of` needs beside the tactics.
 use Rattle.wanted_expr.proofs.WordLemmas.{ends_kb, ends_mb, ends_gb}
 use Rattle.wanted_expr.proofs.word.unit_of.Goals as goal
 

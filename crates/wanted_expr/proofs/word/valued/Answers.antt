@@ -1,3 +1,4 @@
+-- What the proof of `word::valued` needs beside the tactics.
 use Rattle.std.proofs.Common.{◌∙◌, ℕ, sym, refl}
 use Rattle.std.specs.Prelude.{codes}
 use Rattle.wanted_expr.specs.declared.data.Among.{Among}

@@ -1,3 +1,4 @@
+-- What the proof of `word::without_end` needs beside the tactics.
 use Rattle.wanted_expr.proofs.WordLemmas.{stripped}
 use Rattle.wanted_expr.proofs.word.without_end.Goals as goal
 

@@ -1,3 +1,4 @@
+-- What the proof of `word::word_alone` needs beside the tactics.
 use Rattle.std.proofs.Common.{sym, ◌∙◌}
 use Rattle.wanted_expr.proofs.ReadWordLemmas.{alone_known, alone_unknown}
 use Rattle.wanted_expr.proofs.word.word_alone.Goals as goal

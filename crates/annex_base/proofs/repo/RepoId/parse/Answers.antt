@@ -1,3 +1,4 @@
+-- What the proof of `repo::RepoId::parse` needs beside the tactics.
 use Rattle.std.proofs.Common.{◌≡◌, true≢false, Ok, ap, sym, ◌∙◌}
 use Rattle.std.proofs.lemmas.Str.{IsUtf8-from_ascii}
 use Rattle.std.proofs.lemmas.Slice.Eq.{slice_eq-Decides}

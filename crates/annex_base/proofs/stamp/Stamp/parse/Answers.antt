@@ -1,3 +1,4 @@
+-- What the proof of `stamp::Stamp::parse` needs beside the tactics.
 use Rattle.std.proofs.Common.{◌≡◌, ℕ, Ok, Some, None, sym, ap, ◌∙◌}
 use Rattle.std.proofs.lemmas.Option.{same_Some}
 use Rattle.annex_base.proofs.StampLemmas.{stamp_takes, stamp_again}

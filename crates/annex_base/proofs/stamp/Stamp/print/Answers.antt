@@ -1,3 +1,4 @@
+-- What the proof of `stamp::Stamp::print` needs beside the tactics.
 use Rattle.std.proofs.Common.{◌≡◌, ◌<◌, ◌^◌, rules}
 use Rattle.annex_base.specs.StampText.{stamp_text}
 use Rattle.annex_base.proofs.StampLemmas.{stamp_written}

@@ -1,3 +1,4 @@
+-- What the proof of `key::Key::backend` needs beside the tactics.
 use Rattle.std.proofs.Common.{ap, ◌∙◌}
 use Rattle.annex_key.specs.View.{backend_part}
 use Rattle.annex_key.proofs.AnswerLemmas.{backend_part-key}

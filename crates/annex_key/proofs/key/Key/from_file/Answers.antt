@@ -1,3 +1,4 @@
+-- What the proof of `key::Key::from_file` needs beside the tactics.
 use Rattle.std.proofs.Common.{◌≡◌, ◌∙◌, sym, ap}
 use Rattle.annex_key.specs.KeyFile.{file_text}
 use Rattle.annex_key.specs.KeyText.{IsKeyText}

@@ -1,3 +1,4 @@
+-- What the proof of `key::Key::name` needs beside the tactics.
 use Rattle.std.proofs.Common.{ap, ◌∙◌}
 use Rattle.annex_key.specs.View.{name_part}
 use Rattle.annex_key.proofs.AnswerLemmas.{name_part-key}

@@ -1,3 +1,4 @@
+-- What the proof of `key::Key::parse` needs beside the tactics.
 use Rattle.annex_key.proofs.AnswerLemmas as answers
 use Rattle.annex_key.proofs.key.Key.parse.Goals as goal
 

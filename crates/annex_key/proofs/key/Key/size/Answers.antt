@@ -1,3 +1,4 @@
+-- What the proof of `key::Key::size` needs beside the tactics.
 use Rattle.std.proofs.Common.{sym, ap, ◌∙◌}
 use Rattle.annex_key.specs.View.{or_none}
 use Rattle.annex_key.proofs.AnswerLemmas.{size_part-key}

@@ -1,3 +1,4 @@
+-- What the proof of `key::Key::text` needs beside the tactics.
 use Rattle.std.proofs.Common.{subst}
 use Rattle.annex_key.specs.KeyText.{IsKeyText}
 use Rattle.annex_key.proofs.AnswerLemmas.{keyed_is}

@@ -1,3 +1,4 @@
+-- What the proof of `key::Key::unchunked` needs beside the tactics.
 use Rattle.std.proofs.Common.{◌∙◌, ap, sym, subst}
 use Rattle.annex_key.specs.View.{IsKeyed, unchunked_text}
 use Rattle.annex_key.proofs.ChunkLemmas.{keyed_short, keyed_never, keyed_joins, unchunked_keyed, unchunked_text-key}

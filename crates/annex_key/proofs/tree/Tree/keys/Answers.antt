@@ -1,3 +1,4 @@
+-- What the proof of `tree::Tree::keys` needs beside the tactics.
 use Rattle.std.proofs.Common.{◌≡◌, ◌≢◌, ◌↔◌, List, ℕ, Some, AllPairs, Contains, sym, subst, ap, ◌∙◌}
 use Rattle.std.specs.List.Sorted.{IsStrictlySortedBy}
 use Rattle.std.specs.Map.{keys_of, values_of}

@@ -1,3 +1,4 @@
+-- What the proof of `tree::Tree::paths` needs beside the tactics.
 use Rattle.std.proofs.Common.{◌≡◌, ◌↔◌, List, ℕ, Some, Contains, ap, ◌∙◌}
 use Rattle.std.specs.BTreeMap.{is_at}
 use Rattle.std.specs.List.{list_any}

@@ -1,3 +1,4 @@
+-- What the proof of `tree::Tree::set` needs beside the tactics.
 use Rattle.std.proofs.Common.{ap, ◌∙◌}
 use Rattle.std.proofs.lemmas.Result.{on_ok_weaker}
 use Rattle.annex_key.specs.Tree.{with_key, key_of}

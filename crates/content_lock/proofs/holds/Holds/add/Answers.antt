@@ -1,3 +1,4 @@
+-- What the proof of `holds::Holds::add` needs beside the tactics.
 use Rattle.std.proofs.Common.{◌<◌}
 use Rattle.std.specs.Map.{values_of}
 use Rattle.annex_base.proofs.Lists.{All-from_Each}

@@ -1,3 +1,4 @@
+-- What the proof of `holds::Holds::blocker` needs beside the tactics.
 use Rattle.std.proofs.Common.{None, ap, sym, subst, ◌∙◌}
 use Rattle.std.specs.Option.{option_copied}
 use Rattle.std.specs.Map.{values_of}

@@ -1,3 +1,4 @@
+-- What the proof of `holds::Holds::keep` needs beside the tactics.
 use Rattle.std.proofs.Common.{map, refl, subst, ap, ◌∙◌}
 use Rattle.std.specs.Map.{values_of}
 use Rattle.content_lock.specs.Indexed.{AreFalling}

@@ -1,3 +1,4 @@
+-- What the proof of `holds::Holds::restart` needs beside the tactics.
 use Rattle.std.proofs.Common.{map, refl, ap, ◌∙◌}
 use Rattle.std.specs.Map.{values_of}
 use Rattle.node_model.specs.Rows.{restart}

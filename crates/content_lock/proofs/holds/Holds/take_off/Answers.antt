@@ -1,3 +1,4 @@
+-- What the proof of `holds::Holds::take_off` needs beside the tactics.
 use Rattle.std.specs.Map.{values_of}
 use Rattle.content_lock.proofs.NumberedLemmas.{view_less}
 use Rattle.content_lock.proofs.holds.Holds.take_off.Goals as goal

@@ -1,3 +1,4 @@
+-- What the proof of `table::LockTable::abandon` needs beside the tactics.
 use Rattle.std.proofs.Common.{List, None, map, sym, ap, subst, ◌∙◌}
 use Rattle.run_data.specs.declared.row.Hold.{Hold}
 use Rattle.content_lock.specs.Indexed.{AreFalling}

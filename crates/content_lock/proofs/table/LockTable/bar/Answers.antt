@@ -1,3 +1,4 @@
+-- What the proof of `table::LockTable::bar` needs beside the tactics.
 use Rattle.content_lock.proofs.StoredLemmas.{bar_given, bar_others}
 use Rattle.content_lock.proofs.table.LockTable.bar.Goals as goal
 

@@ -1,3 +1,4 @@
+-- What the proof of `table::LockTable::hold` needs beside the tactics.
 use Rattle.std.proofs.Common.{false, List, ◌<◌, ap, sym, subst, ◌∙◌}
 use Rattle.std.specs.Prelude.{All}
 use Rattle.run_data.specs.declared.row.Hold.{Hold}
@@ -5,6 +6,7 @@ use Rattle.content_lock.specs.Rows.{Rows}
 use Rattle.content_lock.specs.Tokens.{others_of}
 use Rattle.content_lock.proofs.StoredLemmas.{recorded_new}
 use Rattle.content_lock.proofs.TokenLemmas.{off_again}
+use Rattle.content_lock.proofs.TurnLemmas.{hold_refused}
 use Rattle.content_lock.proofs.table.LockTable.hold.Goals as goal
 
 pub returns-in-Ok-clause-recorded : goal.returns-in-Ok-clause-recorded
@@ -19,3 +21,7 @@ returns-in-Err-clause-err g c =
     let less = subst (λ (l : List Hold). All (λ x. x.number < n) l) (sym (ap (λ (r : Rows). r.holds) c.self.view_is)) c.requires.fresh in
     let back = c.take_off.ensures ∙ ap (others_of n) c.in_ok-add.ensures.ok ∙ off_again h hs less in
     (λ i. record { holds = back i; bars = c.self.inside.bars.entries; fills = c.self.inside.fills.keys }) ∙ c.self.view_is
+
+pub returns-in-Err-clause-failing : goal.returns-in-Err-clause-failing
+returns-in-Err-clause-failing g c =
+    rw c.from.ensures (hold_refused c.in-Err.fault (g.K.Keeper.failing c.args.keeper.now) (g.K.Keeper.failing c.put_hold.new.self) c.in-Err.ensures.failing)

@@ -1,3 +1,4 @@
+-- What the proof of `table::LockTable::recover` needs beside the tactics.
 use Rattle.std.proofs.Common.{map, sym, ap, subst, ◌∙◌}
 use Rattle.object_store.specs.Stores.{AreFalling}
 use Rattle.content_lock.specs.Stored.{kept_hold, label_of}

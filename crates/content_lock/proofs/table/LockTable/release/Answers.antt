@@ -1,3 +1,4 @@
+-- What the proof of `table::LockTable::release` needs beside the tactics.
 use Rattle.std.proofs.Common.{List, ap, sym, subst, ◌∙◌}
 use Rattle.run_data.specs.declared.row.Hold.{Hold}
 use Rattle.content_lock.specs.Rows.{Rows}

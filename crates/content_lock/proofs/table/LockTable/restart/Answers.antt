@@ -1,3 +1,4 @@
+-- What the proof of `table::LockTable::restart` needs beside the tactics.
 use Rattle.std.proofs.Common.{List, map, sym, ap, subst, true, ◌≡◌, ◌∙◌}
 use Rattle.annex_base.specs.Lists.{Each}
 use Rattle.run_data.specs.declared.row.Hold.{Hold}

@@ -1,3 +1,4 @@
+-- What the proof of `table::LockTable::unbar` needs beside the tactics.
 use Rattle.std.proofs.Common.{ap, ◌∙◌}
 use Rattle.content_lock.specs.Rows.{Rows, bar_at}
 use Rattle.content_lock.specs.Tokens.{BarView}

@@ -1,3 +1,4 @@
+-- What the proof of `glob::Glob::matches` needs beside the tactics.
 use Rattle.std.proofs.Common.{rules, ◌≡◌}
 use Rattle.std.specs.Str.{chars}
 use Rattle.annex_base.proofs.Conditions.{decided}

@@ -1,3 +1,4 @@
+-- What the proof of `glob::Glob::parse` needs beside the tactics.
 use Rattle.std.proofs.Common.{Vec, Global}
 use Rattle.glob_match.specs.declared.item.Item.{Item}
 use Rattle.std.specs.Str.{chars}

@@ -1,3 +1,4 @@
+-- What the proof of `end::End::open` needs beside the tactics.
 use Rattle.std.proofs.Common.{rules, subst}
 use Rattle.link_ring.specs.Ends.{EndView, ArePaired}
 use Rattle.link_ring.specs.Ways.{Opens}

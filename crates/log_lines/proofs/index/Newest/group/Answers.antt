@@ -1,3 +1,4 @@
+-- What the proof of `index::Newest::group` needs beside the tactics.
 use Rattle.std.proofs.Common.{ap, ◌∙◌}
 use Rattle.std.specs.Option.{option_map}
 use Rattle.log_lines.specs.declared.entry.Topic.TheVariants as topics

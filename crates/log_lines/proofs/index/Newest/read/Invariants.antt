@@ -1,3 +1,4 @@
+-- What holds at each turn of the loops of `index::Newest::read`.
 use Rattle.std.proofs.Common.{◌≡◌, take}
 use Rattle.log_lines.specs.Index.{index_of}
 use Rattle.log_lines.proofs.index.Newest.read.Given as goal

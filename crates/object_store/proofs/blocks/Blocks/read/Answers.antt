@@ -1,3 +1,4 @@
+-- What the proof of `blocks::Blocks::read` needs beside the tactics.
 use Rattle.std.proofs.Common.{◌≡◌, ◌+◌, ◌-◌, ◌%◌, ◌≤◌, length, take, drop, ap, ◌∙◌, arith, length-drop, length-take}
 use Rattle.std.proofs.lemmas.List.{take-take}
 use Rattle.object_store.proofs.BlockLemmas.{read_more}

@@ -1,3 +1,4 @@
+-- What holds at each turn of the loops of `blocks::Blocks::read`.
 use Rattle.std.proofs.Common.{◌≡◌, ◌++◌, ◌≤◌, ◌-◌, take, drop}
 use Rattle.object_store.proofs.blocks.Blocks.read.Given as goal
 

@@ -1,3 +1,4 @@
+-- What the proof of `blocks::Blocks::rest_at` needs beside the tactics.
 use Rattle.std.proofs.Common.{◌%◌, length, drop, ap, ◌∙◌, arith}
 use Rattle.object_store.proofs.BlockLemmas.{rest_of_block, within_block}
 use Rattle.object_store.proofs.blocks.Blocks.rest_at.Goals as goal

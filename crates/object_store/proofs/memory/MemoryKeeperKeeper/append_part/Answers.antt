@@ -1,3 +1,4 @@
+-- What the proof of `memory::MemoryKeeperKeeper::append_part` needs beside the tactics.
 use Rattle.object_store.specs.ByKey.{part_at}
 use Rattle.object_store.proofs.ByKeyLemmas.{told_short}
 use Rattle.object_store.proofs.memory.MemoryKeeperKeeper.append_part.Goals as goal

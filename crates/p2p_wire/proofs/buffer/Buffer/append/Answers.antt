@@ -1,3 +1,4 @@
+-- What the proof of `buffer::Buffer::append` needs beside the tactics.
 use Rattle.std.proofs.Common.{◌≡◌, length, drop, sym, arith}
 use Rattle.std.specs.Prelude.{vec_len}
 use Rattle.std.proofs.lemmas.List.{drop-append-le}

@@ -1,3 +1,4 @@
+-- What the proof of `decoder::Decoder::pass` needs beside the tactics.
 use Rattle.std.proofs.Common.{◌≡◌, ◌+◌, length, sym, ◌∙◌, ap, arith}
 use Rattle.p2p_wire.specs.Streams.{Unread, Says, Gives, after_told, past, told, told_by, line_of}
 use Rattle.p2p_wire.proofs.StreamLemmas.{given_len, said_len}

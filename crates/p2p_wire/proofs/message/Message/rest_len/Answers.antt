@@ -1,3 +1,4 @@
+-- What the proof of `message::Message::rest_len` needs beside the tactics.
 use Rattle.std.proofs.Common.{◌≡◌, length, arith}
 use Rattle.annex_base.specs.RepoText.{repo_text}
 use Rattle.annex_base.proofs.RepoLemmas.{length-repo_text}

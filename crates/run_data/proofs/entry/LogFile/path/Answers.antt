@@ -1,3 +1,4 @@
+-- What the proof of `entry::LogFile::path` needs beside the tactics.
 use Rattle.run_data.proofs.FileLemmas.{line_of_location}
 use Rattle.run_data.proofs.entry.LogFile.path.Goals as goal
 

@@ -1,3 +1,4 @@
+-- What the proof of `content::Content::size` needs beside the tactics.
 use Rattle.std.proofs.Common.{sym}
 use Rattle.script_words.proofs.FillLemmas.{length-fill_bytes}
 use Rattle.script_words.proofs.content.Content.size.Goals as goal

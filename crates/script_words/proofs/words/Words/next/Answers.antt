@@ -1,3 +1,4 @@
+-- What the proof of `words::Words::next` needs beside the tactics.
 use Rattle.script_words.proofs.PlaceLemmas.{behind_within, next_ahead}
 use Rattle.script_words.proofs.words.Words.next.Goals as goal
 

@@ -1,3 +1,4 @@
+-- What the proof of `words::Words::peek` needs beside the tactics.
 use Rattle.script_words.proofs.PlaceLemmas.{next_ahead}
 use Rattle.script_words.proofs.words.Words.peek.Goals as goal
 

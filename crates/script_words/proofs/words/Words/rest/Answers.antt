@@ -1,3 +1,4 @@
+-- What the proof of `words::Words::rest` needs beside the tactics.
 use Rattle.script_words.proofs.PlaceLemmas.{behind_within, rest_ahead}
 use Rattle.script_words.proofs.words.Words.rest.Goals as goal
 

@@ -1,3 +1,4 @@
+-- What the proof of `reading::Reading::standing` needs beside the tactics.
 use Rattle.std.proofs.Common.{length, refl, sym, ap, ◌∙◌}
 use Rattle.std.proofs.lemmas.Option.{slice_get_past, slice_get_read}
 use Rattle.run_data.specs.Repos.{id_of}

@@ -1,3 +1,4 @@
+-- What the proof of `branches::Branches::add` needs beside the tactics.
 use Rattle.std.proofs.Common.{◌<◌, ◌∙◌, ap, arith, length, length-set}
 use Rattle.std.proofs.lemmas.List.{get_or_default}
 use Rattle.thin_model.specs.Logs.{branch_after}

@@ -1,3 +1,4 @@
+-- What holds at each turn of the loops of `branches::Branches::new`.
 use Rattle.std.proofs.Common.{◌≡◌, ℕ, [], length}
 use Rattle.std.specs.List.{slice_index_or}
 use Rattle.thin_model.proofs.branches.Branches.new.Given as goal

@@ -1,3 +1,4 @@
+-- What the proof of `contents::Contents::add` needs beside the tactics.
 use Rattle.std.proofs.Common.{◌≡◌, ◌<◌, ℕ, List, ◌∙◌, Bool, get_or, ap, arith, length, length-set}
 use Rattle.std.specs.BTreeSet.{BTreeSet, contains}
 use Rattle.std.proofs.lemmas.List.{get_or_default}

@@ -1,3 +1,4 @@
+-- What holds at each turn of the loops of `contents::Contents::new`.
 use Rattle.std.proofs.Common.{◌≡◌, ℕ, List, false, length}
 use Rattle.thin_model.specs.Contents.{knows}
 use Rattle.thin_model.proofs.contents.Contents.new.Given as goal

@@ -1,3 +1,4 @@
+-- What the proof of `reader::Reader::add` needs beside the tactics.
 use Rattle.std.proofs.Common.{◌+◌, ap}
 use Rattle.thin_script.proofs.ReadLemmas.{keeps_more}
 use Rattle.thin_script.proofs.reader.Reader.add.Goals as goal

@@ -1,3 +1,4 @@
+-- What the proof of `reader::Reader::take_line` needs beside the tactics.
 use Rattle.std.proofs.Common.{inr, length, Some, subst}
 use Rattle.thin_script.specs.Steps.{PassesBy}
 use Rattle.thin_script.proofs.ReadLemmas.{says_kept}

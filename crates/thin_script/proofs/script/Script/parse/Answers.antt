@@ -1,3 +1,4 @@
+-- What the proof of `script::Script::parse` needs beside the tactics.
 use Rattle.std.proofs.lemmas.Result.{err_from_is_err_and}
 use Rattle.thin_script.proofs.StopLemmas.{one_script, script_or_bad, script_or_crowded, script_or_late}
 use Rattle.thin_script.proofs.ParseLemmas.{program_from, script_fault, bad_fault, crowded_fault, late_fault}

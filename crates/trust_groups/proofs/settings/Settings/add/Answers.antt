@@ -1,3 +1,4 @@
+-- What the proof of `settings::Settings::add` needs beside the tactics.
 use Rattle.std.proofs.Common.{sym, subst, ◌∙◌}
 use Rattle.trust_groups.specs.Reads.{Indices, Reads, lines_with, seen}
 use Rattle.trust_groups.proofs.KeptLemmas.{ok_then, settings_read}

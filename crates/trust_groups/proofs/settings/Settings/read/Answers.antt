@@ -1,3 +1,4 @@
+-- What the proof of `settings::Settings::read` needs beside the tactics.
 use Rattle.std.proofs.Common.{[], ap, ◌∙◌}
 use Rattle.union_merge.specs.Branch.{lines_at}
 use Rattle.union_merge.specs.FileView as view

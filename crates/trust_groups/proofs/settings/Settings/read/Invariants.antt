@@ -1,3 +1,4 @@
+-- What holds at each turn of the loops of `settings::Settings::read`.
 use Rattle.std.proofs.Common.{◌≡◌, ℕ, List}
 use Rattle.union_merge.specs.Branch.{lines_at}
 use Rattle.union_merge.specs.FileView as view

@@ -1,3 +1,4 @@
+-- What the proof of `branch::Branch::merge_file` needs beside the tactics.
 use Rattle.std.proofs.Common.{◌∙◌, sym, ap, subst, rules}
 use Rattle.union_merge.specs.LineSet.{union}
 use Rattle.union_merge.specs.Branch.{Files, IsBranch, or_none, with_file, merged_file}

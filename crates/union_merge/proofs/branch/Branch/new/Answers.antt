@@ -1,3 +1,4 @@
+-- What the proof of `branch::Branch::new` needs beside the tactics.
 use Rattle.std.proofs.Common.{sym, subst}
 use Rattle.union_merge.specs.Branch.{IsBranch}
 use Rattle.union_merge.specs.FileView.{files_of}

@@ -1,3 +1,4 @@
+-- What the proof of `branch::Branch::replace_file` needs beside the tactics.
 use Rattle.std.proofs.Common.{ap, sym, subst, refl}
 use Rattle.union_merge.specs.Branch.{IsBranch}
 use Rattle.union_merge.specs.FileView.{files_of}

@@ -1,3 +1,4 @@
+-- What the proof of `branch::BranchClone::clone` needs beside the tactics.
 use Rattle.std.proofs.Common.{◌∙◌, sym, subst}
 use Rattle.std.specs.List.{each_same}
 use Rattle.union_merge.specs.Branch.{IsBranch}

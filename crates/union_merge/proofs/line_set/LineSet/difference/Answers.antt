@@ -1,3 +1,4 @@
+-- What the proof of `line_set::LineSet::difference` needs beside the tactics.
 use Rattle.std.proofs.Common.{◌∙◌, List, ℕ, sym, ap, subst}
 use Rattle.union_merge.specs.LineSet.{IsLineSet, difference}
 use Rattle.union_merge.proofs.DifferenceLemmas.{difference-is_set}

@@ -1,3 +1,4 @@
+-- What the proof of `line_set::LineSet::from_bytes` needs beside the tactics.
 use Rattle.std.proofs.Common.{sym, subst}
 use Rattle.annex_base.specs.Lists.{Each}
 use Rattle.union_merge.specs.LineSet.{IsLine}

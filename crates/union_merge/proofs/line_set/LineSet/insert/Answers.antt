@@ -1,3 +1,4 @@
+-- What the proof of `line_set::LineSet::insert` needs beside the tactics.
 use Rattle.std.proofs.Common.{◌≡◌, ◌∙◌, List, ℕ, sym, ap, subst}
 use Rattle.std.specs.List.{insert}
 use Rattle.annex_base.specs.Lists.{Member}

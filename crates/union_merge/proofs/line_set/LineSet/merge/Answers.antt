@@ -1,3 +1,4 @@
+-- What the proof of `line_set::LineSet::merge` needs beside the tactics.
 use Rattle.std.proofs.Common.{◌≡◌, ◌∙◌, List, ℕ, sym, ap, subst}
 use Rattle.union_merge.specs.LineSet.{IsLineSet, union, difference}
 use Rattle.union_merge.proofs.SetLemmas.{union-is_set}

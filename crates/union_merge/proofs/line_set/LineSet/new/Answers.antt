@@ -1,3 +1,4 @@
+-- What the proof of `line_set::LineSet::new` needs beside the tactics.
 use Rattle.std.proofs.Common.{sym, subst}
 use Rattle.union_merge.specs.LineSet.{IsLineSet}
 use Rattle.union_merge.proofs.SetLemmas.{empty-is_set}

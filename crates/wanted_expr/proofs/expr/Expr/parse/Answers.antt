@@ -1,3 +1,4 @@
+-- What the proof of `expr::Expr::parse` needs beside the tactics.
 use Rattle.std.proofs.Common.{List, ℕ, Ok, Err, inl, inr, ap, subst}
 use Rattle.wanted_expr.specs.Formula.{formula_of}
 use Rattle.wanted_expr.specs.Reading.{Answers}

@@ -1,0 +1,205 @@
+-- The driver makes runs: each line of a script keeps what holds.
+use Rattle.std.proofs.Common.{◌≡◌, ℕ, zero, suc, ◌+◌, ◌<◌, ◌≤◌, Bool, true, false, List, [], ◌∷◌, inr, refl, subst, arith}
+use Rattle.std.specs.Prelude.{cond, if◌then◌else◌, ◌==◌, ◌||◌, filter, length, map}
+use Rattle.std.specs.List.{range_with_len}
+use Rattle.std.proofs.lemmas.Bool.Decides.{nat_tests}
+use Rattle.annex_base.specs.Lists.{Each}
+use Rattle.annex_base.specs.declared.kinds.Call.TheVariants as calls
+use Rattle.annex_key.specs.View.{size_part}
+use Rattle.run_data.specs.declared.entry.By.TheVariants.{Script}
+use Rattle.run_data.specs.declared.entry.EntryKind.TheVariants as kinds
+use Rattle.run_data.specs.declared.entry.LogFile.TheVariants.{Of}
+use Rattle.run_data.specs.Repos.{IsSetUp}
+use Rattle.run_model.specs.Run.{IsRun}
+use Rattle.annex_key.specs.KeyText.{IsKeyText}
+use Rattle.run_model.specs.Past.{begun, present}
+use Rattle.run_data.specs.Repos.{fits_size}
+use Rattle.node_model.specs.SessionStep.{is_filled}
+use Rattle.driver_model.specs.Lines.{Agendum, BlockLine, Line, Runs, Crashes, Closes, Fails, Have, SetPart, Add, File, Set, Raw, Merge, Compact, Begin, Turns, Settle, Close, Crash, Wait, Fail, Par}
+use Rattle.driver_model.specs.Lines
+use Rattle.driver_model.specs.Driver.{Driver, Given, at_first, commits, drops_part, fails_at, notes, puts_part, set_up_of, state_at}
+use Rattle.driver_model.specs.ScriptSteps.{begins, begins_part, calling, crashes, closes, enters, faults, fills_up, gains, has, is_busy, sets_part, setting_line, unless_busy, will_fail}
+use Rattle.driver_model.specs.Turning.{turn}
+use Rattle.driver_model.specs.Rounds.{Agenda, Blocked, Going, Taken, agenda, block_round, block_rounds, blocks, came_to, goes_round, is_over, is_settled, lines_for, may_begin, most_rounds, numbers, round, rounds, settles, takes, takes_all, takes_each, turns_of, with_round}
+use Rattle.driver_model.specs.Driving.{does, driven, drives, marked, run_of, run_with, turns}
+use Rattle.driver_model.specs.Scripts.{Fits, IsAgendum, IsBlockLine, IsOne}
+use Rattle.driver_model.proofs.EndsAlike.{ends_alike}
+use Rattle.driver_model.proofs.Holding.{Holds, Keeps}
+use Rattle.driver_model.proofs.Premises.{Laws}
+use Rattle.driver_model.proofs.Logged.{OwedKeys, keeps_compacts, keeps_merges, keeps_status, keeps_writes}
+use Rattle.driver_model.proofs.Scripted.{keeps_begins, keeps_calling, keeps_closes, keeps_crashes, keeps_enters, keeps_faults, keeps_notes, keeps_waits, keeps_will_fail}
+use Rattle.driver_model.proofs.Turned.{keeps_commits, keeps_drops, keeps_puts, keeps_turn}
+use Rattle.driver_model.proofs.WayNumbers.{order_begins}
+use Rattle.driver_model.proofs.WrittenLines.{written_line}
+
+-- ---- contents
+
+or_false : (a b : Bool) → (a || b) ≡ false → (a ≡ false) × (b ≡ false)
+or_false true b e = absurd (cc)
+or_false false b e = (refl, e)
+
+module _ (laws : Laws) (g : Given) (r : ℕ) (known : r < length g.repos) where
+  keeps_busy : (d done : Driver) (key : List ℕ) → Keeps g d → (is_busy g d r key ≡ false → Keeps g done) → Keeps g (unless_busy g r key d done)
+  keeps_busy d done key k more = keeps_calling laws g d r calls.Has (if is_busy g d r key then d else calling r calls.DropPart d done) known refl k (λ i. go (is_busy g d r key) refl)
+    where
+      go : (b : Bool) → is_busy g d r key ≡ b → Keeps g (if b then d else calling r calls.DropPart d done)
+      go true i = k
+      go false i = keeps_calling laws g d r calls.DropPart done known refl k (λ j. more i)
+
+  keeps_gains : (d : Driver) (key bytes : List ℕ) → IsKeyText key → fits_size (size_part key) (length bytes) ≡ true → is_busy g d r key ≡ false → Keeps g d → Keeps g (gains g r key bytes d)
+  keeps_gains d key bytes text fits free k =
+      let two = or_false (present d.past r key) (is_filled (set_up_of g d r) (state_at g d r) key) free in
+      keeps_status laws g (notes r (kinds.Gain Script (length bytes) key) [] (commits r key d)) r key text known
+      (keeps_notes laws g (commits r key d) r (kinds.Gain Script (length bytes) key) [] known (λ h small. (record { absent = two.0; unfilled = two.1; fits = fits; small = small }, refl, refl)) (keeps_commits g d r key k))
+
+  keeps_fills : (d : Driver) (key bytes : List ℕ) → IsKeyText key → fits_size (size_part key) (length bytes) ≡ true → is_busy g d r key ≡ false → Keeps g d → Keeps g (fills_up g r key bytes d)
+  keeps_fills d key bytes text fits free k = go (fails_at d r calls.Append)
+    where
+      go : (b : Bool) → Keeps g (if b then faults r calls.Append d else calling r calls.Commit (puts_part r key bytes d) (gains g r key bytes (puts_part r key bytes d)))
+      go true = keeps_faults laws g d r calls.Append known refl k
+      go false = keeps_calling laws g (puts_part r key bytes d) r calls.Commit (gains g r key bytes (puts_part r key bytes d)) known refl (keeps_puts g d r key bytes k)
+          (λ i. keeps_gains (puts_part r key bytes d) key bytes text fits free (keeps_puts g d r key bytes k))
+
+  keeps_has : (d : Driver) (key bytes : List ℕ) → IsKeyText key → fits_size (size_part key) (length bytes) ≡ true → Keeps g d → Keeps g (has g r key bytes d)
+  keeps_has d key bytes text fits k = keeps_busy d (fills_up g r key bytes (drops_part r key d)) key k (λ free. keeps_fills (drops_part r key d) key bytes text fits free (keeps_drops g d r key k))
+
+  keeps_part : (d : Driver) (key bytes : List ℕ) → Keeps g d → Keeps g (sets_part g r key bytes d)
+  keeps_part d key bytes k = keeps_busy d (begins_part r key bytes (drops_part r key d)) key k
+      (λ free. keeps_calling laws g (drops_part r key d) r calls.Append (puts_part r key bytes (drops_part r key d)) known refl (keeps_drops g d r key k) (λ i. keeps_puts g (drops_part r key d) r key bytes (keeps_drops g d r key k)))
+
+same_number : (a b : ℕ) → (a == b) ≡ true → a ≡ b
+same_number a b e = grind (arith, nat_tests)
+
+-- ---- rounds
+
+below_len : (a n : ℕ) (m : ℕ) → a + n ≤ m → Each (λ r. r < m) (range_with_len a n)
+below_len a zero m i = tt
+below_len a (suc n) m i = (omega (arith, i), below_len (a + 1) n m (omega (arith, i)))
+
+module _ (laws : Laws) (g : Given) where
+  keeps_turns_of : (rs : List ℕ) → Each (λ r. r < length g.repos) rs → (d : Driver) → Keeps g d → Keeps g (turns_of g rs d)
+  keeps_turns_of [] all d k = k
+  keeps_turns_of (r ∷ rs) all d k = keeps_turns_of rs all.1 (turn g r d) (keeps_turn laws ends_alike g r all.0 d k)
+
+  keeps_round : (d : Driver) → Keeps g d → Keeps g (round g d)
+  keeps_round d k = keeps_turns_of (numbers g) (below_len 0 (length g.repos) (length g.repos) (omega arith)) d k
+
+  keeps_goes : (x : Going) → Keeps g x.driver → Keeps g (goes_round g x).driver
+  keeps_goes x k = go (is_settled x)
+    where
+      go : (b : Bool) → Keeps g (if b then x else came_to x (round g x.driver)).driver
+      go true = k
+      go false = keeps_round x.driver k
+
+  keeps_rounds : (n : ℕ) (x : Going) → Keeps g x.driver → Keeps g (rounds g n x).driver
+  keeps_rounds zero x k = keeps_goes x k
+  keeps_rounds (suc n) x k = go (keeps_rounds n (rounds g n x) (keeps_rounds n x k)) (is_settled x)
+    where
+      go : Keeps g (rounds g n (rounds g n x)).driver → (b : Bool) → Keeps g (if b then x else rounds g n (rounds g n x)).driver
+      go more true = k
+      go more false = more
+
+  keeps_settles : (d : Driver) → Keeps g d → Keeps g (settles g d)
+  keeps_settles d k = keeps_rounds most_rounds (record { driver = d; idle = 0 }) k
+
+  keeps_turns : (r n : ℕ) → r < length g.repos → (d : Driver) → Keeps g d → Keeps g (turns g r n d)
+  keeps_turns r zero known d k = k
+  keeps_turns r (suc n) known d k = keeps_turns r n known (turn g r d) (keeps_turn laws ends_alike g r known d k)
+
+  -- ---- blocks
+
+  -- the lines of an agenda are of its repository
+  abbrev IsAgenda : Agenda → Type 0
+  IsAgenda a = (a.repo < length g.repos) × Each (IsBlockLine g a.repo) a.lines
+
+  abbrev KeepsTaken : Taken → Type 0
+  KeepsTaken x = Keeps g x.driver × IsAgenda x.left
+
+  keeps_takes : (r : ℕ) → r < length g.repos → (ls : List BlockLine) (jobs : List ℕ) (d : Driver) → Each (IsBlockLine g r) ls → Keeps g d → KeepsTaken (takes_all g r ls jobs d)
+  keeps_takes r known [] jobs d all k = (k, (known, tt))
+  keeps_takes r known (Runs job ∷ ls) jobs d all k = go (keeps_takes r known ls ((begun d.past r + 1) ∷ jobs) (begins r job d) all.1 (keeps_begins laws g d r job known all.0 k)) (may_begin d r jobs)
+    where
+      go : KeepsTaken (takes_all g r ls ((begun d.past r + 1) ∷ jobs) (begins r job d)) → (b : Bool)
+          → KeepsTaken (if b then takes_all g r ls ((begun d.past r + 1) ∷ jobs) (begins r job d) else record { driver = d; left = record { repo = r; lines = Runs job ∷ ls; jobs = jobs } })
+      go more true = more
+      go more false = (k, (known, all))
+  keeps_takes r known (Crashes clock ∷ ls) jobs d all k = keeps_takes r known ls jobs (crashes g r clock d) all.1 (keeps_crashes laws g d r clock known k)
+  keeps_takes r known (Closes other ∷ ls) jobs d all k = keeps_takes r known ls jobs (closes g r other d) all.1 (keeps_closes laws g d r other known all.0.0 all.0.1 k)
+  keeps_takes r known (Fails call ∷ ls) jobs d all k = keeps_takes r known ls jobs (will_fail r call d) all.1 (keeps_will_fail g d r call k)
+
+  keeps_each : (ags : List Agenda) (d : Driver) → Each IsAgenda ags → Keeps g d → Keeps g (takes_each g ags d).driver × Each IsAgenda (takes_each g ags d).left
+  keeps_each [] d all k = (k, tt)
+  keeps_each (a ∷ ags) d all k =
+      let one = keeps_takes a.repo all.0.0 a.lines a.jobs d all.0.1 k in
+      let rest = keeps_each ags (takes g a d).driver all.1 one.0 in
+      (rest.0, (one.1, rest.1))
+
+  abbrev KeepsBlocked : Blocked → Type 0
+  KeepsBlocked x = Keeps g x.driver × Each IsAgenda x.left
+
+  keeps_block_round : (x : Blocked) → KeepsBlocked x → KeepsBlocked (block_round g x)
+  keeps_block_round x k = go (is_over x)
+    where
+      go : (b : Bool) → KeepsBlocked (if b then x else with_round g x (takes_each g x.left x.driver))
+      go true = k
+      go false = let y = keeps_each x.left x.driver k.1 k.0 in (keeps_round (takes_each g x.left x.driver).driver y.0, y.1)
+
+  keeps_block_rounds : (n : ℕ) (x : Blocked) → KeepsBlocked x → KeepsBlocked (block_rounds g n x)
+  keeps_block_rounds zero x k = keeps_block_round x k
+  keeps_block_rounds (suc n) x k = go (keeps_block_rounds n (block_rounds g n x) (keeps_block_rounds n x k)) (is_over x)
+    where
+      go : KeepsBlocked (block_rounds g n (block_rounds g n x)) → (b : Bool) → KeepsBlocked (if b then x else block_rounds g n (block_rounds g n x))
+      go more true = k
+      go more false = more
+
+  agenda_lines : (r : ℕ) (xs : List Agendum) → Each (IsAgendum g) xs → Each (IsBlockLine g r) (lines_for r xs)
+  agenda_lines r [] all = tt
+  agenda_lines r (x ∷ xs) all = go (agenda_lines r xs all.1) (x.repo == r) refl
+    where
+      go : Each (IsBlockLine g r) (lines_for r xs) → (b : Bool) → (x.repo == r) ≡ b → Each (IsBlockLine g r) (map (λ (x : Agendum). x.line) (cond b (x ∷ filter (λ (x : Agendum). x.repo == r) xs) (filter (λ (x : Agendum). x.repo == r) xs)))
+      go more true i = (subst (λ k. IsBlockLine g k x.line) (same_number x.repo r i) all.0.1, more)
+      go more false i = more
+
+  agendas : (xs : List Agendum) → Each (IsAgendum g) xs → (rs : List ℕ) → Each (λ r. r < length g.repos) rs → Each IsAgenda (map (agenda xs) rs)
+  agendas xs all [] known = tt
+  agendas xs all (r ∷ rs) known = ((known.0, agenda_lines r xs all), agendas xs all rs known.1)
+
+  keeps_blocks : (xs : List Agendum) → Each (IsAgendum g) xs → (d : Driver) → Keeps g d → Keeps g (blocks g xs d)
+  keeps_blocks xs all d k =
+      let b : Blocked = record { driver = d; left = map (agenda xs) (numbers g); idle = 0; took = true } in
+      keeps_settles (block_rounds g most_rounds b).driver (keeps_block_rounds most_rounds b (k, agendas xs all (numbers g) (below_len 0 (length g.repos) (length g.repos) (omega arith)))).0
+
+  -- ---- lines
+
+  pub keeps_line : OwedKeys → (line : Line) (d : Driver) → IsOne g line → Keeps g d → Keeps g (does g line d)
+  keeps_line keys (Have r key bytes) d x k = keeps_has laws g r x.0 d key bytes x.1.0 x.1.1 k
+  keeps_line keys (SetPart r key bytes) d x k = keeps_part laws g r x d key bytes k
+  keeps_line keys (Add r path key bytes) d x k = keeps_has laws g r x.0 (enters path key d) key bytes x.1.0 x.1.1 (keeps_enters laws g d path key k)
+  keeps_line keys (File path key) d x k = keeps_enters laws g d path key k
+  keeps_line keys (Set r kind topic value) d x k = keeps_writes laws g d r (Of kind) (setting_line g d r kind topic value) x.0 x.1 (λ e. absurd (cc)) (written_line kind topic _ value x.2 x.3) k
+  keeps_line keys (Raw r file line) d x k = keeps_writes laws g d r file line x.0 x.1 x.2 x.3 k
+  keeps_line keys (Merge r other) d x k = keeps_merges laws g r x keys d other k
+  keeps_line keys (Compact r) d x k = keeps_compacts laws g r x d k
+  keeps_line keys (Begin r job) d x k = keeps_begins laws g d r job x.0 x.1 k
+  keeps_line keys (Lines.Run r job) d x k = keeps_settles (begins r job d) (keeps_begins laws g d r job x.0 x.1 k)
+  keeps_line keys (Turns r n) d x k = keeps_turns r n x d k
+  keeps_line keys Settle d x k = keeps_settles d k
+  keeps_line keys (Close r other) d x k = keeps_closes laws g d r other x.0 x.1.0 x.1.1 k
+  keeps_line keys (Crash r clock) d x k = keeps_crashes laws g d r clock x k
+  keeps_line keys (Wait milliseconds) d x k = keeps_waits laws g d milliseconds k
+  keeps_line keys (Fail r call) d x k = keeps_will_fail g d r call k
+  keeps_line keys (Par lines) d x k = keeps_blocks lines x d k
+
+  keeps_marked : (d : Driver) → Keeps g d → Keeps g (marked d)
+  keeps_marked d k fits = let h = k fits in record { run = laws.command (run_with g d) (marked d).marks h.run; flies = h.flies; order = h.order; down = h.down; parts = h.parts }
+
+  keeps_drives : OwedKeys → (lines : List Line) (d : Driver) → Each (IsOne g) lines → Keeps g d → Keeps g (drives g lines d)
+  keeps_drives keys [] d all k = k
+  keeps_drives keys (line ∷ lines) d all k = keeps_drives keys lines (marked (does g line d)) all.1 (keeps_marked (does g line d) (keeps_line keys line d all.0 k))
+
+  first_holds : Each IsSetUp g.repos → Holds g at_first
+  first_holds repos = record { run = laws.first (run_with g at_first) repos refl; flies = λ r a n. inr (record { inside = omega arith; same = refl }); order = λ r a n. order_begins r a n; down = tt; parts = tt }
+
+-- what the driver makes of a script within bounds is a run
+pub driver_is_run : Laws → OwedKeys → (g : Given) (lines : List Line) → Each IsSetUp g.repos → Each (IsOne g) lines → Fits (driven g lines) → IsRun (run_of g lines)
+driver_is_run laws keys g lines repos all fits = (keeps_drives laws g keys lines at_first all (λ f. first_holds laws g repos) fits).run

@@ -1,0 +1,451 @@
+-- Which job a step ends doesn't depend on the part that it asks for, nor on the words beside what a job heard.
+use Rattle.std.proofs.Common.{◌≡◌, ℕ, ◌+◌, ◌*◌, ◌^◌, Bool, true, false, List, [], ◌∷◌, Option, Some, None, refl, sym, ap, ◌∙◌, subst}
+use Rattle.std.specs.Prelude.{if◌then◌else◌, ◌==◌, ◌&&◌, bytes_eq, codes, find, min, nat_le, nat_lt}
+use Rattle.std.specs.List.{list_all}
+use Rattle.annex_base.specs.declared.kinds.Call.{Call}
+use Rattle.annex_base.specs.declared.kinds.Word.{Word}
+use Rattle.annex_base.specs.declared.kinds.Word.TheVariants as words
+use Rattle.annex_base.proofs.Conditions.{if_either}
+use Rattle.drop_proof.specs.declared.rule.Side.{Side}
+use Rattle.drop_proof.specs.declared.rule.Side.TheVariants.{Local, Remote}
+use Rattle.run_data.specs.declared.entry.EntryKind.{EntryKind}
+use Rattle.run_data.specs.declared.entry.EntryKind.TheVariants.{Fault, Talk, End as ends_job}
+use Rattle.run_data.specs.declared.entry.By.{By}
+use Rattle.run_data.specs.declared.entry.FrameView.{FrameView}
+use Rattle.run_data.specs.declared.entry.FrameText.{FrameText}
+use Rattle.run_data.specs.declared.entry.FrameText.TheVariants.{Opening, Closing, Bytes, Line}
+use Rattle.run_data.specs.declared.job.DropRefusal.{DropRefusal}
+use Rattle.run_data.specs.declared.job.Outcome.{Outcome}
+use Rattle.run_data.specs.declared.job.Proof.{Proof}
+use Rattle.node_model.specs.Evidence.{Asked, Claimed, Ignored, Standing}
+use Rattle.node_model.specs.Look.{Look, Made, first_of, failing, first_some, waiting}
+use Rattle.p2p_wire.specs.declared.message.Message.{Message}
+use Rattle.p2p_wire.specs.declared.message.Message.TheVariants.{AlreadyHave, AuthSuccess, CheckPresent, Data, Error, Failure, Get, GetTimestamp, Invalid, LockContent, Put, PutFrom, Remove, RemoveBefore, Success, Timestamp, UnlockContent, Valid, Version}
+use Rattle.p2p_wire.specs.Messages.{message_of}
+use Rattle.node_model.specs.Rows.{is_lost_ordered}
+use Rattle.node_model.specs.SetUp.{SetUp, served_connections, slots}
+use Rattle.node_model.specs.Ends.{EndName, server_end}
+use Rattle.node_model.specs.Sessions
+use Rattle.node_model.specs.Sessions.{Doing, Session, reaches}
+use Rattle.node_model.specs.Jobs
+use Rattle.node_model.specs.Jobs.{AsksLock, AsksLook, AsksTime, Drops, Fresh, Gets, GetsBytes, GetsData, GetsWord, Greets, Next, Opens, Part, Phase, Puts, PutsAnswer, PutsBytes, PutsOffer, PutsWord, Removed, Work, is_move, job_end, partner, side_of}
+use Rattle.node_model.specs.Owed.{Owed}
+use Rattle.node_model.specs.State.{State}
+use Rattle.node_model.specs.OwedStep.{owed_step, pays_first}
+use Rattle.node_model.specs.Clocks.{hold_time}
+use Rattle.node_model.specs.SessionStep
+use Rattle.node_model.specs.SessionStep.{Here, Reply, bar_on, by_of, check_answer, gives_made, gives_next, here, is_held, is_here, lock_answer, now_of, on_bytes, on_frame, on_message, on_piece, on_remove, on_remove_before, on_request, on_text, refuses, remove_answer, reply, session_at, session_makes, session_step, tries, valid_answer}
+use Rattle.node_model.specs.Knows.{enough_by, next_by, obeyed_outcome}
+use Rattle.node_model.specs.JobStep.{Turn, bar_there, clock_of, end_needs, end_with, is_there, key_of, locked_peers, me, turn_of}
+use Rattle.node_model.specs.DropStep.{asks_copy, asks_target, bars, expiry, first_drop, first_end, first_remote, held_until, in_time, removal_outcome, required_there, row_refusal, takes_drop, takes_time, target, times, tries_own}
+use Rattle.node_model.specs.Requests.{asks, goes_to}
+use Rattle.node_model.specs.TransferStep.{content_of, first_get, first_put, gains, next_get, next_source, takes_bytes, takes_get, takes_put}
+use Rattle.node_model.specs.Turns.{awaits, by_partner, first_step, goes, goes_on, has_room, is_awaiting, job_step, judge_needs, judges, needs, next_needs, next_step, outcome_of, peer_needs, slot_step, takes, takes_answer, takes_frame, takes_text, target_needs, with_partner}
+use Rattle.node_model.specs.Step.{step}
+use Rattle.driver_model.proofs.AtHand.{unless_found}
+use Rattle.driver_model.proofs.Turned.{EndsAlike}
+
+-- the job that an entry of this kind ends
+abbrev ended : EntryKind → Option ℕ
+ended (ends_job j outcome) = Some j
+ended kind = None
+
+abbrev E : Made → Made → Type 0
+E m m' = ended m.kind ≡ ended m'.kind
+
+abbrev Alike : Option Made → Option Made → Type 0
+Alike None None = Unit {0}
+Alike (Some m) (Some m') = E m m'
+Alike o p = ⊥
+
+if_alike : (b : Bool) (x x' y y' : Made) → E x x' → E y y' → E (if b then x else y) (if b then x' else y')
+if_alike true x x' y y' e f = e
+if_alike false x x' y y' e f = f
+
+some_alike : (b : Bool) (x x' : Made) → E x x' → Alike (if b then Some x else None) (if b then Some x' else None)
+some_alike true x x' e = e
+some_alike false x x' e = tt
+
+first_alike : (x x' y y' : Option Made) → Alike x x' → Alike y y' → Alike (first_of x y) (first_of x' y')
+first_alike None None y y' a b = b
+first_alike (Some m) (Some m') y y' a b = a
+first_alike None (Some m') y y' a b = absurd a
+first_alike (Some m) None y y' a b = absurd a
+
+list_alike : {X : Type 0} (f g : X → Option Made) → ((x : X) → Alike (f x) (g x)) → (xs : List X) → Alike (first_some f xs) (first_some g xs)
+list_alike f g all [] = tt
+list_alike f g all (x ∷ xs) = first_alike (f x) (g x) (first_some f xs) (first_some g xs) (all x) (list_alike f g all xs)
+
+-- ---- a session ends no job
+
+abbrev Never : Reply → Type 0
+Never x = ended x.kind ≡ None
+
+module _ (h : Here) where
+  tries_ends : (cs : List Call) (says : List FrameText) (good : Reply) → Never good → Never (tries h cs says good)
+  tries_ends cs says good e = unless_found Never (failing h.fails cs) (λ call. record { kind = Fault call (by_of h); says = says }) good (λ call. refl) e
+
+  check_ends : (key : List ℕ) (there : Bool) (bar : Option ℕ) → Never (check_answer key there bar)
+  check_ends key false bar = refl
+  check_ends key true (Some j) = refl
+  check_ends key true None = refl
+
+  lock_ends : (hold end : ℕ) (by : By) (key : List ℕ) (locks there : Bool) (bar : Option ℕ) → Never (lock_answer hold end by key locks there bar)
+  lock_ends hold end by key false there bar = refl
+  lock_ends hold end by key true false bar = refl
+  lock_ends hold end by key true true (Some j) = refl
+  lock_ends hold end by key true true None = refl
+
+  remove_ends : (by : By) (key : List ℕ) (there : Bool) (bar : Option ℕ) (blocked : Bool) → Never (remove_answer by key there bar blocked)
+  remove_ends by key false bar blocked = refl
+  remove_ends by key true (Some j) blocked = refl
+  remove_ends by key true None true = refl
+  remove_ends by key true None false = refl
+
+  valid_ends : (by : By) (size : ℕ) (key : List ℕ) (right : Bool) → Never (valid_answer by size key right)
+  valid_ends by size key true = refl
+  valid_ends by size key false = refl
+
+  on_remove-ends : (key : List ℕ) → Never (on_remove h key)
+  on_remove-ends key = tries_ends _ refuses _ (remove_ends (by_of h) key (is_here h key) (bar_on h key) (is_held h key))
+
+  before_ends : (n : ℕ) (key : List ℕ) → Never (on_remove_before h n key)
+  before_ends n key = if_either Never (nat_lt (now_of h) (1000 * n)) _ _ (λ b. on_remove-ends key) (λ b. refl)
+
+  request_ends : (v : ℕ) (m : Message) → Never (on_request h v m)
+  request_ends v (Version n) = refl
+  request_ends v (CheckPresent key) = tries_ends _ refuses _ (check_ends key (is_here h key) (bar_on h key))
+  request_ends v (LockContent key) = tries_ends _ refuses _ (lock_ends h.number (now_of h + hold_time) (by_of h) key h.locks (is_here h key) (bar_on h key))
+  request_ends v (Remove key) = on_remove-ends key
+  request_ends v (RemoveBefore n key) = if_either Never (nat_le 3 v) _ _ (λ b. before_ends n key) (λ b. refl)
+  request_ends v GetTimestamp = if_either Never (nat_le 3 v) _ _ (λ b. refl) (λ b. refl)
+  request_ends v (Get n file key) = if_either Never (nat_le 1 v) _ _ (λ b. tries_ends _ _ _ refl) (λ b. refl)
+  request_ends v (Put file key) = if_either Never (nat_le 1 v) _ _ (λ b. tries_ends _ refuses _ refl) (λ b. refl)
+  request_ends v m = refl
+
+  message_ends : (v : ℕ) (doing : Doing) (m : Message) → Never (on_message h v doing m)
+  message_ends v doing (Error text) = refl
+  message_ends v Sessions.Waits m = request_ends v m
+  message_ends v (Sessions.Guards hold key) (UnlockContent k) = if_either Never (bytes_eq k key) _ _ (λ b. tries_ends _ [] _ refl) (λ b. refl)
+  message_ends v Sessions.Gave Success = refl
+  message_ends v Sessions.Gave Failure = refl
+  message_ends v (Sessions.Wants key size) (Data n) = refl
+  message_ends v (Sessions.Took key size) Valid = tries_ends _ refuses _ (valid_ends (by_of h) size key h.right)
+  message_ends v (Sessions.Took key size) Invalid = refl
+  message_ends v doing m = refl
+
+  bytes_ends : (n : ℕ) (doing : Doing) → Never (on_bytes h n doing)
+  bytes_ends n (Sessions.Takes key size left) = if_either Never (nat_lt 0 n && nat_le n left) _ _ (λ b. tries_ends _ _ _ refl) (λ b. refl)
+  bytes_ends n doing = refl
+
+  text_ends : (was : Session) (m : Option Message) → Never (on_text h was m)
+  text_ends was None = refl
+  text_ends was (Some m) = message_ends was.version was.doing m
+
+  frame_ends : (was : Session) (body : FrameText) → Never (on_frame h was body)
+  frame_ends was Opening = refl
+  frame_ends was Closing = refl
+  frame_ends was (Bytes n) = bytes_ends n was.doing
+  frame_ends was (Line text) = text_ends was (message_of text)
+
+  piece_ends : (key : List ℕ) (at n : ℕ) → Never (on_piece h key at n)
+  piece_ends key at n = tries_ends _ _ _ (if_either Never (reaches (SessionStep.content_of h key) (at + n)) _ _ (λ b. refl) (λ b. refl))
+
+  gives_ends : (key : List ℕ) (at left : ℕ) (good : Bool) → Never (if left == 0 then reply (Talk None) (if good then Valid else Invalid) else on_piece h key at (min 32768 left))
+  gives_ends key at left good = if_either Never (left == 0) _ _ (λ b. refl) (λ b. piece_ends key at (min 32768 left))
+
+-- a look without a failing call
+abbrev calm : ℕ → ℕ → List FrameView → (EndName → Bool) → ℕ → Bool → (ℕ → Option Word) → Look
+calm time count hand room part right words = record { time = time; count = count; at_hand = hand; room = room; fails = None; part = part; right = right; words = words }
+
+module _ (s : SetUp) (st : State) (time count : ℕ) (hand : List FrameView) (room : EndName → Bool) (p0 p1 : ℕ) (r0 r1 : Bool) (w0 w1 : ℕ → Option Word) where
+  abbrev k0 : Look
+  k0 = calm time count hand room p0 r0 w0
+
+  abbrev k1 : Look
+  k1 = calm time count hand room p1 r1 w1
+
+  -- ---- an owed line, and a session
+
+  owed_alike : (os : List Owed) → Alike (pays_first s st k0 os) (pays_first s st k1 os)
+  owed_alike [] = tt
+  owed_alike (o ∷ os) = refl
+
+  module _ (a : EndName) where
+    abbrev h0 : Here
+    h0 = here s st k0 a
+
+    abbrev h1 : Here
+    h1 = here s st k1 a
+
+    none_ends : (h : Here) (f : FrameView) → ended (on_frame h (st.sessions a) f.body).kind ≡ None
+    none_ends h f = frame_ends h (st.sessions a) f.body
+
+    given : (doing : Doing) → Alike (gives_made a (st.ends a) (gives_next h0 doing)) (gives_made a (st.ends a) (gives_next h1 doing))
+    given (Sessions.Gives key at left good) = gives_ends h0 key at left good ∙ sym (gives_ends h1 key at left good)
+    given doing = tt
+
+    makes_alike : (o : Option FrameView) → Alike (session_makes h0 (st.ends a) (st.sessions a) o) (session_makes h1 (st.ends a) (st.sessions a) o)
+    makes_alike (Some f) = none_ends h0 f ∙ sym (none_ends h1 f)
+    makes_alike None = go (st.ends a).opened
+      where
+        go : (b : Bool) → Alike (if b then gives_made a (st.ends a) (gives_next h0 (st.sessions a).doing) else None) (if b then gives_made a (st.ends a) (gives_next h1 (st.sessions a).doing) else None)
+        go true = given (st.sessions a).doing
+        go false = tt
+
+    session_alike : Alike (session_at s st k0 a) (session_at s st k1 a)
+    session_alike = go (room a)
+      where
+        go : (b : Bool) → Alike (if b then session_makes h0 (st.ends a) (st.sessions a) (waiting (st.ends a) k0 a) else None) (if b then session_makes h1 (st.ends a) (st.sessions a) (waiting (st.ends a) k1 a) else None)
+        go true = makes_alike (waiting (st.ends a) k0 a)
+        go false = tt
+
+  -- ---- a job
+
+  module _ (w : Work) where
+    abbrev t0 : Turn
+    t0 = turn_of s st k0 w
+
+    abbrev t1 : Turn
+    t1 = turn_of s st k1 w
+
+    target_alike : (version : ℕ) (taken : Option FrameView) (end : Option ℕ) → E (asks_target t0 version taken end) (asks_target t1 version taken end)
+    target_alike version taken None = refl
+    target_alike version taken (Some end) = if_alike (nat_lt version 3) _ _ _ _ refl refl
+
+    copy_alike : (version : ℕ) (taken : Option FrameView) (peer : ℕ) (side : Side) → E (asks_copy t0 version taken peer side) (asks_copy t1 version taken peer side)
+    copy_alike version taken peer Local = refl
+    copy_alike version taken peer Remote = if_alike (target t0 == peer) _ _ _ _ (target_alike version taken (first_end t0)) refl
+
+    asks_alike : (version : ℕ) (taken : Option FrameView) (peer : ℕ) (part : Part) → E (asks t0 version taken peer part) (asks t1 version taken peer part)
+    asks_alike version taken peer Gets = refl
+    asks_alike version taken peer Puts = refl
+    asks_alike version taken peer Drops = copy_alike version taken peer (side_of w)
+
+    goes_to-alike : (peer : ℕ) → E (goes_to t0 peer) (goes_to t1 peer)
+    goes_to-alike peer = if_alike (end_with t0 peer).opened _ _ _ _ (asks_alike w.version None peer w.part) refl
+
+    get_alike : (there filled : Bool) (source : Option ℕ) → E (first_get t0 there filled source) (first_get t1 there filled source)
+    get_alike true filled source = if_alike (is_move w.what.kind) _ _ _ _ refl refl
+    get_alike false true source = refl
+    get_alike false false None = refl
+    get_alike false false (Some peer) = goes_to-alike peer
+
+    put_alike : (there : Bool) (peer : Option ℕ) → E (first_put t0 there peer) (first_put t1 there peer)
+    put_alike true (Some peer) = goes_to-alike peer
+    put_alike true None = refl
+    put_alike false peer = refl
+
+    bars_alike : (o : Option DropRefusal) → E (bars t0 o) (bars t1 o)
+    bars_alike (Some refusal) = refl
+    bars_alike None = refl
+
+    own_alike : (standing : Standing) → E (tries_own t0 standing) (tries_own t1 standing)
+    own_alike Asked = refl
+    own_alike Claimed = refl
+    own_alike (Ignored cause) = refl
+
+    remote_alike : (o : Option (List ℕ)) → E (first_remote t0 o) (first_remote t1 o)
+    remote_alike (Some text) = refl
+    remote_alike None = own_alike (t0.read.standing (me t0))
+
+    drop_alike : (side : Side) → E (first_drop t0 side) (first_drop t1 side)
+    drop_alike Local = bars_alike (row_refusal (is_there t0) (required_there t0) (bar_there t0) (held_until t0))
+    drop_alike Remote = remote_alike (required_there t0)
+
+    fresh_alike : (part : Part) → E (first_step t0 part) (first_step t1 part)
+    fresh_alike Gets = get_alike (is_there t0) (t0.filled (key_of t0)) (next_source t0)
+    fresh_alike Puts = put_alike (is_there t0) w.what.peer
+    fresh_alike Drops = drop_alike (side_of w)
+
+    judges_alike : (enough : Bool) (next : Option ℕ) (side : Side) → E (judges t0 enough next side) (judges t1 enough next side)
+    judges_alike false (Some peer) side = goes_to-alike peer
+    judges_alike false None side = refl
+    judges_alike true next Local = if_alike (in_time (clock_of t0) (first_end t0)) _ _ _ _ refl refl
+    judges_alike true next Remote = goes_to-alike (target t0)
+
+    source_alike : (o : Option ℕ) → E (next_get t0 o) (next_get t1 o)
+    source_alike None = refl
+    source_alike (Some peer) = goes_to-alike peer
+
+    next_alike : (part : Part) → E (next_step t0 part) (next_step t1 part)
+    next_alike Drops = judges_alike (enough_by t0.read w) (next_by t0.read w) (side_of w)
+    next_alike Gets = source_alike (next_source t0)
+    next_alike Puts = source_alike (next_source t0)
+
+    goes_alike : (phase : Phase) → E (goes t0 phase) (goes t1 phase)
+    goes_alike Fresh = fresh_alike w.part
+    goes_alike Next = next_alike w.part
+    goes_alike (PutsBytes peer start at left) = refl
+    goes_alike (PutsWord peer start) = refl
+    goes_alike phase = refl
+
+    -- ---- what it needs
+
+    obeyed_found : (o : Option Word) (proof : Proof) → is_lost_ordered (obeyed_outcome o proof) ≡ false
+    obeyed_found (Some words.Absent) proof = refl
+    obeyed_found o proof = refl
+
+    lost_removed : (t : Turn) (side : Side) → is_lost_ordered (removal_outcome side t) ≡ false
+    lost_removed t Local = refl
+    lost_removed t Remote = obeyed_found (t.look.words (target t)) _
+
+    lost_late : (clock : ℕ) (end : Option ℕ) → is_lost_ordered (expiry clock end) ≡ false
+    lost_late clock None = refl
+    lost_late clock (Some end) = refl
+
+    target_needed : (end : Option ℕ) → target_needs t0 end ≡ target_needs t1 end
+    target_needed None = refl
+    target_needed (Some end) = refl
+
+    judge_needed : (enough : Bool) (next : Option ℕ) (side : Side) → judge_needs t0 enough next side ≡ judge_needs t1 enough next side
+    judge_needed false (Some peer) side = refl
+    judge_needed false None side = refl
+    judge_needed true next Local = refl
+    judge_needed true next Remote = target_needed (first_end t0)
+
+    peer_needed : (part : Part) → peer_needs t0 part ≡ peer_needs t1 part
+    peer_needed Gets = refl
+    peer_needed Puts = refl
+    peer_needed Drops = refl
+
+    next_needed : (part : Part) → next_needs t0 part ≡ next_needs t1 part
+    next_needed Drops = judge_needed (enough_by t0.read w) (next_by t0.read w) (side_of w)
+    next_needed Gets = peer_needed Gets
+    next_needed Puts = peer_needed Puts
+
+    end_needed : (o p : Outcome) → is_lost_ordered o ≡ is_lost_ordered p → end_needs t0 o ≡ end_needs t1 p
+    end_needed o p e = ap (λ b. if b then [] else locked_peers t0) e
+
+    needed : (phase : Phase) → needs t0 phase ≡ needs t1 phase
+    needed Fresh = peer_needed w.part
+    needed Next = next_needed w.part
+    needed (PutsBytes peer start at left) = refl
+    needed (PutsWord peer start) = refl
+    needed Removed = end_needed (outcome_of t0 Removed) (outcome_of t1 Removed) (lost_removed t0 (side_of w) ∙ sym (lost_removed t1 (side_of w)))
+    needed phase = refl
+
+    goes_on-alike : Alike (goes_on t0) (goes_on t1)
+    goes_on-alike = subst (λ ps. Alike (if list_all (has_room t0) (needs t0 w.phase) then Some (goes t0 w.phase) else None) (if list_all (has_room t0) ps then Some (goes t1 w.phase) else None)) (needed w.phase)
+        (some_alike (list_all (has_room t0) (needs t0 w.phase)) (goes t0 w.phase) (goes t1 w.phase) (goes_alike w.phase))
+
+    -- ---- what it takes
+
+    gains_alike : (f : FrameView) (peer size : ℕ) (b c : Bool) → E (gains t0 f peer size b) (gains t1 f peer size c)
+    gains_alike f peer size true true = refl
+    gains_alike f peer size true false = refl
+    gains_alike f peer size false true = refl
+    gains_alike f peer size false false = refl
+
+    bytes_alike : (f : FrameView) (peer n : ℕ) (phase : Phase) → E (takes_bytes t0 f peer n phase) (takes_bytes t1 f peer n phase)
+    bytes_alike f peer n (GetsBytes p start size left) = if_alike (nat_lt 0 n && nat_le n left) _ _ _ _ refl refl
+    bytes_alike f peer n phase = refl
+
+    takes_get-alike : (f : FrameView) (peer : ℕ) (phase : Phase) (m : Message) → E (takes_get t0 f peer phase m) (takes_get t1 f peer phase m)
+    takes_get-alike f peer (GetsData p start) (Data n) = refl
+    takes_get-alike f peer (GetsWord p start size) Valid = gains_alike f peer size r0 r1
+    takes_get-alike f peer (GetsWord p start size) Invalid = refl
+    takes_get-alike f peer phase m = refl
+
+    takes_put-alike : (f : FrameView) (peer : ℕ) (phase : Phase) (m : Message) → E (takes_put t0 f peer phase m) (takes_put t1 f peer phase m)
+    takes_put-alike f peer (PutsOffer p) AlreadyHave = refl
+    takes_put-alike f peer (PutsOffer p) Failure = refl
+    takes_put-alike f peer (PutsOffer p) (Error text) = if_alike (bytes_eq text (codes "busy")) _ _ _ _ refl refl
+    takes_put-alike f peer (PutsOffer p) (PutFrom n) = if_alike (reaches (content_of t0) n) _ _ _ _ refl refl
+    takes_put-alike f peer (PutsAnswer p start) Success = refl
+    takes_put-alike f peer (PutsAnswer p start) Failure = refl
+    takes_put-alike f peer phase m = refl
+
+    times_alike : (f : FrameView) (n : ℕ) (end : Option ℕ) → E (times t0 f n end) (times t1 f n end)
+    times_alike f n None = refl
+    times_alike f n (Some end) = if_alike (nat_lt (clock_of t0) end) _ _ _ _ refl refl
+
+    time_alike : (f : FrameView) (peer n : ℕ) (side : Side) → E (takes_time t0 f peer n side) (takes_time t1 f peer n side)
+    time_alike f peer n Local = refl
+    time_alike f peer n Remote = if_alike (nat_lt n (2 ^ 61)) _ _ _ _ (times_alike f n (first_end t0)) refl
+
+    takes_drop-alike : (f : FrameView) (peer : ℕ) (phase : Phase) (m : Message) → E (takes_drop t0 f peer phase m) (takes_drop t1 f peer phase m)
+    takes_drop-alike f peer (AsksLock p since) Success = refl
+    takes_drop-alike f peer (AsksLock p since) Failure = refl
+    takes_drop-alike f peer (AsksLook p) Success = refl
+    takes_drop-alike f peer (AsksLook p) Failure = refl
+    takes_drop-alike f peer AsksTime (Timestamp n) = time_alike f peer n (side_of w)
+    takes_drop-alike f peer Jobs.Orders Success = refl
+    takes_drop-alike f peer Jobs.Orders Failure = refl
+    takes_drop-alike f peer phase m = refl
+
+    answer_alike : (f : FrameView) (peer : ℕ) (part : Part) (phase : Phase) (m : Message) → E (takes_answer t0 f peer part phase m) (takes_answer t1 f peer part phase m)
+    answer_alike f peer Gets phase m = takes_get-alike f peer phase m
+    answer_alike f peer Puts phase m = takes_put-alike f peer phase m
+    answer_alike f peer Drops phase m = takes_drop-alike f peer phase m
+
+    takes_alike : (f : FrameView) (peer : ℕ) (phase : Phase) (m : Message) → E (takes t0 f peer phase m) (takes t1 f peer phase m)
+    takes_alike f peer (Opens p) (AuthSuccess id) = refl
+    takes_alike f peer (Greets p) (Version n) = if_alike (nat_le n 3) _ _ _ _ (asks_alike n (Some f) peer w.part) refl
+    takes_alike f peer phase m = answer_alike f peer w.part phase m
+
+    text_alike : (f : FrameView) (peer : ℕ) (m : Option Message) → E (takes_text t0 f peer m) (takes_text t1 f peer m)
+    text_alike f peer None = refl
+    text_alike f peer (Some m) = takes_alike f peer w.phase m
+
+    frame_alike : (peer : ℕ) (f : FrameView) (body : FrameText) → E (takes_frame t0 peer f body) (takes_frame t1 peer f body)
+    frame_alike peer f Opening = refl
+    frame_alike peer f Closing = refl
+    frame_alike peer f (Bytes n) = bytes_alike f peer n w.phase
+    frame_alike peer f (Line text) = text_alike f peer (message_of text)
+
+    awaits_alike : (peer : ℕ) (o : Option FrameView) → Alike (awaits t0 peer o) (awaits t1 peer o)
+    awaits_alike peer None = tt
+    awaits_alike peer (Some f) = some_alike (has_room t0 peer) (takes_frame t0 peer f f.body) (takes_frame t1 peer f f.body) (frame_alike peer f f.body)
+
+    with_alike : (peer : ℕ) (opened : Bool) → Alike (with_partner t0 peer opened) (with_partner t1 peer opened)
+    with_alike peer false = refl
+    with_alike peer true = go (is_awaiting w.phase)
+      where
+        go : (b : Bool) → Alike (if b then awaits t0 peer (waiting (end_with t0 peer) k0 (job_end w peer)) else goes_on t0) (if b then awaits t1 peer (waiting (end_with t1 peer) k1 (job_end w peer)) else goes_on t1)
+        go true = awaits_alike peer (waiting (end_with t0 peer) k0 (job_end w peer))
+        go false = goes_on-alike
+
+    by_alike : (o : Option ℕ) → Alike (by_partner t0 o) (by_partner t1 o)
+    by_alike None = goes_on-alike
+    by_alike (Some peer) = with_alike peer (end_with t0 peer).opened
+
+  slot_alike : (o : Option Work) → Alike (slot_step s st k0 o) (slot_step s st k1 o)
+  slot_alike None = tt
+  slot_alike (Some w) = by_alike w (partner w.what.peer w.phase)
+
+  step_alike : Alike (step s st k0) (step s st k1)
+  step_alike = first_alike (owed_step s st k0) (owed_step s st k1) (first_of (session_step s st k0) (job_step s st k0)) (first_of (session_step s st k1) (job_step s st k1)) (owed_alike st.owed)
+      (first_alike (session_step s st k0) (session_step s st k1) (job_step s st k0) (job_step s st k1)
+      (list_alike (λ (c : ℕ × ℕ). session_at s st k0 (server_end c.0 c.1)) (λ (c : ℕ × ℕ). session_at s st k1 (server_end c.0 c.1)) (λ c. session_alike (server_end c.0 c.1)) (served_connections s))
+      (list_alike (λ slot. slot_step s st k0 (find (λ w. w.slot == slot) st.works)) (λ slot. slot_step s st k1 (find (λ w. w.slot == slot) st.works)) (λ slot. slot_alike (find (λ w. w.slot == slot) st.works)) slots))
+
+ended_is : (kind : EntryKind) (j : ℕ) → ended kind ≡ Some j → (o : Outcome) × (kind ≡ ends_job j o)
+ended_is (ends_job i outcome) j e = let same : i ≡ j = cc in (outcome, ap (λ n. ends_job n outcome) same)
+ended_is kind j e = absurd (cc)
+
+-- two looks that differ in the part and the words alone end the same job
+pub ends_alike : EndsAlike
+ends_alike s st k part right words m m' j outcome calm' e e' is = ended_is m.kind j (go (step_alike s st k.time k.count k.at_hand k.room k.part part k.right right k.words words) ∙ ap ended is)
+  where
+    same : step s st (calm k.time k.count k.at_hand k.room k.part k.right k.words) ≡ Some m
+    same = ap (λ o. step s st (record { time = k.time; count = k.count; at_hand = k.at_hand; room = k.room; fails = o; part = k.part; right = k.right; words = k.words })) (sym calm') ∙ e
+
+    same' : step s st (calm k.time k.count k.at_hand k.room part right words) ≡ Some m'
+    same' = ap (λ o. step s st (record { time = k.time; count = k.count; at_hand = k.at_hand; room = k.room; fails = o; part = part; right = right; words = words })) (sym calm') ∙ e'
+
+    go : Alike (step s st (calm k.time k.count k.at_hand k.room k.part k.right k.words)) (step s st (calm k.time k.count k.at_hand k.room part right words)) → ended m.kind ≡ ended m'.kind
+    go a = subst (λ o. Alike (Some m) o) same' (subst (λ o. Alike o (step s st (calm k.time k.count k.at_hand k.room part right words))) same a)
+
+-- where one is ready for the one look, one is for the other
+pub still_steps : (s : SetUp) (st : State) (k : Look) (part : ℕ) (right : Bool) (words : ℕ → Option Word) (m : Made) → k.fails ≡ None → step s st k ≡ Some m
+    → (m' : Made) × (step s st (record k { part = part; right = right; words = words; fails = None }) ≡ Some m')
+still_steps s st k part right words m calm' e = go (step s st (calm k.time k.count k.at_hand k.room part right words)) refl
+    (subst (λ o. Alike o (step s st (calm k.time k.count k.at_hand k.room part right words))) same (step_alike s st k.time k.count k.at_hand k.room k.part part k.right right k.words words))
+  where
+    same : step s st (calm k.time k.count k.at_hand k.room k.part k.right k.words) ≡ Some m
+    same = ap (λ o. step s st (record { time = k.time; count = k.count; at_hand = k.at_hand; room = k.room; fails = o; part = k.part; right = k.right; words = k.words })) (sym calm') ∙ e
+
+    go : (o : Option Made) → step s st (calm k.time k.count k.at_hand k.room part right words) ≡ o → Alike (Some m) o → (m' : Made) × (step s st (calm k.time k.count k.at_hand k.room part right words) ≡ Some m')
+    go None i a = absurd a
+    go (Some m') i a = (m', i)

@@ -1,0 +1,162 @@
+-- What holds of the driver as it goes on: its entries are a run, and the frames on their way are those that were sent and not taken.
+use Rattle.std.proofs.Common.{◌≡◌, ℕ, ◌+◌, ◌≤◌, Bool, true, false, List, [], ◌∷◌, ◌++◌, Option, Some, None, inl, inr, refl, sym, ap, ◌∙◌, subst, arith}
+use Rattle.std.specs.Prelude.{cond, ◌==◌, length, map, reverse}
+use Rattle.std.proofs.lemmas.Bool.Decides.{nat_tests}
+use Rattle.std.proofs.lemmas.List.{length-reverse, reverse-append, reverse-reverse}
+use Rattle.annex_base.specs.Lists.{Each}
+use Rattle.annex_base.specs.declared.kinds.Word.{Word}
+use Rattle.annex_base.proofs.Lists.{Each-append, Each-map, Each-middle}
+use Rattle.run_data.specs.declared.entry.Entry.{Entry}
+use Rattle.run_data.specs.declared.entry.EntryKind.{EntryKind}
+use Rattle.run_data.specs.declared.entry.EntryKind.TheVariants.{Wait, End as ends_job}
+use Rattle.run_data.specs.declared.entry.FrameView.{FrameView}
+use Rattle.run_data.specs.declared.job.Outcome.{Outcome}
+use Rattle.run_data.specs.declared.run.Run.{Run}
+use Rattle.run_data.specs.declared.run.TreeMark.{TreeMark}
+use Rattle.run_model.specs.Past.{is_of, now}
+use Rattle.node_model.specs.Rows.{option_is}
+use Rattle.node_model.specs.SetUp.{SetUp}
+use Rattle.node_model.specs.Ends.{EndName, is_opening}
+use Rattle.node_model.specs.State.{State}
+use Rattle.run_model.specs.Run.{ComesAfter, IsRun, MayBe, OwnPart, RunPast, RunStep, TimeIs, paths_at, set_up}
+use Rattle.run_model.specs.Words.{word_told}
+use Rattle.driver_model.specs.Stores.{Stored}
+use Rattle.driver_model.specs.Driver.{Driver, Flight, Given, adds, but_first, but_taken, flight, is_at, newest_count, set_up_of}
+use Rattle.driver_model.specs.Driving.{run_with}
+use Rattle.driver_model.specs.Scripts.{Fit, Fits}
+use Rattle.driver_model.proofs.EndLemmas.{own_down}
+use Rattle.driver_model.proofs.FrameNumbers.{TakesWell}
+use Rattle.driver_model.proofs.InFlight.{Flies, IsFirst, flies_adds, may_be_taken}
+use Rattle.driver_model.proofs.Premises.{Laws}
+use Rattle.driver_model.proofs.WayNumbers.{InOrder, order_other, order_own}
+
+-- ---- the run so far
+
+abbrev pub set_up_on : Given → List TreeMark → List Entry → ℕ → SetUp
+set_up_on g tree past r = record { number = r; repos = g.repos; paths = paths_at tree past r }
+
+-- the run with these entries, the newest first
+abbrev pub run_on : Given → List TreeMark → List ℕ → List Entry → Run
+run_on g tree marks past = record { repos = g.repos; entries = reverse past; tree = tree; marks = marks }
+
+-- one more entry that may come makes one more run
+pub entry_on : Laws → (g : Given) (tree : List TreeMark) (marks : List ℕ) (past : List Entry) (e : Entry) → IsRun (run_on g tree marks past) → RunStep (set_up_on g tree past) past e
+    → IsRun (run_on g tree marks (e ∷ past))
+entry_on laws g tree marks past e run step = subst (λ (es : List Entry). IsRun (record { repos = g.repos; entries = es; tree = tree; marks = marks })) (sym (reverse-append (e ∷ []) past))
+    (laws.entry (run_on g tree marks past) e run (subst (λ (z : List Entry). RunStep (set_up_on g tree z) z e) (sym (reverse-reverse past)) step))
+
+-- so does one more change of the tree
+pub tree_on : Laws → (g : Given) (tree : List TreeMark) (marks : List ℕ) (past : List Entry) (m : TreeMark) → m.place ≡ length past → IsRun (run_on g tree marks past)
+    → IsRun (run_on g (tree ++ m ∷ []) marks past)
+tree_on laws g tree marks past m at run = let same = length-reverse past in laws.tree (run_on g tree marks past) m (omega (arith, same, at)) run
+
+-- its steps, the newest first
+pub steps_on : (g : Given) (tree : List TreeMark) (marks : List ℕ) (past : List Entry) → IsRun (run_on g tree marks past) → RunPast (set_up (run_on g tree marks past)) past
+steps_on g tree marks past run = subst (RunPast (set_up (run_on g tree marks past))) (reverse-reverse past) run.steps
+
+-- ---- what holds
+
+abbrev pub ComesDown : Flight → Type 0
+ComesDown x = x.frame.up ≡ false → is_opening x.frame.body ≡ false
+
+pub record Holds (g : Given) (d : Driver) : Type 0 where
+  pub run : IsRun (run_with g d)
+  pub flies : (r : ℕ) (a : EndName) (n : ℕ) → Flies d.past d.flights r a n
+  pub order : (r : ℕ) (a : EndName) (n : ℕ) → InOrder d.past r a n
+  pub down : Each ComesDown d.flights
+  pub parts : Each (λ (x : Stored). length x.bytes ≤ d.largest) d.parts
+
+-- what holds of the driver, where it is within bounds
+abbrev pub Keeps : Given → Driver → Type 0
+Keeps g d = Fits d → Holds g d
+
+-- ---- one more entry of a repository
+
+after_newest : (past : List Entry) (e : Entry) → e.count ≡ newest_count past + 1 → ComesAfter past e
+after_newest [] e i = tt
+after_newest (f ∷ past) e i = inr (inl (omega (arith, i)))
+
+but_each : (P : Flight → Type 0) (q : Flight → Bool) (xs : List Flight) → Each P xs → Each P (but_first q xs)
+but_each P q [] a = tt
+but_each P q (x ∷ xs) a = go (but_each P q xs a.1) (q x)
+  where
+    go : Each P (but_first q xs) → (b : Bool) → Each P (cond b xs (x ∷ but_first q xs))
+    go more true = a.1
+    go more false = (a.0, more)
+
+left_each : (P : Flight → Type 0) (r : ℕ) (o : Option FrameView) (xs : List Flight) → Each P xs → Each P (but_taken r o xs)
+left_each P r None xs a = a
+left_each P r (Some f) xs a = but_each P (is_at r f) xs a
+
+-- the time of an entry that isn't a wait
+time_of : (before r : ℕ) (e : Entry) (kind : EntryKind) → e.time ≡ before → TimeIs before e kind (Some r)
+time_of before r e (Wait ms) j = j
+time_of before r e kind j = j
+
+-- an entry of r that may come now
+pub record NewEntry (g : Given) (d : Driver) (r : ℕ) (e : Entry) : Type 0 where
+  pub words : ℕ → Option Word
+  pub repo_is : e.repo ≡ Some r
+  pub time_is : e.time ≡ now d.past
+  pub count_is : e.count ≡ newest_count d.past + 1
+  pub own : OwnPart (set_up_of g d r) d.past words e
+  pub first : (f : FrameView) → e.taken ≡ Some f → IsFirst r f d.flights
+  pub tells : (j : ℕ) (outcome : Outcome) → e.kind ≡ ends_job j outcome → (c : ℕ) → words c ≡ word_told d.past r j c
+
+module _ (laws : Laws) (g : Given) (d : Driver) (h : Holds g d) (r : ℕ) (e : Entry) (x : NewEntry g d r e) where
+  takes_well : TakesWell e.taken
+  takes_well f i u =
+      let y = x.first f i in
+      ap (λ (g : FrameView). is_opening g.body) (sym y.frame_is) ∙ Each-middle ComesDown y.front y.x y.back (subst (Each ComesDown) y.split h.down) (ap (λ (g : FrameView). g.up) y.frame_is ∙ u)
+
+  entry_step : Fit d.past e → RunStep (set_up_on g d.tree d.past) d.past e
+  entry_step fit = record {
+    order = record {
+      after = after_newest d.past e x.count_is;
+      time_is = subst (TimeIs (now d.past) e e.kind) (sym x.repo_is) (time_of (now d.past) r e e.kind x.time_is);
+      in_time = fit.in_time;
+      counted = fit.counted;
+      small = fit.small;
+    };
+    may = subst (MayBe (set_up_on g d.tree d.past) d.past e) (sym x.repo_is) (
+      x.words,
+      x.own,
+      record {
+        takes = λ f i. may_be_taken laws.finds (set_up_of g d r) d.past x.words e x.own x.repo_is d.flights x.first f i
+            (h.flies f.peer (record { peer = r; slot = f.slot; client = f.up }) f.epoch) (h.order f.peer (record { peer = r; slot = f.slot; client = f.up }) f.epoch);
+        tells = x.tells;
+      },
+    );
+  }
+
+  order_adds : (q : ℕ) (a : EndName) (n : ℕ) → InOrder (e ∷ d.past) q a n
+  order_adds q a n = go (is_of q e) refl
+    where
+      go : (b : Bool) → is_of q e ≡ b → InOrder (e ∷ d.past) q a n
+      go false i = order_other q a n d.past e i (h.order q a n)
+      go true i =
+          let same : r ≡ q = same_number r q (ap (λ o. option_is o q) (sym x.repo_is) ∙ i) in
+          subst (λ k. InOrder (e ∷ d.past) k a n) same
+          (order_own laws.finds (set_up_of g d r) a n d.past x.words e (ap (is_of' e) same ∙ i) x.own takes_well (h.order r a n))
+        where
+          is_of' : Entry → ℕ → Bool
+          is_of' e k = is_of k e
+
+          same_number : (a b : ℕ) → (a == b) ≡ true → a ≡ b
+          same_number a b e = grind (arith, nat_tests)
+
+  pub adds_holds : (st : State) → Fit d.past e → Holds g (adds st r e d)
+  adds_holds st fit = record {
+    run = entry_on laws g d.tree d.marks d.past e h.run (entry_step fit);
+    flies = λ q a n. flies_adds laws.finds (set_up_of g d r) d.past x.words e x.own x.repo_is d.flights x.first q a n d st (h.flies q a n);
+    order = order_adds;
+    down = Each-append ComesDown (but_taken r e.taken d.flights) (map (flight d st r) e.sent) (left_each ComesDown r e.taken d.flights h.down)
+        (Each-map ComesDown (flight d st r) e.sent (own_down laws.finds (set_up_of g d r) d.past x.words e x.own));
+    parts = h.parts;
+  }
+
+-- one more entry
+pub keeps_adds : Laws → (g : Given) (d : Driver) (r : ℕ) (st : State) (e : Entry) → Keeps g d → (Holds g d → Fits d → Fit d.past e → NewEntry g d r e) → Keeps g (adds st r e d)
+keeps_adds laws g d r st e k new fits =
+    let before : Fits d = (fits.0.1, fits.1) in
+    adds_holds laws g d (k before) r e (new (k before) before fits.0.0) st fits.0.0

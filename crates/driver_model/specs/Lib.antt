@@ -1,0 +1,9 @@
+-- The definitions of this crate.
+pub mod Lines
+pub mod Stores
+pub mod Driver
+pub mod ScriptSteps
+pub mod Turning
+pub mod Rounds
+pub mod Driving
+pub mod Scripts

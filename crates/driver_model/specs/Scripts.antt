@@ -1,0 +1,94 @@
+-- Which lines of a script may be driven, and how far a run may grow (own).
+use Rattle.std.specs.Prelude.{◌≡◌, ◌≢◌, ℕ, ◌<◌, ◌≤◌, ◌^◌, true, List, [], length, None}
+use Rattle.annex_base.specs.Lines.{IsOneLine}
+use Rattle.annex_base.specs.Lists.{Each}
+use Rattle.annex_key.specs.KeyText.{IsKeyText}
+use Rattle.annex_key.specs.View.{first_fault, size_part}
+use Rattle.log_lines.specs.declared.entry.LogKind.TheVariants.{Location}
+use Rattle.log_lines.specs.declared.entry.Topic.{Topic}
+use Rattle.log_lines.specs.declared.entry.Topic.TheVariants as topics
+use Rattle.log_lines.specs.declared.entry.Value.{Value}
+use Rattle.log_lines.specs.declared.entry.Value.TheVariants as values
+use Rattle.union_merge.specs.LineSet.{IsLine}
+use Rattle.run_data.specs.declared.entry.Entry.{Entry}
+use Rattle.run_data.specs.declared.job.Job.{Job}
+use Rattle.run_data.specs.Files.{HasPath, kind_of}
+use Rattle.run_data.specs.Repos.{fits_size}
+use Rattle.node_model.specs.AnyTime.{IsPeer}
+use Rattle.run_model.specs.Past.{Always}
+use Rattle.run_model.specs.Run.{IsSmall}
+use Rattle.driver_model.specs.Lines.{Agendum, BlockLine, Line, Runs, Crashes, Closes, Fails, Have, SetPart, Add, File, Set, Raw, Merge, Compact, Begin, Turns, Settle, Close, Crash, Wait, Fail, Par}
+use Rattle.driver_model.specs.Lines
+use Rattle.driver_model.specs.Driver.{Driver, Given}
+
+-- ---- lines
+
+-- the repository is one of the run
+abbrev pub IsKnown : Given → ℕ → Type 0
+IsKnown g r = r < length g.repos
+
+-- the repository may begin the job: its key is one, and its peer, which each copy and move has, is another repository
+pub record IsJob (g : Given) (r : ℕ) (job : Job) : Type 0 where
+  pub peer : IsPeer (record { number = r; repos = g.repos; paths = λ j. [] }) job.kind job.peer
+  pub valid : first_fault job.key ≡ None
+
+-- the other is another repository of the run
+abbrev pub IsOther : Given → ℕ → ℕ → Type 0
+IsOther g r other = (other < length g.repos) × (other ≢ r)
+
+-- the content has the size that the key says
+abbrev pub IsContent : List ℕ → List ℕ → Type 0
+IsContent key bytes = IsKeyText key × (fits_size (size_part key) (length bytes) ≡ true)
+
+-- a group's name has no newline, nor has a text, nor the names in a list of groups
+abbrev pub IsPlainTopic : Topic → Type 0
+IsPlainTopic (topics.Group name) = IsOneLine name
+IsPlainTopic topic = Unit {0}
+
+abbrev pub IsPlainValue : Value → Type 0
+IsPlainValue (values.Text text) = IsOneLine text
+IsPlainValue (values.Groups groups) = Each IsOneLine groups
+IsPlainValue value = Unit {0}
+
+-- a line of a block, of this repository
+abbrev pub IsBlockLine : Given → ℕ → BlockLine → Type 0
+IsBlockLine g r (Runs job) = IsJob g r job
+IsBlockLine g r (Crashes clock) = Unit {0}
+IsBlockLine g r (Closes other) = IsOther g r other
+IsBlockLine g r (Fails call) = Unit {0}
+
+abbrev pub IsAgendum : Given → Agendum → Type 0
+IsAgendum g x = IsKnown g x.repo × IsBlockLine g x.repo x.line
+
+-- The line is one of the script's: it names repositories of the run and jobs that they may begin; a content is of a key, and
+-- has its size; what is written is a line of a file whose kind is known.
+abbrev pub IsOne : Given → Line → Type 0
+IsOne g (Have r key bytes) = IsKnown g r × IsContent key bytes
+IsOne g (SetPart r key bytes) = IsKnown g r
+IsOne g (Add r path key bytes) = IsKnown g r × IsContent key bytes
+IsOne g (File path key) = Unit {0}
+IsOne g (Set r kind topic value) = IsKnown g r × (kind ≢ Location) × IsPlainTopic topic × IsPlainValue value
+IsOne g (Raw r file line) = IsKnown g r × HasPath file × (kind_of file ≢ None) × IsLine line
+IsOne g (Merge r other) = IsKnown g r
+IsOne g (Compact r) = IsKnown g r
+IsOne g (Begin r job) = IsKnown g r × IsJob g r job
+IsOne g (Lines.Run r job) = IsKnown g r × IsJob g r job
+IsOne g (Turns r n) = IsKnown g r
+IsOne g Settle = Unit {0}
+IsOne g (Close r other) = IsKnown g r × IsOther g r other
+IsOne g (Crash r clock) = IsKnown g r
+IsOne g (Wait milliseconds) = Unit {0}
+IsOne g (Fail r call) = Unit {0}
+IsOne g (Par lines) = Each (IsAgendum g) lines
+
+-- ---- bounds
+
+-- a time is at most 1,000,000,000,000, a count and the size of a gain are below 2^62, and a clock is at most 100,000,000,000
+pub record Fit (past : List Entry) (e : Entry) : Type 0 where
+  pub in_time : e.time ≤ 1000000000000
+  pub counted : e.count < 2 ^ 62
+  pub small : IsSmall e.kind
+
+-- each entry is within its bounds, and so is the greatest part
+abbrev pub Fits : Driver → Type 0
+Fits d = Always Fit d.past × (d.largest < 2 ^ 62)

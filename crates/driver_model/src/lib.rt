@@ -1,0 +1,7 @@
+//! The driver of scripts, as a definition: the run that it makes of the lines of a script; and the laws of such runs.
+#![tactic(auto)]
+
+mod laws;
+
+pub use laws::{driven_runs_are_runs, settlings_come_to_rest};
+pub use run_data;

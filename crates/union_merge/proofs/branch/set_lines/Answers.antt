@@ -1,0 +1,23 @@
+-- What the proof of `branch::set_lines` needs beside the tactics.
+use Rattle.std.proofs.Common.{◌≡◌, Option, Some, None, IsSome, ap, sym, ◌∙◌, rules}
+use Rattle.union_merge.specs.Branch.{file_at}
+use Rattle.union_merge.specs.FileView.{files_of}
+use Rattle.union_merge.proofs.BranchLemmas.{Member-file_at}
+use Rattle.union_merge.proofs.SetLemmas.{Lines}
+use Rattle.annex_base.proofs.Rows.{lookup-shown}
+use Rattle.union_merge.proofs.ViewLemmas.{files_of-set_value}
+use Rattle.union_merge.proofs.branch.set_lines.Goals as goal
+
+never_none : (o : Option Lines) → o ≡ None → IsSome o → ⊥
+never_none (Some x) e some = absurd cc
+never_none None e some = search rules
+
+pub unreachable-requires : goal.unreachable-requires
+unreachable-requires c =
+    never_none (file_at (files_of c.args.files.now.entries) c.args.path.now) (sym (lookup-shown c.args.files.now.entries c.args.path.now) ∙ sym c.in_default.ensures.value) c.requires.there
+
+pub returns : goal.returns
+returns c =
+    let found : file_at (files_of c.args.files.now.entries) c.args.path.now ≡ Some c.in-Some.own.now = sym (lookup-shown c.args.files.now.entries c.args.path.now) ∙ sym c.in-Some.ensures.value in
+    ap files_of (c.get_mut.follows.holds c.args.lines).0
+    ∙ files_of-set_value c.args.files.now.entries c.args.path.now c.args.lines c.requires.order (Member-file_at (files_of c.args.files.now.entries) c.args.path.now c.in-Some.own.now found)
