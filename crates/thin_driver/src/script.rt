@@ -114,9 +114,7 @@ impl Driver {
         ensures kept { OnOk result (KeepsParts self.old self.new) }
     {
         match command {
-            Command::Have { repo, key, content } => {
-                self.have(*repo, key, content.bytes().len() as u64)?;
-            }
+            Command::Have { repo, key, size } => self.have(*repo, key, *size)?,
             Command::Numcopies { repo, number } => self.set_numcopies(*repo, *number)?,
             Command::Mincopies { repo, number } => self.set_mincopies(*repo, *number)?,
             Command::Trust {
