@@ -5,7 +5,7 @@ ghost use Rattle.script_lang.specs.Numbering.{line_numbers};
 ghost use Rattle.script_lang.specs.Script.{reading, no_context, Commands};
 ghost use Rattle.script_lang.specs.Standing.{AllStand};
 
-use annex_key::keys_are_texts_without_faults;
+use annex_key::key_texts_have_no_fault;
 use key_verify::{made_keys_match, verdicts_are_matches};
 
 /// Each command of a script has what its form says where it stands: repositories that are declared, two different ones
@@ -15,7 +15,7 @@ pub fn commands_stand()
     ensures { (text : List ℕ) (commands : List Command) → reading text ≡ Commands commands → AllStand no_context commands }
 {
     // laws, for the proof
-    keys_are_texts_without_faults();
+    key_texts_have_no_fault();
     verdicts_are_matches();
     made_keys_match();
 }
@@ -25,7 +25,7 @@ pub fn commands_have_lines()
     ensures { (text : List ℕ) (commands : List Command) → reading text ≡ Commands commands → length (line_numbers text) ≡ length commands }
 {
     // laws, for the proof
-    keys_are_texts_without_faults();
+    key_texts_have_no_fault();
     verdicts_are_matches();
     made_keys_match();
 }
