@@ -1,5 +1,5 @@
 -- One answer is due for the bytes of a source.
-use Rattle.std.proofs.Common.{◌≡◌, ◌⊎◌, inl, inr, ℕ, ◌<◌, ◌≤◌, List, ◌++◌, length, Option, Some, None, refl, sym, ap, subst, ◌∙◌, arith, length-append}
+use Rattle.std.proofs.Common.{◌≡◌, ◌⊎◌, inl, inr, ℕ, ◌<◌, ◌≤◌, List, ◌++◌, length, Option, Some, None, Result, Ok, Err, IfOk, refl, sym, ap, subst, ◌∙◌, arith, length-append}
 use Rattle.std.proofs.lemmas.Bool.{cases_lt}
 use Rattle.std.proofs.lemmas.List.{append-nil}
 use Rattle.std.specs.Prelude.{codes}
@@ -13,6 +13,7 @@ use Rattle.thin_script.specs.declared.command.Command.{Command}
 use Rattle.thin_script.specs.Script.{IsScript, IsUnbuilt}
 use Rattle.thin_driver.specs.Driver.{run_of}
 use Rattle.report_text.specs.Report.{report}
+use Rattle.annex_cli.specs.declared.due.Due.{Due}
 use Rattle.annex_cli.specs.declared.status.Status.{Status}
 use Rattle.annex_cli.specs.declared.status.Status.TheVariants.{Done, Usage, Script, ReadFault, WriteFault, NoMemory, Limit}
 use Rattle.annex_cli.specs.Whole.{IsRead, script_limit}
@@ -161,3 +162,18 @@ module _ (x : HaveOneReading) (bytes text : List ℕ) (s : Status) (left left' t
 -- for a script its report is due
 pub due_report : (bytes : List ℕ) (script : List Command) → length bytes ≤ script_limit → IsScript bytes script → IsDue bytes Done (report script (run_of script))
 due_report bytes script short is = record { short = short; script = script; is_script = is; text_is = refl }
+
+-- ---- an answer with a status and a text is due
+
+pub due_by : {E : Type 0} (r : Result Due E) (bytes text : List ℕ) (status : Status) → IfOk r (λ d. (d.status ≡ status) × (d.text.items ≡ text)) → IsDue bytes status text → IfOk r (λ d. IsDue bytes d.status d.text.items)
+due_by (Ok d) bytes text status is due = subst (λ s. IsDue bytes s d.text.items) (sym is.0) (subst (IsDue bytes status) (sym is.1) due)
+due_by (Err e) bytes text status is due = tt
+
+pub complaint_is_due : (bytes : List ℕ) (line byte : ℕ) → length bytes ≤ script_limit → reading bytes ≡ BadLine line byte → IsDue bytes Script (place_text line byte)
+complaint_is_due bytes line byte short bad = inl (record { short = short; line = line; byte = byte; bad = bad; text_is = refl })
+
+pub missing_is_due : (bytes : List ℕ) (line : ℕ) → length bytes ≤ script_limit → IsUnbuilt bytes line → IsDue bytes Script (place_text line 0)
+missing_is_due bytes line short unbuilt = inr (record { short = short; line = line; unbuilt = unbuilt; text_is = refl })
+
+pub past_is_due : (bytes : List ℕ) (quantity : Quantity) → length bytes ≤ script_limit → reading bytes ≡ PastLimit quantity → IsDue bytes Limit (limit_text (quantity_name quantity) (limit_of quantity))
+past_is_due bytes quantity short past = inr (record { short = short; quantity = quantity; past = past; text_is = refl })

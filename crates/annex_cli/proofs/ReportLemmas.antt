@@ -15,7 +15,7 @@ use Rattle.thin_model.specs.Thin.{HasLines, IsThinRun, MayCome, ThinKind, ThinPa
 use Rattle.thin_script.specs.declared.command.Command.{Command}
 use Rattle.thin_script.specs.declared.command.Command.TheVariants as commands
 use Rattle.thin_script.specs.Lines.{declared, declared_by, MayStand}
-use Rattle.thin_script.specs.Script.{AllStand, IsProgram}
+use Rattle.thin_script.specs.Program.{AllStand, IsProgram}
 use Rattle.thin_driver.specs.Driver.{AreShort, IsShort, run_of, view_of}
 use Rattle.report_text.specs.Walk.{IsLogged, ShowsKnown}
 

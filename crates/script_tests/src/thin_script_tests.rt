@@ -81,6 +81,7 @@ fn missing_forms(rt: HostRuntime) -> Result<(), Fail> {
         "groupwanted a x present",
         "log a preferred-content.log anything",
         "part a WORM--k text:a",
+        "have a WORM--k text:x\ndamage a WORM--k text:y",
         "add a x text:abc",
         "file x WORM--k",
         "drop a WORM--k from b",

@@ -1,5 +1,5 @@
 -- The driver can run the lines of a program.
-use Rattle.std.proofs.Common.{◌≡◌, ◌≢◌, ℕ, ◌<◌, ◌≤◌, ◌^◌, Bool, true, false, ◌||◌, List, [], ◌∷◌, ◌++◌, length, Some, None, refl, sym, ap, ◌∙◌, subst, arith, append_assoc, length-append}
+use Rattle.std.proofs.Common.{◌≡◌, ◌≢◌, ℕ, ◌+◌, ◌<◌, ◌≤◌, ◌^◌, Bool, true, false, ◌||◌, List, [], ◌∷◌, ◌++◌, length, Some, None, refl, sym, ap, ◌∙◌, subst, arith, append_assoc, length-append}
 use Rattle.std.proofs.lemmas.Bool.{true≢false}
 use Rattle.std.proofs.lemmas.List.{length-map}
 use Rattle.annex_base.specs.Lists.{Each}
@@ -11,7 +11,7 @@ use Rattle.thin_model.specs.Thin.{IsThinRun}
 use Rattle.thin_script.specs.declared.command.Command.{Command}
 use Rattle.thin_script.specs.declared.command.Command.TheVariants as commands
 use Rattle.thin_script.specs.Lines.{declared, declared_by, is_written, IsLogFile, MayStand}
-use Rattle.thin_script.specs.Script.{AllStand, IsProgram}
+use Rattle.thin_script.specs.Program.{AllStand, IsProgram}
 use Rattle.thin_driver.specs.Driver.{view_of, repos_of, run_of, AreShort}
 use Rattle.thin_driver.specs.Standing.{CanRun}
 use Rattle.thin_driver.proofs.ThinScripts.{thin_lines}

@@ -22,7 +22,7 @@ use Rattle.thin_model.specs.Thin.{IsSetUp, IsThinRun, ThinPast, MayGain}
 use Rattle.thin_script.specs.declared.command.Command.{Command}
 use Rattle.thin_script.specs.declared.command.Command.TheVariants as commands
 use Rattle.thin_script.specs.Lines.{declared}
-use Rattle.thin_script.specs.Script.{waited, waited_by}
+use Rattle.thin_script.specs.Program.{waited, waited_by}
 use Rattle.thin_driver.specs.Driver.{view_of, repos_of, added, written, unknown, log_status, have, done, entries_of, run_of, IsShort, AreShort}
 use Rattle.thin_driver.specs.Standing.{CanRun, IsOneLine}
 use Rattle.thin_driver.proofs.ThinLists.{Each-reverse, Each-weaker}

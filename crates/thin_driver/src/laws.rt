@@ -7,7 +7,7 @@ ghost use Rattle.run_data.specs.declared.run.RepoView.{RepoView};
 ghost use Rattle.thin_model.specs.Logs.{branch, kept};
 ghost use Rattle.thin_model.specs.Thin.{IsThinRun, ThinPast};
 ghost use Rattle.thin_script.specs.declared.command.Command.{Command};
-ghost use Rattle.thin_script.specs.Script.{IsProgram};
+ghost use Rattle.thin_script.specs.Program.{IsProgram};
 ghost use Rattle.thin_driver.specs.Driver.{add_files, run_of, AreShort};
 
 /// The run of a script is made step by step as the model of runs without messages allows: each drop begins, puts its

@@ -7,7 +7,7 @@ ghost use Rattle.run_data.specs.declared.entry.By.TheVariants.{Script};
 ghost use Rattle.run_data.specs.declared.run.RepoView.{RepoView};
 ghost use Rattle.thin_script.specs.declared.command.Command.{Command};
 ghost use Rattle.thin_script.specs.Lines.{declared_by};
-ghost use Rattle.thin_script.specs.Script.{IsProgram};
+ghost use Rattle.thin_script.specs.Program.{IsProgram};
 ghost use Rattle.union_merge.specs.LineSet.{IsLine};
 ghost use Rattle.run_data.specs.Files.{HasPath};
 ghost use Rattle.thin_driver.specs.Driver.{add_lines, added, done, have, repos_of, run_of, view_of};

@@ -34,7 +34,7 @@ use Rattle.thin_script.specs.declared.command.Command.{Command}
 use Rattle.thin_script.specs.declared.command.Command.TheVariants.{Repo, Have, Numcopies, Mincopies, Trust, Describe, Group, Log, Run, Merge, Compact, Wait, ShowPresence, ShowClaims, ShowLocation, ShowLog, ShowLogs, ShowNumbers, ShowLevel}
 use Rattle.thin_script.specs.Lines.{IsLocalDrop, IsLogFile, MayStand, declared, declared_by, is_written}
 use Rattle.thin_script.specs.Built.{if_built, is_added, is_drop, is_local_drop, is_shown, plain_key, shown_numbers, thin_command, thin_commands}
-use Rattle.thin_script.specs.Script.{AllStand, IsProgram, waited, waited_by}
+use Rattle.thin_script.specs.Program.{AllStand, IsProgram, waited, waited_by}
 
 -- ---- what a line has
 

@@ -2,7 +2,8 @@
 
 ghost use Rattle.std.specs.Prelude.{◌≡◌, List, ℕ};
 ghost use Rattle.thin_script.specs.declared.command.Command.{Command};
-ghost use Rattle.thin_script.specs.Script.{IsScript, IsProgram, IsUnbuilt};
+ghost use Rattle.thin_script.specs.Program.{IsProgram};
+ghost use Rattle.thin_script.specs.Script.{IsScript, IsUnbuilt};
 
 use script_lang::commands_stand;
 

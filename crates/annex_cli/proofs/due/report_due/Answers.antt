@@ -3,7 +3,7 @@ use Rattle.annex_base.specs.Lists.{Each}
 use Rattle.run_data.specs.declared.run.Run.{Run}
 use Rattle.thin_model.specs.Thin.{IsThinRun}
 use Rattle.thin_script.specs.declared.command.Command.{Command}
-use Rattle.thin_script.specs.Script.{IsProgram}
+use Rattle.thin_script.specs.Program.{IsProgram}
 use Rattle.thin_driver.specs.Driver.{run_of}
 use Rattle.report_text.specs.Report.{report}
 use Rattle.report_text.specs.Walk.{ShowsKnown}
