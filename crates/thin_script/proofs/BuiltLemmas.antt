@@ -1,5 +1,5 @@
 -- The commands that thin runs have, one after the other.
-use Rattle.std.proofs.Common.{◌≡◌, ℕ, ◌+◌, ◌<◌, List, [], ◌∷◌, ◌++◌, length, drop, get_or, Option, Some, None, refl, sym, ap, ◌∙◌, arith, append_assoc, length-append}
+use Rattle.std.proofs.Common.{◌≡◌, ◌⊎◌, inl, inr, ℕ, ◌+◌, ◌<◌, List, [], ◌∷◌, ◌++◌, length, drop, get_or, Option, Some, None, refl, sym, ap, ◌∙◌, arith, append_assoc, length-append}
 use Rattle.std.proofs.lemmas.List.{append-nil, drop_more}
 use Rattle.std.specs.Option.{option_map}
 use Rattle.annex_base.specs.OptionSteps.{◌>>=◌}
@@ -55,3 +55,17 @@ built_has_all (c ∷ all) lines n is first =
     let rest = bind_some (thin_commands all) (λ ts. Some (one.0 ∷ ts)) lines one.2 in
     let later = map_some (first_unbuilt all) (λ m. m + 1) n (sym (ap (λ o. unless_built o (first_unbuilt all)) one.1) ∙ first) in
     built_has_all all rest.0 later.0 rest.1 later.1
+
+-- ---- something is said of each
+
+abbrev pub IsEither : List whole.Command → Type 0
+IsEither all = ((lines : List Command) × (thin_commands all ≡ Some lines)) ⊎ ((n : ℕ) × (first_unbuilt all ≡ Some n) × (n < length all))
+
+first_or_more : (c : whole.Command) (all : List whole.Command) (o : Option Command) → thin_command c ≡ o → IsEither all → IsEither (c ∷ all)
+first_or_more c all None is rest = inr (0, ap (λ o. unless_built o (first_unbuilt all)) is, omega arith)
+first_or_more c all (Some line) is (inl more) = inl (line ∷ more.0, one_more c all line more.0 is more.1)
+first_or_more c all (Some line) is (inr later) = let within = later.2 in inr (later.0 + 1, not_here c all line later.0 is later.1, omega (arith, within))
+
+pub built_or_first : (all : List whole.Command) → IsEither all
+built_or_first [] = inl ([], refl)
+built_or_first (c ∷ all) = first_or_more c all (thin_command c) refl (built_or_first all)
