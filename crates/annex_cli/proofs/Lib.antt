@@ -1,4 +1,4 @@
 pub mod WordLemmas
 pub mod DueLemmas
-pub mod ShortLemmas
 pub mod ReportLemmas
+pub mod PlaceLemmas

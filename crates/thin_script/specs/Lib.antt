@@ -1,6 +1,4 @@
-pub mod Words
 pub mod Lines
+pub mod Program
+pub mod Built
 pub mod Script
-pub mod Verbs
-pub mod Reading
-pub mod Steps
