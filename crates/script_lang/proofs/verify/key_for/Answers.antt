@@ -1,19 +1,5 @@
--- The sum of the content, by a key of the same method.
-use Rattle.std.proofs.Common.{◌≡◌, List, ℕ, IfOk, refl, subst}
-use Rattle.std.specs.Prelude.{codes}
-use Rattle.annex_key.specs.KeyText.{key_text}
-use Rattle.key_verify.specs.MakingKeys as making
-use Rattle.script_lang.specs.Verify.{made_key}
+use Rattle.std.proofs.lemmas.Str.{IsUtf8-from_is_utf8}
 use Rattle.script_lang.proofs.verify.key_for.Goals as goal
 
-abbrev some_key : List ℕ
-some_key = codes "SHA256--a"
-
-pub make_key_of_sum-requires : goal.make_key_of_sum-requires
-make_key_of_sum-requires c = (c.args.content.now, c.content_sum-sum.ensures some_key (c.for_made_key.ensures.taken some_key refl))
-
-pub returns : goal.returns
-unfolding made_key
-returns c =
-    subst (λ (path : List ℕ). IfOk c.make_key_of_sum.result (λ k. k ≡ key_text (making.made_key path c.args.content.now))) c.bytes.ensures
-    (c.make_key_of_sum.ensures.text c.args.content.now (c.content_sum-sum.ensures some_key (c.for_made_key.ensures.taken some_key refl)))
+pub unreachable-requires : goal.unreachable-requires
+unreachable-requires c = c.in-Err.ensures.cases.0 (rw c.bytes.ensures (IsUtf8-from_is_utf8 c.args.path.now c.requires.utf8))
