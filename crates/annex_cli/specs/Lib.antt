@@ -1,3 +1,4 @@
+-- The definitions of this crate.
 pub mod Exit
 pub mod Whole
 pub mod Top

@@ -1,11 +1,85 @@
 //! The rows of one key, by the calls.
-use crate::calls::{bar, keep, place, release, remove};
+ghost use Rattle.std.specs.Prelude.{◌≡◌, ◌<◌, ◌+◌, ◌^◌, All};
+ghost use Rattle.content_lock.specs.Stored.{Agrees};
+ghost use Rattle.content_lock.specs.Tokens.{HasBar, HasShare};
+
 use annex_base::Call;
 use annex_key::Key;
-use content_lock::{BarRefused, LockTable, Look, RemoveRefused, Removed, ShareRefused};
-use object_store::{FailingKeeper, MemoryKeeper};
+use content_lock::{Bar, BarRefused, LockTable, Look, RemoveRefused, Removed, Share, ShareRefused};
+use object_store::{FailingKeeper, Keeper, KeeperFault, MemoryKeeper};
 use run_data::By;
 use std::test::Fail;
+
+// Puts the content of a key.
+fn place<K: Keeper>(keeper: &mut K, key: &Key) -> Result<(), KeeperFault>
+    ensures { K.records keeper.new ≡ K.records keeper.old }
+{
+    keeper.append_part(key, b"abc")?;
+    keeper.commit(key)
+}
+
+// Takes a hold and keeps it.
+fn keep<K: Keeper>(
+    table: &mut LockTable,
+    keeper: &mut K,
+    key: &Key,
+    number: u64,
+    now: u64,
+) -> Option<ShareRefused>
+    requires agrees { Agrees (K.records keeper.old) table.old.holds }
+    requires fresh { All (λ h. h.number < number) table.old.holds }
+    requires early { now + 600000 < 2 ^ 62 }
+    ensures agrees { Agrees (K.records keeper.new) table.new.holds }
+{
+    match table.share(keeper, key, number, now, By::Script) {
+        Ok(share) => {
+            table.abandon(share);
+            None
+        }
+        Err(e) => Some(e),
+    }
+}
+
+// Puts a bar, and takes it off again.
+fn bar<K: Keeper>(table: &mut LockTable, keeper: &mut K, key: &Key, now: u64) -> Option<BarRefused>
+    ensures holds { table.new.holds ≡ table.old.holds }
+    ensures records { K.records keeper.new ≡ K.records keeper.old }
+{
+    match table.bar(keeper, key, 1, now) {
+        Ok(bar) => {
+            table.unbar(bar);
+            None
+        }
+        Err(e) => Some(e),
+    }
+}
+
+// Uses a bar, and takes it off where the store fails. Says whether it failed.
+fn remove<K: Keeper>(table: &mut LockTable, keeper: &mut K, bar: Bar) -> bool
+    requires { HasBar table.old bar }
+{
+    match table.remove(keeper, bar) {
+        Ok(()) => false,
+        Err(bar) => {
+            table.unbar(bar);
+            true
+        }
+    }
+}
+
+// Releases a share, and abandons it where the store fails. Says whether it failed.
+fn release<K: Keeper>(table: &mut LockTable, keeper: &mut K, share: Share) -> bool
+    requires agrees { Agrees (K.records keeper.old) table.old.holds }
+    requires given { HasShare table.old.holds share }
+{
+    match table.release(keeper, share) {
+        Ok(()) => false,
+        Err(share) => {
+            table.abandon(share);
+            true
+        }
+    }
+}
 
 // A kept hold blocks until its end, also after a crash.
 #[test]

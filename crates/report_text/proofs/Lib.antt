@@ -1,3 +1,4 @@
+-- The lemmas of this crate.
 mod Chosen
 mod Ended
 mod Identifiers

@@ -1,3 +1,4 @@
+-- The definitions of this crate.
 pub mod Begun
 pub mod Report
 pub mod Walk

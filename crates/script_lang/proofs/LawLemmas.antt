@@ -38,7 +38,7 @@ stopped [] more state number fault wrong = absurd cc
 stopped (b ∷ lines) more state number fault wrong = elim (bind_err (line_step state number b) (λ next. behind_lines next (number + 1) lines) fault wrong) [
   | inl here ↦ rw here refl
   | inr later ↦ rw later.1 (stopped lines more later.0 (number + 1) fault later.2)
-  ]
+]
 
 onto_first-append : (b : ℕ) (front back : List (List ℕ)) → 0 < length front → onto_first b (front ++ back) ≡ onto_first b front ++ back
 onto_first-append b [] back some = absurd (omega arith)
@@ -53,4 +53,4 @@ lines_joined (b ∷ text) more = elim (cases_Bool (b == newline)) [
   | inr other ↦ slice_split-cons_no is_newline b (text ++ newline ∷ more) other ∙ ap (onto_first b) (lines_joined text more)
       ∙ onto_first-append b (lines_of text) (lines_of more) (omega (arith, length-slice_split is_newline text))
       ∙ sym (ap (λ ls. ls ++ lines_of more) (slice_split-cons_no is_newline b text other))
-  ]
+]

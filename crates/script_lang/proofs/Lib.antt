@@ -1,3 +1,4 @@
+-- The lemmas of this crate.
 pub mod GroupLemmas
 pub mod LawLemmas
 pub mod LineLemmas

@@ -1,3 +1,4 @@
+-- The lemmas of this crate.
 mod AskLoop
 mod Asked
 mod Changes

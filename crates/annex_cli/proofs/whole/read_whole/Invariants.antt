@@ -1,3 +1,4 @@
+-- What holds at each turn of the loops of `whole::read_whole`.
 use Rattle.std.proofs.Common.{◌≡◌, ◌-◌, length}
 use Rattle.std.specs.Io.KnownBytes.{prepend_known}
 use Rattle.annex_cli.proofs.whole.read_whole.Given as goal

@@ -1,3 +1,4 @@
+-- What the proof of `whole::write_whole` needs beside the tactics.
 use Rattle.std.proofs.Common.{◌∙◌, ap, arith, take, List, ℕ}
 use Rattle.std.specs.Io.KnownBytes.{append_known}
 use Rattle.annex_base.proofs.KnownLemmas.{append_known-front}

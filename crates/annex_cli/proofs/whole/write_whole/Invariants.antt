@@ -1,3 +1,4 @@
+-- What holds at each turn of the loops of `whole::write_whole`.
 use Rattle.std.proofs.Common.{◌≡◌, ◌≤◌, ◌-◌, length, take}
 use Rattle.std.specs.Io.KnownBytes.{append_known}
 use Rattle.annex_cli.proofs.whole.write_whole.Given as goal

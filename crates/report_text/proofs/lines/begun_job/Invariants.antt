@@ -1,3 +1,4 @@
+-- What holds at each turn of the loops of `lines::begun_job`.
 use Rattle.std.proofs.Common.{◌≡◌, length, reverse}
 use Rattle.thin_model.specs.Past.{begun_job}
 use Rattle.report_text.proofs.lines.begun_job.Given as goal

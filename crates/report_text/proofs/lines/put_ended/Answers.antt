@@ -1,3 +1,4 @@
+-- What the proof of `lines::put_ended` needs beside the tactics.
 use Rattle.std.proofs.Common.{◌≤◌, ◌<◌, min, length, arith, inr}
 use Rattle.report_text.proofs.Ended.{ended_more, ended_all}
 use Rattle.report_text.proofs.lines.put_ended.Goals as goal

@@ -1,3 +1,4 @@
+-- What holds at each turn of the loops of `lines::put_ended`.
 use Rattle.std.proofs.Common.{◌≡◌, ◌≤◌, ◌⊎◌, ◌++◌, min, length}
 use Rattle.report_text.specs.Report.{ended}
 use Rattle.report_text.proofs.lines.put_ended.Given as goal

@@ -1,3 +1,4 @@
+-- What holds at each turn of the loops of `logs::put_files`.
 use Rattle.std.proofs.Common.{◌≡◌, ◌++◌}
 use Rattle.std.specs.List.{flat_map}
 use Rattle.union_merge.specs.FileView.{files_of}

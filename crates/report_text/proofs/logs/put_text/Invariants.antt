@@ -1,3 +1,4 @@
+-- What holds at each turn of the loops of `logs::put_text`.
 use Rattle.std.proofs.Common.{◌≡◌, ◌++◌, take}
 use Rattle.union_merge.specs.LineSet.{text_of}
 use Rattle.report_text.proofs.logs.put_text.Given as goal

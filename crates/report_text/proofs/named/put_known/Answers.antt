@@ -1,3 +1,4 @@
+-- What the proof of `named::put_known` needs beside the tactics.
 use Rattle.std.proofs.Common.{◌<◌, ◌∙◌, sym, arith, length, Bool, bytes_eq}
 use Rattle.std.specs.List.{list_any}
 use Rattle.run_data.specs.declared.run.RepoView.{RepoView}

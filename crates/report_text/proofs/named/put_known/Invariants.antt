@@ -1,3 +1,4 @@
+-- What holds at each turn of the loops of `named::put_known`.
 use Rattle.std.proofs.Common.{◌≡◌, ◌++◌, take, map, filter}
 use Rattle.std.specs.List.{list_any}
 use Rattle.std.specs.Str.{bytes_eq}

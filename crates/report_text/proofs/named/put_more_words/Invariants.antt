@@ -1,3 +1,4 @@
+-- What holds at each turn of the loops of `named::put_more_words`.
 use Rattle.std.proofs.Common.{◌≡◌, ◌++◌, ◌∷◌, take}
 use Rattle.std.specs.List.{flat_map}
 use Rattle.report_text.proofs.named.put_more_words.Given as goal

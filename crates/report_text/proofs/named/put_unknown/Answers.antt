@@ -1,3 +1,4 @@
+-- What the proof of `named::put_unknown` needs beside the tactics.
 use Rattle.std.proofs.Common.{◌<◌, ◌∙◌, sym, ap, arith, length, Bool, not, ℕ, List, bytes_eq}
 use Rattle.std.specs.List.{list_any}
 use Rattle.annex_base.specs.RepoText.{repo_text}

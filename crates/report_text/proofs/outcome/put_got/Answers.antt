@@ -1,3 +1,4 @@
+-- What the proof of `outcome::put_got` needs beside the tactics.
 use Rattle.std.proofs.Common.{append_assoc}
 use Rattle.report_text.proofs.outcome.put_got.Goals as goal
 

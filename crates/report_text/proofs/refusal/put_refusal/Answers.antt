@@ -1,3 +1,4 @@
+-- What the proof of `refusal::put_refusal` needs beside the tactics.
 use Rattle.std.proofs.Common.{List, ℕ, ◌++◌, ap, ◌∙◌, append_assoc}
 use Rattle.std.specs.Fmt.{decimal}
 use Rattle.report_text.proofs.refusal.put_refusal.Goals as goal

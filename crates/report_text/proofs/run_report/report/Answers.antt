@@ -1,3 +1,4 @@
+-- What the proof of `run_report::report` needs beside the tactics.
 use Rattle.std.proofs.Common.{List, ℕ, ◌∙◌, ap, sym, ◌++◌}
 use Rattle.std.proofs.lemmas.Slice.Zip.{either_empty_from_Zip}
 use Rattle.report_text.proofs.Reported.{report_end}

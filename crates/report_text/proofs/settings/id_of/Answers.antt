@@ -1,3 +1,4 @@
+-- What the proof of `settings::id_of` needs beside the tactics.
 use Rattle.report_text.proofs.Identifiers.{id_at}
 use Rattle.report_text.proofs.settings.id_of.Goals as goal
 

@@ -1,3 +1,4 @@
+-- What the proof of `shown::having` needs beside the tactics.
 use Rattle.std.proofs.Common.{◌≡◌, ◌<◌, ◌∙◌, sym, ap, arith, Vec, Global, ℕ}
 use Rattle.report_text.proofs.Places.{filter_kept, filter_left}
 use Rattle.report_text.proofs.shown.having.Goals as goal

@@ -1,3 +1,4 @@
+-- What holds at each turn of the loops of `shown::having`.
 use Rattle.std.proofs.Common.{◌≡◌, List, filter}
 use Rattle.std.specs.List.{range_with_len}
 use Rattle.run_data.specs.declared.entry.Entry.{Entry}

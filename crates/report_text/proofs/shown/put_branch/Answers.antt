@@ -1,3 +1,4 @@
+-- What the proof of `shown::put_branch` needs beside the tactics.
 use Rattle.std.proofs.Common.{◌≡◌, ℕ, List, ◌++◌, Some, sym, ap, ◌∙◌, refl}
 use Rattle.run_data.specs.declared.run.Run.{Run}
 use Rattle.run_data.specs.declared.entry.LogFile.{LogFile}

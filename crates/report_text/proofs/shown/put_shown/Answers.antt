@@ -1,3 +1,4 @@
+-- What the proof of `shown::put_shown` needs beside the tactics.
 use Rattle.thin_model.specs.Safety.{past_at}
 use Rattle.report_text.proofs.shown.put_shown.Goals as goal
 

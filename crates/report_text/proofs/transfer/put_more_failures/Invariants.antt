@@ -1,3 +1,4 @@
+-- What holds at each turn of the loops of `transfer::put_more_failures`.
 use Rattle.std.proofs.Common.{◌≡◌, ◌++◌, ◌∷◌, take}
 use Rattle.std.specs.List.{flat_map}
 use Rattle.report_text.specs.Report.{failure_text}

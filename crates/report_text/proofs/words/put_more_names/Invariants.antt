@@ -1,3 +1,4 @@
+-- What holds at each turn of the loops of `words::put_more_names`.
 use Rattle.std.proofs.Common.{◌≡◌, ◌++◌, ◌∷◌, take}
 use Rattle.std.specs.List.{flat_map}
 use Rattle.report_text.specs.Report.{name_of}

@@ -1,3 +1,4 @@
+-- What the proof of `forms::read_command` needs beside the tactics.
 use Rattle.script_lang.proofs.forms.read_command.Goals as goal
 
 pub returns-in-Settle : goal.returns-in-Settle

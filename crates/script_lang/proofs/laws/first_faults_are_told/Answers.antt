@@ -1,3 +1,4 @@
+-- What the proof of `laws::first_faults_are_told` needs beside the tactics.
 use Rattle.std.proofs.Common.{length, ◌+◌, arith}
 use Rattle.script_lang.specs.Script.{no_lines}
 use Rattle.script_lang.proofs.LawLemmas.{first_fault}

@@ -1,3 +1,4 @@
+-- What the proof of `rests::group_words` needs beside the tactics.
 use Rattle.std.proofs.Common.{◌≡◌, ◌∙◌, ◌+◌, ◌-◌, ap, sym, length, arith, rules}
 use Rattle.script_lang.proofs.GroupLemmas.{groups_more}
 use Rattle.script_lang.proofs.rests.group_words.Goals as goal

@@ -1,3 +1,4 @@
+-- What the proof of `script::cut_lines` needs beside the tactics.
 use Rattle.std.proofs.Common.{rules}
 use Rattle.annex_base.specs.Lines.{is_newline}
 use Rattle.std.proofs.lemmas.Iterator.Consumers.{map_from_collect}

@@ -1,3 +1,4 @@
+-- What the proof of `script::read_lines` needs beside the tactics.
 use Rattle.std.proofs.Common.{◌≡◌, ◌∙◌, ◌+◌, map, drop, sym, ap, subst}
 use Rattle.std.proofs.lemmas.Result.{err_from_is_err_and}
 use Rattle.script_lang.specs.Script.{State, Reading, IsFault, goes_on, lines_reading}

@@ -1,3 +1,4 @@
+-- What the proof of `shows::read_show` needs beside the tactics.
 use Rattle.script_lang.proofs.shows.read_show.Goals as goal
 
 pub returns-in-Totals : goal.returns-in-Totals

@@ -1,3 +1,4 @@
+-- What the proof of `standing::commands_stand` needs beside the tactics.
 use Rattle.std.proofs.Common.{ap, subst, sym, ◌≡◌, true, refl}
 use Rattle.annex_key.specs.KeyText.{IsKeyText}
 use Rattle.script_lang.proofs.StandingLines.{text_stands}

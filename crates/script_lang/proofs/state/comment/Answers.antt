@@ -1,3 +1,4 @@
+-- What the proof of `state::comment` needs beside the tactics.
 use Rattle.std.proofs.Common.{◌≡◌, false, refl}
 use Rattle.std.specs.Str.{is_utf8}
 use Rattle.std.proofs.lemmas.Bool.{false_from_ne_true}

@@ -1,3 +1,4 @@
+-- What the proof of `state::last_word` needs beside the tactics.
 use Rattle.std.proofs.Common.{arith, reverse}
 use Rattle.std.proofs.lemmas.List.Sums.{prefix_len-le-length}
 use Rattle.std.proofs.lemmas.List.{length-reverse}

@@ -1,3 +1,4 @@
+-- What the proof of `verify::content_sum` needs beside the tactics.
 use Rattle.std.proofs.Common.{◌≡◌, ◌∙◌, ◌+◌, ◌≤◌, ◌++◌, length, take, sym, ap, subst, arith}
 use Rattle.key_verify.specs.Sums.{HasTaken}
 use Rattle.script_words.specs.Contents.{piece}

@@ -1,3 +1,4 @@
+-- What the proof of `verify::key_for` needs beside the tactics.
 use Rattle.std.proofs.lemmas.Str.{IsUtf8-from_is_utf8}
 use Rattle.script_lang.proofs.verify.key_for.Goals as goal
 

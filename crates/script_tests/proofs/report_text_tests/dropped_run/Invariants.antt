@@ -1,3 +1,4 @@
+-- What holds at each turn of the loops of `report_text_tests::dropped_run`.
 use Rattle.annex_base.specs.Lists.{Each}
 use Rattle.report_text.specs.Walk.{IsLogged}
 use Rattle.script_tests.proofs.report_text_tests.dropped_run.Given as goal

@@ -1,3 +1,4 @@
+-- What the proof of `report_text_tests::line` needs beside the tactics.
 use Rattle.std.proofs.Common.{sym, subst}
 use Rattle.union_merge.specs.LineSet.{IsLine}
 use Rattle.script_tests.proofs.report_text_tests.line.Goals as goal

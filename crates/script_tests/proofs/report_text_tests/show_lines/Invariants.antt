@@ -1,3 +1,4 @@
+-- What holds at each turn of the loops of `report_text_tests::show_lines`.
 use Rattle.annex_base.specs.Lists.{Each}
 use Rattle.report_text.specs.Walk.{ShowsKnown}
 use Rattle.script_tests.proofs.report_text_tests.show_lines.Given as goal

@@ -1,3 +1,4 @@
+-- What the proof of `logs::file_at` needs beside the tactics.
 use Rattle.std.proofs.Common.{◌≡◌, Some, ◌∙◌, ap}
 use Rattle.union_merge.specs.Branch.{Files, or_none, lines_at}
 use Rattle.thin_driver.proofs.logs.file_at.Goals as goal

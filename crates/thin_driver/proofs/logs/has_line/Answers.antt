@@ -1,3 +1,4 @@
+-- What the proof of `logs::has_line` needs beside the tactics.
 use Rattle.std.proofs.Common.{◌∙◌, sym, ap}
 use Rattle.std.specs.Prelude.{bytes_eq}
 use Rattle.std.specs.List.{list_any}

@@ -1,3 +1,4 @@
+-- What holds at each turn of the loops of `logs::lines_without`.
 use Rattle.std.proofs.Common.{◌≡◌, filter, not, take}
 use Rattle.std.specs.Prelude.{bytes_eq}
 use Rattle.std.specs.List.{list_any}

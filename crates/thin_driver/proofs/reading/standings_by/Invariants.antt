@@ -1,3 +1,4 @@
+-- What holds at each turn of the loops of `reading::standings_by`.
 use Rattle.std.proofs.Common.{◌≡◌, map, take}
 use Rattle.std.specs.Prelude.{bytes_eq}
 use Rattle.std.specs.List.{list_any}

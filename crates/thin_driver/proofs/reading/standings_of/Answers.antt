@@ -1,3 +1,4 @@
+-- What the proof of `reading::standings_of` needs beside the tactics.
 use Rattle.std.proofs.Common.{map, ◌∙◌, ap}
 use Rattle.std.specs.Prelude.{bytes_eq}
 use Rattle.std.specs.List.{list_any}

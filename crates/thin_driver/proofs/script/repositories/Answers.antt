@@ -1,3 +1,4 @@
+-- What the proof of `script::repositories` needs beside the tactics.
 use Rattle.std.proofs.Common.{◌++◌, List, ◌∙◌, map, sym, ap}
 use Rattle.run_data.specs.declared.run.RepoView.{RepoView}
 use Rattle.thin_script.specs.Lines.{declared_by}

@@ -1,3 +1,4 @@
+-- What holds at each turn of the loops of `script::repositories`.
 use Rattle.std.proofs.Common.{◌≡◌, take}
 use Rattle.thin_driver.specs.Driver.{repos_of}
 use Rattle.thin_driver.proofs.script.repositories.Given as goal

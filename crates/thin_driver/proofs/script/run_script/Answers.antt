@@ -1,3 +1,4 @@
+-- What the proof of `script::run_script` needs beside the tactics.
 use Rattle.std.proofs.Common.{length, List, sym, ap, subst, arith}
 use Rattle.run_data.specs.declared.run.RepoView.{RepoView}
 use Rattle.thin_driver.specs.Driver.{repos_of}

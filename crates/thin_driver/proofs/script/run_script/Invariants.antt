@@ -1,3 +1,4 @@
+-- What holds at each turn of the loops of `script::run_script`.
 use Rattle.thin_driver.proofs.Scripts.{ScriptLoop}
 use Rattle.thin_driver.proofs.script.run_script.Given as goal
 

@@ -1,3 +1,4 @@
+-- What the proof of `stated::trusted_repos` needs beside the tactics.
 use Rattle.std.proofs.Common.{◌==◌, ◌&&◌, ℕ, arith, rules, tests}
 use Rattle.std.specs.List.{list_any}
 use Rattle.std.proofs.lemmas.Iterator.{items_from_collect, YieldsList-from_range}

@@ -1,3 +1,4 @@
+-- What the proof of `laws::built_scripts_are_programs` needs beside the tactics.
 use Rattle.thin_script.proofs.ProgramLemmas.{program_is}
 use Rattle.thin_script.proofs.laws.built_scripts_are_programs.Goals as goal
 

@@ -1,3 +1,4 @@
+-- What the proof of `laws::scripts_are_built_or_not` needs beside the tactics.
 use Rattle.std.proofs.Common.{ℕ, List, Some, Option, ap, sym, ◌∙◌, subst}
 use Rattle.std.specs.Prelude.{◌≡◌, slice_get}
 use Rattle.script_lang.specs.declared.command.Command as whole

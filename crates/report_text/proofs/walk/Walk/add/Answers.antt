@@ -1,3 +1,4 @@
+-- What the proof of `walk::Walk::add` needs beside the tactics.
 use Rattle.report_text.proofs.walk.Walk.add.Goals as goal
 
 pub returns : goal.returns

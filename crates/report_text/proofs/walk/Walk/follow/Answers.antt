@@ -1,3 +1,4 @@
+-- What the proof of `walk::Walk::follow` needs beside the tactics.
 use Rattle.std.proofs.Common.{◌<◌, ◌≤◌, min, length, arith}
 use Rattle.report_text.specs.Walk.{IsLogged}
 use Rattle.report_text.proofs.Pasts.{each_at, knows_more, stands_walked}

@@ -1,3 +1,4 @@
+-- What the proof of `driver::Driver::add` needs beside the tactics.
 use Rattle.std.proofs.Common.{◌+◌, ◌∙◌, ap}
 use Rattle.std.specs.Prelude.{if◌then◌else◌}
 use Rattle.thin_model.specs.Past.{is_begin}

@@ -1,3 +1,4 @@
+-- What holds at each turn of the loops of `driver::Driver::add_files`.
 use Rattle.union_merge.specs.FileView.{files_of}
 use Rattle.thin_driver.specs.Driver.{add_files}
 use Rattle.thin_driver.proofs.Walks.{Walk}

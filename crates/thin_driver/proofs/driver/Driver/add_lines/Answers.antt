@@ -1,3 +1,4 @@
+-- What the proof of `driver::Driver::add_lines` needs beside the tactics.
 use Rattle.std.proofs.Common.{◌==◌, length, sym, ap, subst, ◌∙◌, true≢false}
 use Rattle.run_data.specs.declared.entry.EntryKind.TheVariants.{Log}
 use Rattle.thin_driver.specs.Driver.{log_some}

@@ -1,3 +1,4 @@
+-- What the proof of `driver::Driver::apply` needs beside the tactics.
 use Rattle.std.proofs.Common.{sym, subst}
 use Rattle.thin_script.specs.declared.command.Command.{Command}
 use Rattle.annex_base.proofs.Lists.{Contains-from_Member}

@@ -1,3 +1,4 @@
+-- What the proof of `driver::Driver::ask` needs beside the tactics.
 use Rattle.std.proofs.Common.{◌≡◌, ◌+◌, ℕ, zero, true, false, List, [], Ok, Err, ◌∙◌, length, refl, sym, ap, subst}
 use Rattle.drop_proof.specs.declared.evidence.Kind.TheVariants.{Locked}
 use Rattle.annex_base.specs.declared.kinds.Found.TheVariants.{Absent as found_absent}

@@ -1,3 +1,4 @@
+-- What the proof of `driver::Driver::ask_others` needs beside the tactics.
 use Rattle.std.proofs.Common.{◌≡◌, ◌+◌, ℕ, false, List, [], ◌++◌, ◌∙◌, length, get_or, sym, ap, subst, arith}
 use Rattle.std.proofs.lemmas.List.{get_or_default}
 use Rattle.drop_proof.specs.declared.evidence.Evidence.{Evidence}

@@ -1,3 +1,4 @@
+-- What holds at each turn of the loops of `driver::Driver::ask_others`.
 use Rattle.thin_driver.proofs.AskLoop.{AskLoop}
 use Rattle.thin_driver.proofs.driver.Driver.ask_others.Given as goal
 

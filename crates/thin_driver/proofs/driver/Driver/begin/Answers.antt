@@ -1,3 +1,4 @@
+-- What the proof of `driver::Driver::begin` needs beside the tactics.
 use Rattle.std.proofs.Common.{◌+◌, [], ℕ, ◌∙◌, ap, subst}
 use Rattle.run_data.specs.declared.entry.EntryKind.TheVariants.{Begin}
 use Rattle.run_data.specs.declared.job.Job.{Job}

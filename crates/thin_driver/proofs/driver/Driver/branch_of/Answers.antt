@@ -1,3 +1,4 @@
+-- What the proof of `driver::Driver::branch_of` needs beside the tactics.
 use Rattle.std.proofs.Common.{◌∙◌, length}
 use Rattle.thin_model.specs.Logs.{branch}
 use Rattle.thin_driver.proofs.Walks.{some_is, none_isnt}

@@ -1,3 +1,4 @@
+-- What the proof of `driver::Driver::compact` needs beside the tactics.
 use Rattle.std.proofs.Common.{subst}
 use Rattle.union_merge.specs.Branch.{Files}
 use Rattle.thin_driver.specs.Driver.{compact_files}

@@ -1,3 +1,4 @@
+-- What the proof of `driver::Driver::compact_files` needs beside the tactics.
 use Rattle.std.proofs.Common.{List, ℕ, ◌∙◌, refl, ap, subst}
 use Rattle.union_merge.specs.Branch.{Files}
 use Rattle.union_merge.specs.FileView.{files_of}

@@ -1,3 +1,4 @@
+-- What the proof of `driver::Driver::compact_one` needs beside the tactics.
 use Rattle.std.proofs.Common.{[], ◌∙◌, sym, ap, subst}
 use Rattle.std.specs.declared.vec.Vec.{Vec}
 use Rattle.run_data.specs.declared.entry.EntryKind.TheVariants.{Compact}

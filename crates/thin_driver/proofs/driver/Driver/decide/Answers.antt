@@ -1,3 +1,4 @@
+-- What the proof of `driver::Driver::decide` needs beside the tactics.
 use Rattle.std.proofs.Common.{◌≡◌, ℕ, false, true, List, [], ◌∙◌, sym, ap, subst}
 use Rattle.drop_proof.specs.declared.evidence.Evidence.{Evidence}
 use Rattle.drop_proof.specs.declared.rule.Side.TheVariants.{Local}

@@ -1,3 +1,4 @@
+-- What the proof of `driver::Driver::drop_content` needs beside the tactics.
 use Rattle.std.proofs.Common.{◌≡◌, ℕ, ◌+◌, true, false, List, [], Option, None, ◌∙◌, length, get_or, sym, ap, subst}
 use Rattle.std.specs.declared.vec.Vec.{Vec}
 use Rattle.std.specs.declared.alloc.Global.{Global}

@@ -1,3 +1,4 @@
+-- What the proof of `driver::Driver::drop_present` needs beside the tactics.
 use Rattle.std.proofs.Common.{length, ◌∙◌, sym, ap}
 use Rattle.thin_driver.proofs.Deciding.{Rests-dropped}
 use Rattle.thin_driver.proofs.driver.Driver.drop_present.Goals as goal

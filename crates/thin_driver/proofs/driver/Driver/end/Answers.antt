@@ -1,3 +1,4 @@
+-- What the proof of `driver::Driver::end` needs beside the tactics.
 use Rattle.std.proofs.Common.{ap}
 use Rattle.std.specs.declared.vec.Vec.{Vec}
 use Rattle.thin_driver.proofs.Steps.{Releases-ended}

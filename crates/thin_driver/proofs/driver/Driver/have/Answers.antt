@@ -1,3 +1,4 @@
+-- What the proof of `driver::Driver::have` needs beside the tactics.
 use Rattle.std.proofs.Common.{List, [], length, ◌∙◌, sym, ap, subst}
 use Rattle.std.specs.declared.vec.Vec.{Vec}
 use Rattle.log_lines.specs.declared.entry.LogKind.TheVariants as kinds

@@ -1,3 +1,4 @@
+-- What the proof of `driver::Driver::id` needs beside the tactics.
 use Rattle.std.proofs.Common.{List, get_or, ◌∙◌, sym, ap}
 use Rattle.run_data.specs.declared.run.RepoView.{RepoView}
 use Rattle.thin_driver.proofs.SetUps.{id_of-at}

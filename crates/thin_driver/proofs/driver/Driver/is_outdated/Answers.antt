@@ -1,3 +1,4 @@
+-- What the proof of `driver::Driver::is_outdated` needs beside the tactics.
 use Rattle.std.proofs.Common.{List, ℕ, Option, length, nat_lt, ◌∙◌, ap}
 use Rattle.log_lines.specs.declared.entry.LogKind.{LogKind}
 use Rattle.run_data.specs.Files.{kind_of}

@@ -1,3 +1,4 @@
+-- What the proof of `driver::Driver::log_status` needs beside the tactics.
 use Rattle.std.proofs.Common.{subst}
 use Rattle.thin_driver.specs.State.{IsAt}
 use Rattle.thin_driver.proofs.Logging.{log_status_is}

@@ -1,3 +1,4 @@
+-- What the proof of `driver::Driver::look` needs beside the tactics.
 use Rattle.std.proofs.Common.{[], List, ℕ, ◌∙◌, sym, ap, subst}
 use Rattle.std.specs.declared.vec.Vec.{Vec}
 use Rattle.annex_base.specs.declared.kinds.Found.TheVariants.{Absent}

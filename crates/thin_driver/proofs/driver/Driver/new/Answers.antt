@@ -1,3 +1,4 @@
+-- What the proof of `driver::Driver::new` needs beside the tactics.
 use Rattle.std.proofs.Common.{◌≡◌, List, [], None, length, replicate, refl, subst, rules}
 use Rattle.run_data.specs.declared.run.RepoView.{RepoView}
 use Rattle.thin_model.specs.Contents.{Tracks}

@@ -1,3 +1,4 @@
+-- What the proof of `driver::Driver::read` needs beside the tactics.
 use Rattle.std.proofs.Common.{◌≡◌, length, map, ◌∙◌, sym, ap}
 use Rattle.std.proofs.lemmas.List.{length-map}
 use Rattle.thin_driver.specs.Reading.{seen_as}

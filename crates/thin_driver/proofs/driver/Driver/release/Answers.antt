@@ -1,3 +1,4 @@
+-- What the proof of `driver::Driver::release` needs beside the tactics.
 use Rattle.std.proofs.Common.{length, ap, arith}
 use Rattle.thin_driver.proofs.Deciding.{ReleaseLoop-start, ReleaseLoop-step, ReleaseLoop-all}
 use Rattle.thin_driver.proofs.driver.Driver.release.Goals as goal

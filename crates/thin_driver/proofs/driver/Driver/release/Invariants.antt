@@ -1,3 +1,4 @@
+-- What holds at each turn of the loops of `driver::Driver::release`.
 use Rattle.thin_driver.proofs.Deciding.{ReleaseLoop}
 use Rattle.thin_driver.proofs.driver.Driver.release.Given as goal
 

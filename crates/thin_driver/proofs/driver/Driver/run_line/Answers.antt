@@ -1,3 +1,4 @@
+-- What the proof of `driver::Driver::run_line` needs beside the tactics.
 use Rattle.std.proofs.Common.{◌∷◌}
 use Rattle.thin_driver.proofs.Scripts.{Stands-done}
 use Rattle.thin_driver.proofs.driver.Driver.run_line.Goals as goal

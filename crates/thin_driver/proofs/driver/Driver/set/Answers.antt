@@ -1,3 +1,4 @@
+-- What the proof of `driver::Driver::set` needs beside the tactics.
 use Rattle.std.proofs.Common.{subst, ◌∙◌}
 use Rattle.thin_driver.specs.State.{Rests}
 use Rattle.thin_driver.proofs.Logging.{set_is}

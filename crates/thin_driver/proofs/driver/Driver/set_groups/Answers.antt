@@ -1,3 +1,4 @@
+-- What the proof of `driver::Driver::set_groups` needs beside the tactics.
 use Rattle.std.proofs.Common.{List, ℕ, refl, sym, subst}
 use Rattle.annex_base.specs.Lists.{Each}
 use Rattle.log_lines.specs.declared.entry.LogKind.TheVariants as kinds

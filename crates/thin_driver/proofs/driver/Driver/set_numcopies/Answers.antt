@@ -1,3 +1,4 @@
+-- What the proof of `driver::Driver::set_numcopies` needs beside the tactics.
 use Rattle.std.proofs.Common.{refl}
 use Rattle.log_lines.specs.declared.entry.LogKind.TheVariants as kinds
 use Rattle.log_lines.specs.declared.entry.Topic.TheVariants as topics

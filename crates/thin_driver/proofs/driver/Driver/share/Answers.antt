@@ -1,3 +1,4 @@
+-- What the proof of `driver::Driver::share` needs beside the tactics.
 use Rattle.std.proofs.Common.{◌≡◌, ◌+◌, ℕ, zero, List, [], Option, Some, ◌∙◌, set, refl, ap, subst, arith}
 use Rattle.std.specs.declared.vec.Vec.{Vec}
 use Rattle.std.specs.declared.alloc.Global.{Global}

@@ -1,3 +1,4 @@
+-- What the proof of `driver::Driver::unknown` needs beside the tactics.
 use Rattle.std.proofs.Common.{not, filter, length, ◌∙◌, sym, ap, subst}
 use Rattle.thin_model.specs.Logs.{kept}
 use Rattle.std.specs.Prelude.{bytes_eq}

@@ -1,3 +1,4 @@
+-- What the proof of `driver::Driver::wait` needs beside the tactics.
 use Rattle.std.proofs.Common.{◌+◌, List, [], ℕ, None, length, ◌∙◌, ap}
 use Rattle.run_data.specs.declared.entry.EntryKind.TheVariants.{Wait}
 use Rattle.std.specs.declared.vec.Vec.{Vec}

@@ -1,3 +1,4 @@
+-- What the proof of `driver::Driver::write_raw` needs beside the tactics.
 use Rattle.std.proofs.Common.{List, ℕ, [], ◌∷◌, subst}
 use Rattle.run_data.specs.declared.entry.LogFile.{LogFile}
 use Rattle.thin_driver.specs.Driver.{add_lines}

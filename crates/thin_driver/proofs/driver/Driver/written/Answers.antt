@@ -1,3 +1,4 @@
+-- What the proof of `driver::Driver::written` needs beside the tactics.
 use Rattle.std.proofs.Common.{Some, length, ◌∙◌, ap}
 use Rattle.log_lines.specs.LineText.{line_text}
 use Rattle.log_lines.specs.Newest.{newest_stamp, next_stamp}
