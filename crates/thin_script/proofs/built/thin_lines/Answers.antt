@@ -17,8 +17,8 @@ loop-i-preserved c =
     let before = subst (λ (cs : List whole.Command). GoesOn all cs c.loop-i.lines.items) here c.loop-i.invariant.goes_on in
     let after = goes_on_next all rest c.loop-i.lines.items c.index-commands-i.result c.in-Some.line before (sym c.in_ok-thin_of.ensures ∙ c.in-Some.is) in
     record {
-      goes_on = subst (λ (lines : List Command). GoesOn all rest lines) (sym c.in_ok-push.ensures.items) after;
-      count = omega (arith, ap length c.in_ok-push.ensures.items, length-append c.loop-i.lines.items (c.in-Some.line ∷ []), c.loop-i.invariant.count);
+      goes_on = subst (λ (lines : List Command). GoesOn all rest lines) (sym c.in_ok-push-in-Some.ensures.items) after;
+      count = omega (arith, ap length c.in_ok-push-in-Some.ensures.items, length-append c.loop-i.lines.items (c.in-Some.line ∷ []), c.loop-i.invariant.count);
     }
 
 pub returns-in-None : goal.returns-in-None
