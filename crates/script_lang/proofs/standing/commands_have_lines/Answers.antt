@@ -1,3 +1,4 @@
+-- The lines of commands are counted as the commands are.
 use Rattle.script_lang.proofs.StandingLines.{text_counts}
 use Rattle.script_lang.proofs.VerifyLemmas.{right_is, made_is}
 use Rattle.script_lang.proofs.standing.commands_have_lines.Goals as goal

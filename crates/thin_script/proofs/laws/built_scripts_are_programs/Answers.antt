@@ -1,3 +1,4 @@
+-- What each command has where it stands, its line has.
 use Rattle.thin_script.proofs.ProgramLemmas.{program_is}
 use Rattle.thin_script.proofs.laws.built_scripts_are_programs.Goals as goal
 

@@ -1,3 +1,4 @@
+-- What each line does, by its form.
 use Rattle.std.proofs.Common.{sym, subst}
 use Rattle.thin_script.specs.declared.command.Command.{Command}
 use Rattle.annex_base.proofs.Lists.{Contains-from_Member}
