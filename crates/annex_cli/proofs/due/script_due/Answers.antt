@@ -9,11 +9,11 @@ report_due-requires-clause-script c = record {
   all = c.args.script.now;
   says = c.requires.says;
   built = ap thin_commands (sym c.lines.ensures)
-      ∙ found c.in_ok-thin_lines.field-0 c.in-Ok.lines (λ v. thin_commands c.lines.result.now ≡ Some v.items) (λ place. first_unbuilt c.lines.result.now ≡ Some place) c.in-Ok.is c.in_ok-thin_lines.ensures
+      ∙ found c.in_ok-lines.field-0 c.in-Ok.lines (λ v. thin_commands c.lines.result.now ≡ Some v.items) (λ place. first_unbuilt c.lines.result.now ≡ Some place) c.in-Ok.is c.in_ok-lines.ensures
       ∙ ap Some (sym c.deref.ensures.value);
 }
 
 pub missing_due-requires-clause-first : goal.missing_due-requires-clause-first
 missing_due-requires-clause-first c =
     ap first_unbuilt (sym c.lines.ensures)
-    ∙ missed c.in_ok-thin_lines.field-0 c.in-Err.place (λ v. thin_commands c.lines.result.now ≡ Some v.items) (λ place. first_unbuilt c.lines.result.now ≡ Some place) c.in-Err.is c.in_ok-thin_lines.ensures
+    ∙ missed c.in_ok-lines.field-0 c.in-Err.place (λ v. thin_commands c.lines.result.now ≡ Some v.items) (λ place. first_unbuilt c.lines.result.now ≡ Some place) c.in-Err.is c.in_ok-lines.ensures

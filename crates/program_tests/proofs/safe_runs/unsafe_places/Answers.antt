@@ -12,6 +12,6 @@ run_script-requires c = c.built_scripts_are_programs.ensures c.as_bytes.result.n
   all = c.in_ok-script.script;
   says = c.in_ok-script.ensures;
   built = ap thin_commands (sym c.lines.ensures)
-      ∙ found c.in_ok-thin_lines.field-0 c.in-Ok.lines (λ v. thin_commands c.lines.result.now ≡ Some v.items) (λ place. first_unbuilt c.lines.result.now ≡ Some place) c.in-Ok.is c.in_ok-thin_lines.ensures
+      ∙ found c.in_ok-lines.field-0 c.in-Ok.lines (λ v. thin_commands c.lines.result.now ≡ Some v.items) (λ place. first_unbuilt c.lines.result.now ≡ Some place) c.in-Ok.is c.in_ok-lines.ensures
       ∙ ap Some (sym c.deref.ensures.value);
 })
