@@ -2,7 +2,7 @@
 use Rattle.std.proofs.Common.{◌≡◌, ◌⊎◌, inl, inr, ℕ, ◌<◌, ◌≤◌, List, ◌++◌, length, Option, Some, None, Result, Ok, Err, IfOk, refl, sym, ap, subst, ◌∙◌, arith, length-append}
 use Rattle.std.proofs.lemmas.Bool.{cases_lt}
 use Rattle.std.proofs.lemmas.List.{append-nil}
-use Rattle.std.specs.Prelude.{codes}
+use Rattle.std.specs.Prelude.{MatchResult, codes}
 use Rattle.std.specs.Io.KnownBytes.{append_known}
 use Rattle.std.specs.Fmt.{decimal}
 use Rattle.script_lang.specs.declared.command.Command as whole
@@ -162,6 +162,14 @@ module _ (x : HaveOneReading) (bytes text : List ℕ) (s : Status) (left left' t
 -- for a script its report is due
 pub due_report : (bytes : List ℕ) (script : List Command) → length bytes ≤ script_limit → IsScript bytes script → IsDue bytes Done (report script (run_of script))
 due_report bytes script short is = record { short = short; script = script; is_script = is; text_is = refl }
+
+-- ---- what a call found, or where it found nothing
+
+pub found : {V : Type 0} (r : Result V ℕ) (v : V) (P : V → Type 0) (Q : ℕ → Type 0) → r ≡ Ok v → MatchResult r P Q → P v
+found r v P Q is told = subst (λ o. MatchResult o P Q) is told
+
+pub missed : {V : Type 0} (r : Result V ℕ) (n : ℕ) (P : V → Type 0) (Q : ℕ → Type 0) → r ≡ Err n → MatchResult r P Q → Q n
+missed r n P Q is told = subst (λ o. MatchResult o P Q) is told
 
 -- ---- an answer with a status and a text is due
 

@@ -1,6 +1,6 @@
 //! The text that is due for the bytes of a script.
 
-ghost use Rattle.std.specs.Prelude.{IfOk, ◌≡◌, ◌≤◌, length, Some};
+ghost use Rattle.std.specs.Prelude.{IfOk, ◌≡◌, ◌≤◌, ◌<◌, length, slice_get, Some};
 ghost use Rattle.script_lang.specs.Script.{reading, Commands};
 ghost use Rattle.thin_script.specs.Built.{first_unbuilt};
 ghost use Rattle.thin_script.specs.Script.{IsScript};
@@ -88,7 +88,15 @@ fn missing_due(alloc: Global, bytes: &[u8], _script: &Script, place: usize) -> R
     // a law, so that the command has a line
     commands_have_lines();
     let numbers = line_numbers(alloc, bytes)?;
-    complaint_due(alloc, numbers[place], 0)
+    complaint_due(alloc, line_at(&numbers, place), 0)
+}
+
+/// The number of the line at a place.
+fn line_at(numbers: &[u64], place: usize) -> u64
+    requires { place < length numbers.now }
+    ensures { slice_get numbers.now place ≡ Some result }
+{
+    numbers[place]
 }
 
 /// The line that names a limit which is passed.

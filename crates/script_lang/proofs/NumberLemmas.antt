@@ -1,6 +1,6 @@
 -- The numbers that lines give, one line after the other.
-use Rattle.std.proofs.Common.{◌≡◌, ℕ, ◌+◌, ◌<◌, List, [], ◌∷◌, ◌++◌, length, map, drop, get_or, Ok, Err, Result, sym, ap, ◌∙◌, append_assoc}
-use Rattle.std.proofs.lemmas.List.{append-nil, drop_more}
+use Rattle.std.proofs.Common.{◌≡◌, ℕ, ◌+◌, ◌<◌, List, ◌++◌, length, map, drop, get_or, Ok, sym, ap, ◌∙◌, append_assoc}
+use Rattle.std.proofs.lemmas.List.{drop_more}
 use Rattle.script_lang.specs.Numbering.{numbers_by, numbers_from, numbers_then}
 use Rattle.script_lang.specs.Script.{State, line_step}
 
@@ -18,10 +18,3 @@ numbers_next f xs i d old new before after all within so_far is added =
     ap (λ ns. ns ++ rest) added ∙ append_assoc before (numbers_by old (i + 1) new) rest
     ∙ ap (λ ns. before ++ ns) (sym (front_numbers f xs i d old (i + 1) within ∙ ap (λ r. numbers_then old (i + 1) r (λ s. numbers_from s (i + 1 + 1) (map f (drop (i + 1) xs)))) is))
     ∙ so_far
-
--- a line that isn't ends them
-pub numbers_end : {X : Type 0} (f : X → List ℕ) (xs : List X) (i : ℕ) (d : X) (old : State) (before after all : List ℕ) → i < length xs
-    → before ++ numbers_from old (i + 1) (map f (drop i xs)) ≡ all → ((others : State → List ℕ) → numbers_then old (i + 1) (line_step old (i + 1) (f (get_or xs i d))) others ≡ []) → after ≡ before
-    → after ≡ all
-numbers_end f xs i d old before after all within so_far none same =
-    same ∙ sym (append-nil before) ∙ ap (λ ns. before ++ ns) (sym (front_numbers f xs i d old (i + 1) within ∙ none (λ s. numbers_from s (i + 1 + 1) (map f (drop (i + 1) xs))))) ∙ so_far

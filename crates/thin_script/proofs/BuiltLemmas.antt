@@ -14,7 +14,10 @@ pub record GoesOn (all rest : List whole.Command) (lines : List Command) : Type 
   pub first_is : (n : ℕ) → first_unbuilt rest ≡ Some n → first_unbuilt all ≡ Some (length lines + n)
 
 pub goes_on_start : (all : List whole.Command) → GoesOn all all []
-goes_on_start all = record { lines_are = λ others is. is; first_is = λ n is. is }
+goes_on_start all = record { lines_are = λ others is. is; first_is = λ n is. is ∙ ap Some (same n) }
+  where
+    same : (n : ℕ) → n ≡ 0 + n
+    same n = omega arith
 
 one_more : (c : whole.Command) (rest : List whole.Command) (line : Command) (others : List Command) → thin_command c ≡ Some line → thin_commands rest ≡ Some others
     → thin_commands (c ∷ rest) ≡ Some (line ∷ others)

@@ -1,4 +1,4 @@
--- What the proof of `annex` needs beside the tactics.
+-- What is answered is the one thing that is due.
 use Rattle.thin_driver.specs.Driver.{run_of}
 use Rattle.report_text.specs.Report.{report}
 use Rattle.annex_cli.proofs.DueLemmas.{HaveOneReading, due_answered, due_report}

@@ -1,13 +1,11 @@
--- What the proof of `due::report_due` needs beside the tactics.
-use Rattle.std.proofs.Common.{◌≡◌, sym, ap, ◌∙◌, subst, List, length}
-use Rattle.annex_base.specs.Lists.{Each}
+-- The run of the lines is what the report wants, and is good.
+use Rattle.std.proofs.Common.{◌≡◌, sym, ap, ◌∙◌, subst, List}
 use Rattle.run_data.specs.declared.run.Run.{Run}
 use Rattle.thin_model.specs.Thin.{IsThinRun}
 use Rattle.thin_script.specs.declared.command.Command.{Command}
 use Rattle.thin_script.specs.Program.{IsProgram}
 use Rattle.thin_driver.specs.Driver.{run_of}
 use Rattle.report_text.specs.Report.{report}
-use Rattle.report_text.specs.Walk.{ShowsKnown}
 use Rattle.annex_cli.specs.Top.{IsGood}
 use Rattle.annex_cli.proofs.ReportLemmas.{script_is_thin, thin_logged, script_shows_known}
 use Rattle.annex_cli.proofs.due.report_due.Goals as goal

@@ -1,4 +1,4 @@
--- What the proof of `shown::put_presence` needs beside the tactics.
+-- The parts of the line, one after the other.
 use Rattle.std.proofs.Common.{append_assoc}
 use Rattle.report_text.proofs.shown.put_presence.Goals as goal
 

@@ -1,4 +1,4 @@
--- What the proof of `standing::commands_have_lines` needs beside the tactics.
+-- The lines of commands are counted as the commands are.
 use Rattle.script_lang.proofs.StandingLines.{text_counts}
 use Rattle.script_lang.proofs.VerifyLemmas.{right_is, made_is}
 use Rattle.script_lang.proofs.standing.commands_have_lines.Goals as goal

@@ -1,6 +1,4 @@
--- What the proof of `standing::commands_stand` needs beside the tactics.
-use Rattle.std.proofs.Common.{ap, subst, sym, ◌≡◌, true, refl}
-use Rattle.annex_key.specs.KeyText.{IsKeyText}
+-- What each command of a text has, from the laws of keys and of their contents.
 use Rattle.script_lang.proofs.StandingLines.{text_stands}
 use Rattle.script_lang.proofs.VerifyLemmas.{right_is, made_is}
 use Rattle.script_lang.proofs.standing.commands_stand.Goals as goal

@@ -1,4 +1,4 @@
--- What the proof of `laws::built_scripts_are_programs` needs beside the tactics.
+-- What each command has where it stands, its line has.
 use Rattle.thin_script.proofs.ProgramLemmas.{program_is}
 use Rattle.thin_script.proofs.laws.built_scripts_are_programs.Goals as goal
 

@@ -1,4 +1,4 @@
--- What the proof of `laws::scripts_are_built_or_not` needs beside the tactics.
+-- A reading is one thing, and so are the lines and the first place that it gives.
 use Rattle.std.proofs.Common.{ℕ, List, Some, Option, ap, sym, ◌∙◌, subst}
 use Rattle.std.specs.Prelude.{◌≡◌, slice_get}
 use Rattle.script_lang.specs.declared.command.Command as whole

@@ -1,4 +1,4 @@
--- What the proof of `driver::Driver::apply` needs beside the tactics.
+-- What each line does, by its form.
 use Rattle.std.proofs.Common.{sym, subst}
 use Rattle.thin_script.specs.declared.command.Command.{Command}
 use Rattle.annex_base.proofs.Lists.{Contains-from_Member}
