@@ -23,7 +23,7 @@ use Rattle.run_model.specs.Run.{OwnPart}
 use Rattle.driver_model.proofs.EndLemmas.{end_own, may_epoch, out_sender-is, out_taker-is, own_takes, sends_all, takes_end, way_out}
 use Rattle.driver_model.proofs.Premises.{StepsFind}
 use Rattle.driver_model.specs.Driver.{Driver, Flight, but_first, but_taken, end_to, flight, frames_to, is_at, is_old, old_at}
-use Rattle.driver_model.proofs.WayNumbers.{InOrder, follow_at, frames_sent, sent_more, sent_same_as}
+use Rattle.driver_model.proofs.WayNumbers.{InOrder, follow_at, views_sent, sent_more, sent_same_as}
 
 -- ---- ends that are past an epoch
 
@@ -132,7 +132,7 @@ abbrev pub flying_on : ℕ → EndName → ℕ → List Flight → List Told
 flying_on r a n xs = map (λ x. told x.frame) (filter (is_flight r a n) xs)
 
 abbrev pub told_sent : List Entry → Way → List Told
-told_sent past w = map told (frames_sent past w)
+told_sent past w = map told (views_sent past w)
 
 pub record Live (past : List Entry) (xs : List Flight) (r : ℕ) (a : EndName) (n : ℕ) : Type 0 where
   pub inside : taken_count past (way_out r a n) ≤ length (told_sent past (way_out r a n))
@@ -400,7 +400,7 @@ module _ (finds : StepsFind) (s : SetUp) (past : List Entry) (words : ℕ → Op
       sent_new = go (p == r) refl
         where
           go : (b : Bool) → (p == r) ≡ b → told_sent (e ∷ past) w ≡ told_sent past w ++ flying_on r a n new
-          go true i = ap (map told) (sent_more e past w (of_sender ∙ i)) ∙ map_append told (frames_sent past w) (on_way w e)
+          go true i = ap (map told) (sent_more e past w (of_sender ∙ i)) ∙ map_append told (views_sent past w) (on_way w e)
               ∙ ap (λ zs. told_sent past w ++ zs) (ap (λ k. map told (filter (is_on w k) e.sent)) (out_taker-is r a n) ∙ sym (told_new e.sent ∙ rw i refl))
           go false i = ap (map told) (sent_same_as e past w (of_sender ∙ i)) ∙ sym (append-nil (told_sent past w)) ∙ ap (λ zs. told_sent past w ++ zs) (sym (told_new e.sent ∙ rw i refl))
 
@@ -452,9 +452,9 @@ module _ (finds : StepsFind) (s : SetUp) (past : List Entry) (words : ℕ → Op
           let two = taken_first s.number f xs (first f i) f.peer (record { peer = s.number; slot = f.slot; client = f.up }) f.epoch hit in
           let w = way_of s.number f in
           let z = drop_first (taken_count past w) (told_sent past w) (told f) (flying_on f.peer (record { peer = s.number; slot = f.slot; client = f.up }) f.epoch (first f i).back) (sym two.0 ∙ l.same) in
-          let g = mapped_at told (frames_sent past w) (taken_count past w) (told f) z.2 in
+          let g = mapped_at told (views_sent past w) (taken_count past w) (told f) z.2 in
           let x = mapped_at (λ (x : Flying). x.frame) (frames_sent past w) (taken_count past w) g.0 g.1 in
-          let seq : g.0.seq ≡ 0 + taken_count past w + 1 = follow_at 0 (taken_count past w) (frames_sent past w) g.0 order.follow g.1 in
+          let seq : g.0.seq ≡ 0 + taken_count past w + 1 = follow_at 0 (taken_count past w) (views_sent past w) g.0 order.follow g.1 in
           record { it = x.0; next = x.1; seq_is = sym (ap (λ (t : Told). t.seq) g.2) ∙ seq ∙ ap (λ k. k + 1) (none_more (taken_count past w)); body_is = ap (λ (h : FrameView). h.body) x.2 ∙ ap (λ (t : Told). t.body) g.2 }
 
       go : Flies past xs f.peer (record { peer = s.number; slot = f.slot; client = f.up }) f.epoch → MayTake past (way_of s.number f) f

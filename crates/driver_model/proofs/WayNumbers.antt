@@ -102,12 +102,12 @@ counted_takes c f n len may x = go (is_opening f.body) refl
 
 -- ---- the frames of a way
 
-abbrev pub frames_sent : List Entry → Way → List FrameView
-frames_sent past w = map (λ x. x.frame) (frames_sent past w)
+abbrev pub views_sent : List Entry → Way → List FrameView
+views_sent past w = map (λ x. x.frame) (frames_sent past w)
 
 pub record InOrder (past : List Entry) (r : ℕ) (a : EndName) (n : ℕ) : Type 0 where
-  pub counted : Counted (end_at past r a) n (length (frames_sent past (way_out r a n)))
-  pub follow : Follow 0 (frames_sent past (way_out r a n))
+  pub counted : Counted (end_at past r a) n (length (views_sent past (way_out r a n)))
+  pub follow : Follow 0 (views_sent past (way_out r a n))
 
 map_append : {X Y : Type 0} (f : X → Y) (xs ys : List X) → map f (xs ++ ys) ≡ map f xs ++ map f ys
 map_append f [] ys = refl
@@ -118,10 +118,10 @@ frames_flying e past [] = refl
 frames_flying e past (g ∷ gs) = ap (λ zs. g ∷ zs) (frames_flying e past gs)
 
 -- what an entry of the sender adds
-pub sent_more : (e : Entry) (past : List Entry) (w : Way) → is_of (sender_of w) e ≡ true → frames_sent (e ∷ past) w ≡ frames_sent past w ++ on_way w e
+pub sent_more : (e : Entry) (past : List Entry) (w : Way) → is_of (sender_of w) e ≡ true → views_sent (e ∷ past) w ≡ views_sent past w ++ on_way w e
 sent_more e past w is = rw is (map_append (λ x. x.frame) (frames_sent past w) (map (flying e past) (on_way w e)) ∙ ap (λ gs. map (λ x. x.frame) (frames_sent past w) ++ gs) (frames_flying e past (on_way w e)))
 
-pub sent_same_as : (e : Entry) (past : List Entry) (w : Way) → is_of (sender_of w) e ≡ false → frames_sent (e ∷ past) w ≡ frames_sent past w
+pub sent_same_as : (e : Entry) (past : List Entry) (w : Way) → is_of (sender_of w) e ≡ false → views_sent (e ∷ past) w ≡ views_sent past w
 sent_same_as e past w is = rw is refl
 
 length_append : {X : Type 0} (xs ys : List X) → length (xs ++ ys) ≡ length xs + length ys
@@ -133,11 +133,11 @@ order_begins r a n = record { counted = record { not_yet = λ i. refl; at_it = �
 
 pub order_other : (r : ℕ) (a : EndName) (n : ℕ) (past : List Entry) (e : Entry) → is_of r e ≡ false → InOrder past r a n → InOrder (e ∷ past) r a n
 order_other r a n past e is x = record {
-  counted = subst (λ gs. Counted (end_at (e ∷ past) r a) n (length gs)) (sym same) (subst (λ (c : End). Counted c n (length (frames_sent past (way_out r a n)))) (sym end_same) x.counted);
+  counted = subst (λ gs. Counted (end_at (e ∷ past) r a) n (length gs)) (sym same) (subst (λ (c : End). Counted c n (length (views_sent past (way_out r a n)))) (sym end_same) x.counted);
   follow = subst (Follow 0) (sym same) x.follow;
 }
   where
-    same : frames_sent (e ∷ past) (way_out r a n) ≡ frames_sent past (way_out r a n)
+    same : views_sent (e ∷ past) (way_out r a n) ≡ views_sent past (way_out r a n)
     same = sent_same_as e past (way_out r a n) (ap (λ k. is_of k e) (out_sender-is r a n) ∙ is)
 
     end_same : end_at (e ∷ past) r a ≡ end_at past r a
@@ -146,8 +146,8 @@ order_other r a n past e is x = record {
 pub order_own : StepsFind → (s : SetUp) (a : EndName) (n : ℕ) (past : List Entry) (words : ℕ → Option Word) (e : Entry) → is_of s.number e ≡ true → OwnPart s past words e → TakesWell e.taken
     → InOrder past s.number a n → InOrder (e ∷ past) s.number a n
 order_own finds s a n past words e is own well x = record {
-  counted = subst (λ (c : End). Counted c n (length (frames_sent (e ∷ past) w))) (sym (end_own s.number past a e is)) (subst (Counted (sends_all mid (sent_at a e.sent)) n) (sym count) (all_follow mid (sent_at a e.sent) n len num took).1);
-  follow = subst (Follow 0) (sym more) (follow_append 0 (frames_sent past w) (of_epoch n (sent_at a e.sent)) x.follow (from_none len (of_epoch n (sent_at a e.sent)) (all_follow mid (sent_at a e.sent) n len num took).0));
+  counted = subst (λ (c : End). Counted c n (length (views_sent (e ∷ past) w))) (sym (end_own s.number past a e is)) (subst (Counted (sends_all mid (sent_at a e.sent)) n) (sym count) (all_follow mid (sent_at a e.sent) n len num took).1);
+  follow = subst (Follow 0) (sym more) (follow_append 0 (views_sent past w) (of_epoch n (sent_at a e.sent)) x.follow (from_none len (of_epoch n (sent_at a e.sent)) (all_follow mid (sent_at a e.sent) n len num took).0));
 }
   where
     r : ℕ
@@ -157,7 +157,7 @@ order_own finds s a n past words e is own well x = record {
     w = way_out r a n
 
     len : ℕ
-    len = length (frames_sent past w)
+    len = length (views_sent past w)
 
     mid : End
     mid = end_took (end_at past r a) (taken_at a e.taken)
@@ -165,20 +165,20 @@ order_own finds s a n past words e is own well x = record {
     num : Numbered (end_took (end_at past s.number a) (taken_at a e.taken)) (sent_at a e.sent)
     num = numbered finds s past words e a own well
 
-    more : frames_sent (e ∷ past) (way_out s.number a n) ≡ frames_sent past (way_out s.number a n) ++ of_epoch n (sent_at a e.sent)
-    more = sent_more e past (way_out s.number a n) (ap (λ k. is_of k e) (out_sender-is s.number a n) ∙ is) ∙ ap (λ gs. frames_sent past (way_out s.number a n) ++ gs) (on_out s.number a n e)
+    more : views_sent (e ∷ past) (way_out s.number a n) ≡ views_sent past (way_out s.number a n) ++ of_epoch n (sent_at a e.sent)
+    more = sent_more e past (way_out s.number a n) (ap (λ k. is_of k e) (out_sender-is s.number a n) ∙ is) ∙ ap (λ gs. views_sent past (way_out s.number a n) ++ gs) (on_out s.number a n e)
 
-    count : length (frames_sent (e ∷ past) (way_out s.number a n)) ≡ length (frames_sent past (way_out s.number a n)) + length (of_epoch n (sent_at a e.sent))
-    count = ap length more ∙ length_append (frames_sent past (way_out s.number a n)) (of_epoch n (sent_at a e.sent))
+    count : length (views_sent (e ∷ past) (way_out s.number a n)) ≡ length (views_sent past (way_out s.number a n)) + length (of_epoch n (sent_at a e.sent))
+    count = ap length more ∙ length_append (views_sent past (way_out s.number a n)) (of_epoch n (sent_at a e.sent))
 
-    took : Counted (end_took (end_at past s.number a) (taken_at a e.taken)) n (length (frames_sent past (way_out s.number a n)))
+    took : Counted (end_took (end_at past s.number a) (taken_at a e.taken)) n (length (views_sent past (way_out s.number a n)))
     took = go e.taken refl
       where
-        at : (f : FrameView) → e.taken ≡ Some f → (b : Bool) → takes_at a f ≡ b → Counted (end_took (end_at past s.number a) (if b then Some f else None)) n (length (frames_sent past (way_out s.number a n)))
+        at : (f : FrameView) → e.taken ≡ Some f → (b : Bool) → takes_at a f ≡ b → Counted (end_took (end_at past s.number a) (if b then Some f else None)) n (length (views_sent past (way_out s.number a n)))
         at f i false t = x.counted
-        at f i true t = counted_takes (end_at past s.number a) f n (length (frames_sent past (way_out s.number a n)))
+        at f i true t = counted_takes (end_at past s.number a) f n (length (views_sent past (way_out s.number a n)))
             (ap (λ (z : EndName). may_take (end_at past s.number z) f) (sym (takes_end a f t)) ∙ own_takes finds s past words e f own i) x.counted
 
-        go : (o : Option FrameView) → e.taken ≡ o → Counted (end_took (end_at past s.number a) (taken_at a e.taken)) n (length (frames_sent past (way_out s.number a n)))
-        go None i = subst (λ (o : Option FrameView). Counted (end_took (end_at past s.number a) (taken_at a o)) n (length (frames_sent past (way_out s.number a n)))) (sym i) x.counted
-        go (Some f) i = subst (λ (o : Option FrameView). Counted (end_took (end_at past s.number a) (taken_at a o)) n (length (frames_sent past (way_out s.number a n)))) (sym i) (at f i (takes_at a f) refl)
+        go : (o : Option FrameView) → e.taken ≡ o → Counted (end_took (end_at past s.number a) (taken_at a e.taken)) n (length (views_sent past (way_out s.number a n)))
+        go None i = subst (λ (o : Option FrameView). Counted (end_took (end_at past s.number a) (taken_at a o)) n (length (views_sent past (way_out s.number a n)))) (sym i) x.counted
+        go (Some f) i = subst (λ (o : Option FrameView). Counted (end_took (end_at past s.number a) (taken_at a o)) n (length (views_sent past (way_out s.number a n)))) (sym i) (at f i (takes_at a f) refl)

@@ -145,7 +145,7 @@ close_kind h = Close h.at.peer h.at.slot false
 
 -- anything that isn't expected
 abbrev pub unexpected_reply : Here → Reply
-unexpected_reply h = record { kind = close_kind h; says = Line (text_of (Error (codes "unexpected_reply"))) ∷ Closing ∷ [] }
+unexpected_reply h = record { kind = close_kind h; says = Line (text_of (Error (codes "unexpected"))) ∷ Closing ∷ [] }
 
 -- one of these calls fails, and this is said; else the reply stands
 abbrev pub tries : Here → List Call → List FrameText → Reply → Reply

@@ -115,7 +115,7 @@ module _ (reads_back : SentAreRead) (s : SetUp) (past : List Entry) (words : ℕ
           settled x spoke (inl z) = absurd z.1
           settled x spoke (inr (inr z)) = absurd (apart (DropStep.first_end (turn_at s past e x.by)) _ z.2)
             where
-              apart : (o : Option ℕ) (c : ℕ) → Refused (refusals.Denied answer) ≡ DropStep.expired c o → ⊥
+              apart : (o : Option ℕ) (c : ℕ) → Refused (refusals.Denied answer) ≡ DropStep.expiry c o → ⊥
               apart None c e = cc
               apart (Some m) c e = cc
           settled x spoke (inr (inl z)) =

@@ -74,10 +74,10 @@ module _ (reads_back : SentAreRead) (s : SetUp) (past : List Entry) (words : ℕ
     where
       settled : (x : Ending s past e j (Refused (refusals.Required text))) → DropSettled (turn_at s past e x.by) past (refusals.Required text) → ⊥
       settled x (inl z) = z.1
-      settled x (inr (inl z)) = let no' : Refused (refusals.Required text) ≡ DropStep.denied (turn_at s past e x.by) = z.1 in cc
+      settled x (inr (inl z)) = let no' : Refused (refusals.Required text) ≡ DropStep.denial_outcome (turn_at s past e x.by) = z.1 in cc
       settled x (inr (inr z)) = apart (DropStep.first_end (turn_at s past e x.by)) _ z.2
         where
-          apart : (o : Option ℕ) (c : ℕ) → Refused (refusals.Required text) ≡ DropStep.expired c o → ⊥
+          apart : (o : Option ℕ) (c : ℕ) → Refused (refusals.Required text) ≡ DropStep.expiry c o → ⊥
           apart None c e = cc
           apart (Some m) c e = cc
 
@@ -88,10 +88,10 @@ module _ (reads_back : SentAreRead) (s : SetUp) (past : List Entry) (words : ℕ
     where
       settled : (x : Ending s past e j (Refused refusals.Crashed)) → DropSettled (turn_at s past e x.by) past refusals.Crashed → ⊥
       settled x (inl z) = z.1
-      settled x (inr (inl z)) = let no' : Refused refusals.Crashed ≡ DropStep.denied (turn_at s past e x.by) = z.1 in cc
+      settled x (inr (inl z)) = let no' : Refused refusals.Crashed ≡ DropStep.denial_outcome (turn_at s past e x.by) = z.1 in cc
       settled x (inr (inr z)) = apart (DropStep.first_end (turn_at s past e x.by)) _ z.2
         where
-          apart : (o : Option ℕ) (c : ℕ) → Refused refusals.Crashed ≡ DropStep.expired c o → ⊥
+          apart : (o : Option ℕ) (c : ℕ) → Refused refusals.Crashed ≡ DropStep.expiry c o → ⊥
           apart None c e = cc
           apart (Some m) c e = cc
 

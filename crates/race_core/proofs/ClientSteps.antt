@@ -415,7 +415,7 @@ module _ (t : Turn) (f : FrameView) (peer : ℕ) (x : Taking t f peer) (speaks :
       (ap (λ (q : Phase). (Jobs.word_taken (talker t (Some f)) (line_in f.body) q).phase) (talker_phase t (Some f) ∙ is)) (inl refl) refl (λ l e. absurd (true≢false (sym e)))
 
   gains_even : (p start size : ℕ) → t.w.phase ≡ GetsWord p start size → line_in f.body ≡ Some Valid → (right : Bool) → EvenMade t (gains t f peer size right)
-  gains_even p start size is told true = subst (λ (q : Phase). EvenTo t (says_to t (Gain (by_me t) size (key_of t)) (Some f) peer Success) (Jobs.gained t.w q).phase) (sym is)
+  gains_even p start size is told true = subst (λ (q : Phase). EvenTo t (says_to t (Gain (by_me t) size (key_of t)) (Some f) peer Success) (Jobs.after_gain t.w q).phase) (sym is)
       (let r = rests t (after_transfer t.w (Got (Some p) (Some start))).phase peer (transferred_alone t.w.what.peer t.w (Got (Some p) (Some start))) in
       tells_to t (Gain (by_me t) size (key_of t)) f peer x Success (after_transfer t.w (Got (Some p) (Some start))).phase (answers_line f.body Valid told refl) success_reads refl r.stays r.now r.any)
   gains_even p start size is told false = refused_even p start size Valid is told refl

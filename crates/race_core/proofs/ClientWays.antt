@@ -232,7 +232,7 @@ got_on r peer slot past n = taken_if is_answer past (down_way r (client_end peer
 
 asked_more : (r peer slot : ℕ) (e : Entry) (past : List Entry) (n : ℕ) → is_of r e ≡ true
     → asked_on r peer slot (e ∷ past) n ≡ asked_on r peer slot past n ++ map (flying e past) (filter (says is_request) (filter (λ g. g.epoch == n) (sent_at (client_end peer slot) e.sent)))
-asked_more r peer slot e past n own = rw own (filter-append (λ x. says is_request x.frame) (Frames.sent past (up_way r (client_end peer slot) n)) (map (flying e past) (on_way (up_way r (client_end peer slot) n) e))
+asked_more r peer slot e past n own = rw own (filter-append (λ x. says is_request x.frame) (Frames.frames_sent past (up_way r (client_end peer slot) n)) (map (flying e past) (on_way (up_way r (client_end peer slot) n) e))
     ∙ ap (λ ys. asked_on r peer slot past n ++ ys) (filter_flying e past (on_way (up_way r (client_end peer slot) n) e)
     ∙ ap (λ fs. map (flying e past) (filter (says is_request) fs)) (on_way_end r peer slot n e)))
 

@@ -104,10 +104,10 @@ module _ (reads_back : SentAreRead) (s : SetUp) (past : List Entry) (words : ℕ
         closed = subst (ShutStands r past (running x.by.w)) z.0 (shut_stands s past h.run told x.by.w x.runs);
         ordered_is = orders x.by.w x.runs ordered z.0;
       }
-      settled x (inr (inl z)) = absurd (let no' : Refused (refusals.Lost ordered) ≡ DropStep.denied (turn_at s past e x.by) = z.1 in cc)
+      settled x (inr (inl z)) = absurd (let no' : Refused (refusals.Lost ordered) ≡ DropStep.denial_outcome (turn_at s past e x.by) = z.1 in cc)
       settled x (inr (inr z)) = absurd (apart (DropStep.first_end (turn_at s past e x.by)) _ z.2)
         where
-          apart : (o : Option ℕ) (c : ℕ) → Refused (refusals.Lost ordered) ≡ DropStep.expired c o → ⊥
+          apart : (o : Option ℕ) (c : ℕ) → Refused (refusals.Lost ordered) ≡ DropStep.expiry c o → ⊥
           apart None c e = cc
           apart (Some m) c e = cc
 
@@ -157,7 +157,7 @@ module _ (reads_back : SentAreRead) (s : SetUp) (past : List Entry) (words : ℕ
           by_side Local e = by_word None e
           by_side Remote e = by_word (t.look.words (target t)) e
 
-          by_end : (end : Option ℕ) (clk : ℕ) → TransferRefused failures.Closed ≡ DropStep.expired clk end → ⊥
+          by_end : (end : Option ℕ) (clk : ℕ) → TransferRefused failures.Closed ≡ DropStep.expiry clk end → ⊥
           by_end None clk e = absurd (cc)
           by_end (Some end) clk e = absurd (cc)
 

@@ -33,7 +33,7 @@ is_get _ = false
 -- ---- the three ways
 
 abbrev pub Closes : List FrameText → Type 0
-Closes says = (says ≡ Closing ∷ []) ⊎ (says ≡ Line (text_of (Error (codes "unexpected_reply"))) ∷ Closing ∷ [])
+Closes says = (says ≡ Closing ∷ []) ⊎ (says ≡ Line (text_of (Error (codes "unexpected"))) ∷ Closing ∷ [])
 
 abbrev pub Answers : Bool → Doing → List FrameText → Type 0
 Answers q was says = (m : Message) × (says ≡ Line (text_of m) ∷ []) × (completes m ≡ true) × (q ≡ true) × (calm was ≡ true)

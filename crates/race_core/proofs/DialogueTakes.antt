@@ -277,7 +277,7 @@ module _ (t : Turn) (f : FrameView) (peer : ℕ) (x : Taking t f peer) (walks : 
 
   gains_good : (p start size : ℕ) → t.w.phase ≡ GetsWord p start size → line_in f.body ≡ Some Valid → (right : Bool) → GoodMade t (gains t f peer size right)
   gains_good p start size is told true = (
-    subst (λ (q : Phase). KeepsTo t (says_to t (Gain (by_me t) size (key_of t)) (Some f) peer Success) (Jobs.gained t.w q)) (sym is)
+    subst (λ (q : Phase). KeepsTo t (says_to t (Gain (by_me t) size (key_of t)) (Some f) peer Success) (Jobs.after_gain t.w q)) (sym is)
         (let done = after_transfer t.w (Got (Some p) (Some start)) in
         says_to_keeps t (Gain (by_me t) size (key_of t)) f peer x (GetsWord p start size) is Success done (inl (transferred_alone t.w.what.peer t.w (Got (Some p) (Some start))))
         (λ z up down v y. to_rest t.w.what.peer done.phase (kept done peer) peer z (up ++ Line (text_of Success) ∷ []) down (transferred_alone t.w.what.peer t.w (Got (Some p) (Some start)))

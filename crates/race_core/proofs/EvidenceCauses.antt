@@ -112,12 +112,12 @@ module _ (reads_back : SentAreRead) (s : SetUp) (past : List Entry) (words : ℕ
 
       settled : (x : Ending s past e j (Refused (refusals.Expired end clk))) → DropSettled (turn_at s past e x.by) past (refusals.Expired end clk) → FoundExpired s.repos past r x.by.w.number e.time end clk
       settled x (inl z) = absurd z.1
-      settled x (inr (inl z)) = absurd (let no' : Refused (refusals.Expired end clk) ≡ DropStep.denied (turn_at s past e x.by) = z.1 in cc)
+      settled x (inr (inl z)) = absurd (let no' : Refused (refusals.Expired end clk) ≡ DropStep.denial_outcome (turn_at s past e x.by) = z.1 in cc)
       settled x (inr (inr z)) =
           let w = x.by.w in
           let time = z.0 in
           let k : KnewAt s past w (Late time) = subst (KnewAt s past w) z.1 (knew reads_back s past h w x.runs) in
-          let both : Refused (refusals.Expired end clk) ≡ Refused (refusals.Expired k.0 (clock s.repos past r time)) = z.2 ∙ ap (DropStep.expired (clock s.repos past r time)) k.1.first in
+          let both : Refused (refusals.Expired end clk) ≡ Refused (refusals.Expired k.0 (clock s.repos past r time)) = z.2 ∙ ap (DropStep.expiry (clock s.repos past r time)) k.1.first in
           let same_end : end ≡ k.0 = ends both in
           let same_clock : clk ≡ clock s.repos past r time = clocks both in
           record {
@@ -147,10 +147,10 @@ module _ (reads_back : SentAreRead) (s : SetUp) (past : List Entry) (words : ℕ
           let w = x.by.w in
           let k : KnewAt s past w (Ends (Refused (refusals.OldProtocol n))) = subst (KnewAt s past w) z.0 (knew reads_back s past h w x.runs) in
           record { d = job_of s past h w x.runs; hears = z.1.0; old = ltb-true n 3 z.1.1; locked = locked_by (items s.repos past r w.number (job_of s past h w x.runs)) k.0 (ap least_end (items_known w x.runs k.1.enough) ∙ k.1.first) }
-      settled x (inr (inl z)) = absurd (let no' : Refused (refusals.OldProtocol n) ≡ DropStep.denied (turn_at s past e x.by) = z.1 in cc)
+      settled x (inr (inl z)) = absurd (let no' : Refused (refusals.OldProtocol n) ≡ DropStep.denial_outcome (turn_at s past e x.by) = z.1 in cc)
       settled x (inr (inr z)) = absurd (apart (DropStep.first_end (turn_at s past e x.by)) _ z.2)
         where
-          apart : (o : Option ℕ) (c : ℕ) → Refused (refusals.OldProtocol n) ≡ DropStep.expired c o → ⊥
+          apart : (o : Option ℕ) (c : ℕ) → Refused (refusals.OldProtocol n) ≡ DropStep.expiry c o → ⊥
           apart None c e = cc
           apart (Some m) c e = cc
 
@@ -284,9 +284,9 @@ module _ (reads_back : SentAreRead) (s : SetUp) (past : List Entry) (words : ℕ
 
       settled : (x : Ending s past e j (Refused (refusals.Lacking proof reasons))) → DropSettled (turn_at s past e x.by) past (refusals.Lacking proof reasons) → ⊥
       settled x (inl z) = z.1
-      settled x (inr (inl z)) = let no' : Refused (refusals.Lacking proof reasons) ≡ DropStep.denied (turn_at s past e x.by) = z.1 in cc
+      settled x (inr (inl z)) = let no' : Refused (refusals.Lacking proof reasons) ≡ DropStep.denial_outcome (turn_at s past e x.by) = z.1 in cc
       settled x (inr (inr z)) = apart (DropStep.first_end (turn_at s past e x.by)) _ z.2
         where
-          apart : (o : Option ℕ) (c : ℕ) → Refused (refusals.Lacking proof reasons) ≡ DropStep.expired c o → ⊥
+          apart : (o : Option ℕ) (c : ℕ) → Refused (refusals.Lacking proof reasons) ≡ DropStep.expiry c o → ⊥
           apart None c e = cc
           apart (Some m) c e = cc

@@ -66,13 +66,13 @@ module _ (t : Turn) (m : Made) (p n : ℕ) (f : FrameView) (at : t.w.phase ≡ G
 
   faulted : (call : Call) → IsLive (fault_of (me t) t.w t.look.time call).phase → is_greeted (stands_at (fault_of (me t) t.w t.look.time call) p) ≡ true → (fault_of (me t) t.w t.look.time call).version ≡ n
   faulted calls.PutFile live greeted = absurd (true≢false (sym greeted ∙ at_greets t.w at to))
-  faulted calls.Unhold live greeted = absurd (true≢false (sym greeted ∙ at_greets (Jobs.unreleased t.w t.look.time t.w.phase) (same t.w.phase at) (peer t.w.phase)))
+  faulted calls.Unhold live greeted = absurd (true≢false (sym greeted ∙ at_greets (Jobs.after_failed_release t.w t.look.time t.w.phase) (same t.w.phase at) (peer t.w.phase)))
     where
-      same : (phase : Phase) → phase ≡ Greets p → (Jobs.unreleased t.w t.look.time phase).phase ≡ Greets p
+      same : (phase : Phase) → phase ≡ Greets p → (Jobs.after_failed_release t.w t.look.time phase).phase ≡ Greets p
       same Jobs.AsksTime is = absurd (cc)
       same phase is = at
 
-      peer : (phase : Phase) → (Jobs.unreleased t.w t.look.time phase).what.peer ≡ Some p
+      peer : (phase : Phase) → (Jobs.after_failed_release t.w t.look.time phase).what.peer ≡ Some p
       peer Jobs.AsksTime = to
       peer phase = to
   faulted call live greeted = absurd (dead t.w.part (side_of t.w) t.w.phase at live)

@@ -195,7 +195,7 @@ held_by run key place judge c end hold since owner messages one told end_is last
     record {
       asking = ask.asked_it.entry;
       before = ask.asked_it.before;
-      offer_from = ask.asked_it.occurs;
+      asked = ask.asked_it.occurs;
       asks = ask.asks;
       end_is = end_is ∙ ap (λ n. n + hold_time) (end_then run.repos judge.past judge.repo judge.job since one ask.asked_it);
       hold = t.hold;
@@ -282,7 +282,7 @@ seen_by repos judge c key run h = by_vouch (vouches_by p x c judge.repo judge.jo
           free = found.0.free;
           asking = t.0.it.entry;
           before = t.0.it.before;
-          offer_from = t.0.sending.occurs;
+          asked = t.0.sending.occurs;
           job_is = t.0.is_asked;
           asks = sends_up p c judge.repo judge.job y.f (Says (CheckPresent key)) y.from_client y.asked_is t.0;
           told = elim given.told [ inl same ↦ absurd (own.taken_from y.f y.takes_it (asker_is p c judge.repo judge.job y.f t.0 ∙ sym same)) | inr k ↦ k ];

@@ -206,7 +206,7 @@ module _ (target : Option ℕ) where
     call_moves sent r time Unhold = unheld_moves sent time w.phase
     call_moves sent r time call = fault_moves sent r w.part (side_of w) w.phase
 
-    gained_moves : (sent : List FrameView) (phase : Phase) → Moves target w sent (Jobs.gained w phase)
+    gained_moves : (sent : List FrameView) (phase : Phase) → Moves target w sent (Jobs.after_gain w phase)
     gained_moves sent (GetsWord peer start size) = transferred_moves sent (Got (Some peer) (Some start))
     gained_moves sent phase = stays w sent w refl (λ p on. on)
 

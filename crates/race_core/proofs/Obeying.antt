@@ -168,8 +168,8 @@ filter_take p (suc n) (x ∷ xs) = go (filter_take p n xs) (p x)
     go ih true = omega (arith, ih)
     go ih false = ih
 
-taken_count : (repos : List RepoView) (past : List Entry) (w : Way) → MessagePast repos past → taken_if is_answer past w ≤ length (answers past w)
-taken_count repos past w run = let t = taken_of is_answer past w (prefixes repos past w run) in
+answers_taken : (repos : List RepoView) (past : List Entry) (w : Way) → MessagePast repos past → taken_if is_answer past w ≤ length (answers past w)
+answers_taken repos past w run = let t = taken_of is_answer past w (prefixes repos past w run) in
     subst (λ n. n ≤ length (answers past w)) (sym t.count) (filter_take (of_flying is_answer) (taken_count past w) (frames_sent past w))
 
 pub ordered_open : (repos : List RepoView) (past : List Entry) (e : Entry) (r a : ℕ) (key : List ℕ) (k : Takes repos past e r a key) → (t : MayTake past (way_of r k.f) k.f) → (o : Ordered repos past r a key k.f k.deadline t.it) → done past a o.j ≡ false
@@ -222,7 +222,7 @@ ordered_open repos past e r a key k t o = elim (cases_Bool (done past a o.j)) [ 
         let answered' : length (requests z.before (way_of r k.f)) ≤ taken_if is_answer z.before (down_of (way_of r k.f)) =
         subst (λ v. length (requests z.before v) ≤ taken_if is_answer z.before (down_of v)) way_it answered in
         let more = sent_later is_request z.before t.it.entry t.it.before (way_of r k.f) t.it.frame later is_from o.sends it_requests in
-        let count = taken_count repos past (down_of (way_of r k.f)) k.run in
+        let count = answers_taken repos past (down_of (way_of r k.f)) k.run in
         let within : length (answers past (down_of (way_of r k.f))) ≤ taken_if is_request past (way_of r k.f) = subst (λ v. length (answers past (down_of (way_of r k.f))) ≤ taken_if is_request past v) up_w (answers_within repos past (way_of r k.f) k.run) in
         omega (arith, answered', more, place, taken_later is_answer past z.entry z.before (down_of (way_of r k.f)) z.occurs, count, within)
 

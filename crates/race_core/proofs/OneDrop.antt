@@ -198,7 +198,7 @@ order_obeyed reads_back run place r a slot key h x =
     record {
       w = way_of r ob.f;
       n = ob.f.seq;
-      taken_count = takes_it;
+      taken = takes_it;
       from_a = sender_way r ob.f ∙ ob.peer_is;
       j = o.j;
       deadline = ob.deadline;

@@ -161,7 +161,7 @@ kept_other s past e w g is (Ends (Refused (refusals.Lost true))) x = tt
 kept_other s past e w g is phase x = absurd x
 
 -- a release that fails leaves such a job as it was
-unreleased_same : (w : Work) (time : ℕ) (phase : Phase) → Rested phase → Jobs.unreleased w time phase ≡ w
+unreleased_same : (w : Work) (time : ℕ) (phase : Phase) → Rested phase → Jobs.after_failed_release w time phase ≡ w
 unreleased_same w time Removed rested = refl
 unreleased_same w time Denied rested = refl
 unreleased_same w time (Ends outcome) rested = refl

@@ -227,7 +227,7 @@ call_kept r w time PutFile e = e
 call_kept r w time Unhold e = unheld_kept w time w.phase e
 call_kept r w time call e = absurd (true≢false (sym e ∙ fault_kept r w w.part (side_of w) w.phase))
 
-gained_kept : (w : Work) (phase : Phase) → has_order (Jobs.gained w phase).phase ≡ true → has_order w.phase ≡ true
+gained_kept : (w : Work) (phase : Phase) → has_order (Jobs.after_gain w phase).phase ≡ true → has_order w.phase ≡ true
 gained_kept w (GetsWord peer start size) e = absurd (true≢false (sym e ∙ transferred_off w (Got (Some peer) (Some start)) refl))
 gained_kept w phase e = e
 
@@ -236,7 +236,7 @@ kind_came rows r w e (Fault call owner) = kept e.sent w.phase (fault_of r w e.ti
 kind_came rows r w e (Bar job need key) = off e.sent w.phase Jobs.Next refl
 kind_came rows r w e (Share hold end owner key) = off e.sent w.phase Jobs.Next refl
 kind_came rows r w e (Gone source key) = off e.sent w.phase Jobs.Removed refl
-kind_came rows r w e (Gain source size key) = kept e.sent w.phase (Jobs.gained w w.phase).phase (gained_kept w w.phase)
+kind_came rows r w e (Gain source size key) = kept e.sent w.phase (Jobs.after_gain w w.phase).phase (gained_kept w w.phase)
 kind_came rows r w e kind =
     let y = learns (claims w w.part w.phase) w.phase e.taken in
     subst (λ (q : Phase). Came e.sent q (talks_on rows r y e (partner w.what.peer w.phase)).phase) (readies_place w e.taken).1 (on_came rows r y e (partner w.what.peer w.phase))

@@ -60,7 +60,7 @@ module _ (rows : Rows) (r : ℕ) (v : Work) (e : Entry) (first : v.phase ≡ Fre
   fault_only Drops Remote Fresh call owner = inr (causes.Fault, refl, refl)
   fault_only p side phase call owner = inl refl
 
-  unheld_only : (time : ℕ) (phase : Phase) → SameList v (Jobs.unreleased v time phase)
+  unheld_only : (time : ℕ) (phase : Phase) → SameList v (Jobs.after_failed_release v time phase)
   unheld_only time Jobs.AsksTime = refl
   unheld_only time phase = refl
 

@@ -106,7 +106,7 @@ pub state_own : (s : SetUp) (past : List Entry) → state_of s past ≡ state_of
 state_own s past i = record {
   clock = λ time. runs_on (own_clock s.number s.repos past i) time;
   wall = wall s.repos s.number;
-  entry_count = own_made s.number past i;
+  made = own_made s.number past i;
   begun = own_begun s.number past i;
   present = funext (present past s.number) (present (own s.number past) s.number) (λ key. own_present s.number key past) i;
   bar = funext (bar past s.number) (bar (own s.number past) s.number) (λ key. own_bar s.number key past) i;

@@ -117,7 +117,7 @@ job_of s past h w m = record { what = w.what; begun = runs_begun s past h.run w 
 abbrev pub DropSettled : Turn → List Entry → DropRefusal → Type 0
 DropSettled t past refusal =
     ((t.w.phase ≡ Ends (Refused refusal)) × DropStands t.read.repo past (running t.w) refusal)
-    ⊎ (((t.w.phase ≡ Denied) × (Refused refusal ≡ DropStep.denied t)) ⊎ ((time : ℕ) × (t.w.phase ≡ Late time) × (Refused refusal ≡ DropStep.expired (t.clock time) (DropStep.first_end t))))
+    ⊎ (((t.w.phase ≡ Denied) × (Refused refusal ≡ DropStep.denial_outcome t)) ⊎ ((time : ℕ) × (t.w.phase ≡ Late time) × (Refused refusal ≡ DropStep.expiry (t.clock time) (DropStep.first_end t))))
 
 obeyed_apart : (word : Option Word) (t : Turn) (refusal : DropRefusal) → Refused refusal ≡ obeyed_outcome word (proof_by t.read t.w) → ⊥
 obeyed_apart (Some Word.Absent) t refusal e = absurd (cc)
@@ -161,7 +161,7 @@ transfer_settled t past refusal taken standing z = go t.w.phase standing z.outco
         by_word (Some Word.Absent) e = absurd (cc)
         by_word (Some w) e = absurd (cc)
 
-    by_end : (end : Option ℕ) (clk : ℕ) → TransferRefused refusal ≡ DropStep.expired clk end → ⊥
+    by_end : (end : Option ℕ) (clk : ℕ) → TransferRefused refusal ≡ DropStep.expiry clk end → ⊥
     by_end None clk e = absurd (cc)
     by_end (Some end) clk e = absurd (cc)
 
@@ -187,7 +187,7 @@ module _ (reads_back : SentAreRead) (s : SetUp) (past : List Entry) (words : ℕ
   ]
 
   -- no refusal of the row stands so
-  apart_late : (refusal : DropRefusal) (clk : ℕ) (end : Option ℕ) → ((a b : ℕ) → refusal ≢ refusals.Expired a b) → Refused refusal ≡ DropStep.expired clk end → ⊥
+  apart_late : (refusal : DropRefusal) (clk : ℕ) (end : Option ℕ) → ((a b : ℕ) → refusal ≢ refusals.Expired a b) → Refused refusal ≡ DropStep.expiry clk end → ⊥
   apart_late refusal clk None apart e = apart 0 clk (cc)
   apart_late refusal clk (Some end) apart e = apart end clk (cc)
 

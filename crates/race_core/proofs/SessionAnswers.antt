@@ -176,7 +176,7 @@ closes_answer : (says : List FrameText) (b : FrameText) (k : Message) → Closes
 closes_answer says b k (inl x) m e c = elim (subst (Member b) x m) [ inl i ↦ closing_ends b k i e | inr i ↦ i ]
 closes_answer says b k (inr x) m e c = go (subst (Member b) x m)
   where
-    go : Member b (Line (text_of (Error (codes "unexpected_reply"))) ∷ Closing ∷ []) → ⊥
+    go : Member b (Line (text_of (Error (codes "unexpected"))) ∷ Closing ∷ []) → ⊥
     go (inl i) = true≢false (sym (ap is_answer e ∙ c) ∙ ap (λ z. is_answer (message_in z)) i ∙ odd_answer)
     go (inr (inl i)) = closing_ends b k i e
     go (inr (inr i)) = i

@@ -34,7 +34,7 @@ refused : SaysFault refuses
 refused = inr (inr refl)
 
 unexpected_found : (h : Here) (doing : Doing) (asked : Option Message) → SessionFound h doing asked (unexpected_reply h)
-unexpected_found h doing asked = (refl, (codes "unexpected_reply", refl))
+unexpected_found h doing asked = (refl, (codes "unexpected", refl))
 
 shut_found : (h : Here) (doing : Doing) (asked : Option Message) → SessionFound h doing asked (shuts (close_kind h))
 shut_found h doing asked = (refl, tt)

@@ -48,7 +48,7 @@ bytes_read : (n : ℕ) → SaysRead (Bytes n ∷ [])
 bytes_read n text (inl same) = absurd (cc)
 bytes_read n text (inr none) = absurd none
 
-plain : is_utf8 (codes "unexpected_reply") ≡ true
+plain : is_utf8 (codes "unexpected") ≡ true
 unfolding is_utf8 utf8_valid_len chars lib.Utf8.encode
 plain = refl
 
@@ -56,14 +56,14 @@ busy : is_utf8 (codes "busy") ≡ true
 unfolding is_utf8 utf8_valid_len chars lib.Utf8.encode
 busy = refl
 
-pub unexpected_read : SentAreRead → message_of (text_of (Error (codes "unexpected_reply"))) ≡ Some (Error (codes "unexpected_reply"))
-unexpected_read reads_back = reads_back (Error (codes "unexpected_reply")) plain (omega arith)
+pub unexpected_read : SentAreRead → message_of (text_of (Error (codes "unexpected"))) ≡ Some (Error (codes "unexpected"))
+unexpected_read reads_back = reads_back (Error (codes "unexpected")) plain (omega arith)
 
 pub busy_read : SentAreRead → message_of (text_of (Error (codes "busy"))) ≡ Some (Error (codes "busy"))
 busy_read reads_back = reads_back (Error (codes "busy")) busy (omega arith)
 
-odd_read : SentAreRead → SaysRead (Line (text_of (Error (codes "unexpected_reply"))) ∷ Closing ∷ [])
-odd_read reads_back text (inl same) = let is : text ≡ text_of (Error (codes "unexpected_reply")) = cc in (Error (codes "unexpected_reply"), ap message_of is ∙ unexpected_read reads_back)
+odd_read : SentAreRead → SaysRead (Line (text_of (Error (codes "unexpected"))) ∷ Closing ∷ [])
+odd_read reads_back text (inl same) = let is : text ≡ text_of (Error (codes "unexpected")) = cc in (Error (codes "unexpected"), ap message_of is ∙ unexpected_read reads_back)
 odd_read reads_back text (inr more) = close_read text more
 
 abbrev Read : Reply → Type 0

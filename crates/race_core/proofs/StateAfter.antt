@@ -79,7 +79,7 @@ after_is log_laws s past e is i =
     record {
       clock = (ap runs_on (if_own (is_of r e) (set_after e.time (clock_set s.repos past r) e.kind) (clock_set s.repos past r) is) ∙ clocks e.kind e.time (clock_set s.repos past r)) i;
       wall = now.wall;
-      entry_count = if_own (is_of r e) st.made (entry_count past r) is i;
+      made = if_own (is_of r e) st.made (entry_count past r) is i;
       begun = begins (is_of r e) (is_begin e.kind) is i;
       present = funext now.present st.present (λ key. if_own (is_of r e) (st.present key) (present past r key) is) i;
       bar = funext now.bar st.bar (λ key. if_own (is_of r e) (st.bar key) (bar past r key) is) i;

@@ -181,7 +181,7 @@ module _ (t : Turn) (m : Made) (does : by_partner t (partner t.w.what.peer t.w.p
   pub kind_stuck : (past : List Entry) (r : ℕ) (kind : EntryKind) → m.kind ≡ kind → JobKind t m kind → ((j : ℕ) (outcome : Outcome) → kind ≢ ends_job j outcome) → starts_drop past r t.w.number e kind ≡ true
       → (moved t m kind).part ≢ Drops → Stuck (moved t m kind)
   kind_stuck past r (Gain by size key) is k goes_on starts off =
-      absurd (off (ap (λ p. (Jobs.gained t.w p).part) k.phase_is ∙ transferred_drops t.w (outcomes.Got (Some k.peer) (Some k.start)) move))
+      absurd (off (ap (λ p. (Jobs.after_gain t.w p).part) k.phase_is ∙ transferred_drops t.w (outcomes.Got (Some k.peer) (Some k.start)) move))
   kind_stuck past r (Talk (Some j)) is k goes_on starts off =
       let first = claims_is t.w t.w.part t.w.phase in
       let then' = learns_is (claims t.w t.w.part t.w.phase) t.w.phase m.taken in

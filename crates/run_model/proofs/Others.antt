@@ -62,7 +62,7 @@ other_is s past e is i =
     record {
       clock = ap runs_on (set_other past e r is s.repos) i;
       wall = was.wall;
-      entry_count = made_other past e r is i;
+      made = made_other past e r is i;
       begun = begun_other past e r is i;
       present = funext now.present was.present (λ key. rw is refl) i;
       bar = funext now.bar was.bar (λ key. rw is refl) i;

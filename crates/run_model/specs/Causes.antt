@@ -138,11 +138,11 @@ pub record Hears (past : List Entry) (r j peer : ℕ) (m : Said) : Type 0 where
   pub says : message_in f.body ≡ m
 
 -- the message that it takes answers this request: the last one on the connection
-pub record Answers (past : List Entry) (r j peer : ℕ) (offer_from answer : Said) : Type 0 where
+pub record Answers (past : List Entry) (r j peer : ℕ) (asked answer : Said) : Type 0 where
   pub hears : Hears past r j peer answer
   pub request : Flying
   pub last : last_request hears.before (up_of (way_of r hears.f)) ≡ Some request
-  pub asked_is : said_of request ≡ offer_from
+  pub asked_is : said_of request ≡ asked
 
 -- and this is the entry that sent it
 pub record SentBy (past : List Entry) (r j peer : ℕ) (m : Said) (h : Hears past r j peer m) : Type 0 where
@@ -363,8 +363,8 @@ pub record WasRejected (past : List Entry) (r j : ℕ) : Type 0 where
   pub peer : ℕ
   pub peer_is : d.what.peer ≡ Some peer
   pub asked : Said
-  pub asked_is : (offer_from ≡ Says Valid) ⊎ ((file : List ℕ) × (offer_from ≡ Says (Put file d.what.key)))
-  pub refused : Answers past r j peer offer_from (Says Failure)
+  pub asked_is : (asked ≡ Says Valid) ⊎ ((file : List ℕ) × (asked ≡ Says (Put file d.what.key)))
+  pub refused : Answers past r j peer asked (Says Failure)
   pub by : SentBy past r j peer (Says Failure) refused.hears
   pub found : rejects by.s.entry.kind ≡ true
 

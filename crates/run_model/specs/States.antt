@@ -51,7 +51,7 @@ state_of s past =
     record {
       clock = clock s.repos past r;
       wall = wall s.repos r;
-      entry_count = entry_count past r;
+      made = entry_count past r;
       begun = begun past r;
       present = present past r;
       bar = bar past r;
