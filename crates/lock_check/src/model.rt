@@ -1,9 +1,10 @@
-//! The plain model: a list of holds, and which of three contents are there.
+//! The plain model: a list of holds, and contents, bars and fills by place.
 ghost use Rattle.std.specs.Prelude.{◌<◌, ◌+◌, ◌^◌};
 
-use crate::calls::{Barred, End, Shared};
 use annex_base::{Call, Failed};
-use content_lock::{BarRefused, Look, RemoveRefused, Removed, ShareRefused};
+use content_lock::{
+    BarRefused, FillRefused, Look, RecoverRefused, RemoveRefused, Removed, ShareRefused,
+};
 use std::alloc::Global;
 
 /// A hold of the model.
@@ -15,15 +16,39 @@ struct Hold {
     kept: bool,
 }
 
-/// The rows of three keys, and how many calls of each kind are still to fail.
-#[derive(Drop)]
-pub struct Model {
-    holds: Vec<Hold>,
-    contents: [bool; 3],
+/// How many calls of each kind are still to fail.
+#[derive(Clone, Copy)]
+pub struct Failing {
     pub has: u32,
     pub hold: u32,
     pub unhold: u32,
     pub remove: u32,
+    pub holds: u32,
+}
+
+impl Failing {
+    /// One more call of this kind is to fail.
+    pub fn add(&mut self, call: Call) {
+        let count = match call {
+            Call::Has => &mut self.has,
+            Call::Hold => &mut self.hold,
+            Call::Unhold => &mut self.unhold,
+            Call::Remove => &mut self.remove,
+            Call::Holds => &mut self.holds,
+            _ => return,
+        };
+        *count = count.saturating_add(1);
+    }
+}
+
+/// The rows of three keys.
+#[derive(Drop)]
+pub struct Model {
+    holds: Vec<Hold>,
+    contents: [bool; 3],
+    bars: [Option<u32>; 3],
+    fills: [bool; 3],
+    pub failing: Failing,
 }
 
 /// Takes one off, where there is one.
@@ -68,7 +93,7 @@ fn first_of_end(holds: &[Hold], place: usize, end: u64) -> Option<u64> {
     first
 }
 
-/// The hold that is named, and until when.
+/// The hold that is named, and until when: an open one, or else one of the latest end.
 fn blocker(holds: &[Hold], place: usize, now: u64) -> Option<(u64, Option<u64>)> {
     if let Some(number) = first_open(holds, place) {
         return Some((number, None));
@@ -79,107 +104,81 @@ fn blocker(holds: &[Hold], place: usize, now: u64) -> Option<(u64, Option<u64>)>
 }
 
 impl Model {
-    /// No content, no hold, and no call that is to fail.
+    /// No content, hold, bar or fill, and no call that is to fail.
     pub fn new(alloc: Global) -> Model {
         Model {
             holds: Vec::new(alloc),
             contents: [false; 3],
-            has: 0,
-            hold: 0,
-            unhold: 0,
-            remove: 0,
+            bars: [None; 3],
+            fills: [false; 3],
+            failing: Failing {
+                has: 0,
+                hold: 0,
+                unhold: 0,
+                remove: 0,
+                holds: 0,
+            },
         }
     }
 
-    pub fn fill(&mut self, place: usize)
+    /// The content is there from now on.
+    pub fn place(&mut self, place: usize)
         requires { place < 3 }
     {
         self.contents[place] = true;
     }
 
-    /// Whether the content is there.
-    pub fn look(&mut self, place: usize) -> Result<bool, Failed>
-        requires { place < 3 }
-    {
-        if takes_one(&mut self.has) {
-            return Err(Failed);
-        }
-        Ok(self.contents[place])
-    }
-
     pub fn check(&mut self, place: usize) -> Result<Look, Failed>
         requires { place < 3 }
     {
-        if self.look(place)? {
-            return Ok(Look::Present);
+        if takes_one(&mut self.failing.has) {
+            return Err(Failed);
         }
-        Ok(Look::Absent)
+        if !self.contents[place] {
+            return Ok(Look::Absent);
+        }
+        Ok(match self.bars[place] {
+            Some(job) => Look::Barred { job },
+            None => Look::Present,
+        })
     }
 
-    pub fn remove_now(&mut self, place: usize, now: u64) -> Result<Removed, RemoveRefused>
-        requires { place < 3 }
-    {
-        match self.look(place) {
-            Err(Failed) => return Err(RemoveRefused::StoreFault { call: Call::Has }),
-            Ok(false) => return Ok(Removed::Absent),
-            Ok(true) => {}
-        }
-        if let Some((hold, until)) = blocker(&self.holds, place, now) {
-            return Err(RemoveRefused::Held { hold, until });
-        }
-        if takes_one(&mut self.remove) {
-            return Err(RemoveRefused::StoreFault { call: Call::Remove });
-        }
-        self.contents[place] = false;
-        Ok(Removed::Gone)
-    }
-
-    pub fn share(
-        &mut self,
-        place: usize,
-        number: u64,
-        now: u64,
-        end: End,
-    ) -> Result<Shared, ShareRefused>
+    pub fn share(&mut self, place: usize, number: u64, now: u64) -> Result<(), ShareRefused>
         requires place { place < 3 }
         requires early { now + 600000 < 2 ^ 62 }
     {
-        match self.look(place) {
+        match self.check(place) {
             Err(Failed) => return Err(ShareRefused::StoreFault { call: Call::Has }),
-            Ok(false) => return Err(ShareRefused::Absent),
-            Ok(true) => {}
+            Ok(Look::Absent) => return Err(ShareRefused::Absent),
+            Ok(Look::Barred { job }) => return Err(ShareRefused::Barred { job }),
+            Ok(Look::Present) => {}
         }
-        if takes_one(&mut self.hold) {
+        if takes_one(&mut self.failing.hold) {
             return Err(ShareRefused::StoreFault { call: Call::Hold });
         }
-        let hold = Hold {
+        let end = now + 600_000;
+        let kept = false;
+        match self.holds.push(Hold {
             number,
             place,
-            end: now + 600_000,
-            kept: false,
-        };
-        if self.holds.push(hold).is_err() {
-            return Err(ShareRefused::NoMemory);
-        }
-        let removed = self.remove_now(place, now);
-        let released = self.end(number, end);
-        Ok(Shared { removed, released })
-    }
-
-    fn end(&mut self, number: u64, end: End) -> bool {
-        match end {
-            End::Release if !takes_one(&mut self.unhold) => {
-                self.holds.retain(|hold| hold.number != number);
-                true
-            }
-            _ => {
-                self.keep(number);
-                false
-            }
+            end,
+            kept,
+        }) {
+            Ok(()) => Ok(()),
+            Err(_) => Err(ShareRefused::NoMemory),
         }
     }
 
-    fn keep(&mut self, number: u64) {
+    /// Says whether the hold went.
+    pub fn release(&mut self, number: u64) -> bool {
+        if takes_one(&mut self.failing.unhold) {
+            return false;
+        }
+        self.holds.retain(|hold| hold.number != number);
+        true
+    }
+
+    pub fn abandon(&mut self, number: u64) {
         for hold in self.holds.iter_mut() {
             if hold.number == number {
                 hold.kept = true;
@@ -187,28 +186,82 @@ impl Model {
         }
     }
 
-    pub fn bar(&mut self, place: usize, now: u64) -> Result<Barred, BarRefused>
+    pub fn bar(&mut self, place: usize, job: u32, now: u64) -> Result<(), BarRefused>
         requires { place < 3 }
     {
-        match self.look(place) {
+        match self.check(place) {
             Err(Failed) => return Err(BarRefused::StoreFault),
-            Ok(false) => return Err(BarRefused::Absent),
-            Ok(true) => {}
+            Ok(Look::Absent) => return Err(BarRefused::Absent),
+            Ok(Look::Barred { job }) => return Err(BarRefused::Barred { job }),
+            Ok(Look::Present) => {}
         }
         if let Some((hold, until)) = blocker(&self.holds, place, now) {
             return Err(BarRefused::Held { hold, until });
         }
-        let removed = match self.look(place) {
-            Err(Failed) => Err(RemoveRefused::StoreFault { call: Call::Has }),
-            Ok(_) => Err(RemoveRefused::Barred { job: 1 }),
-        };
-        let used = !takes_one(&mut self.remove);
-        if used {
-            self.contents[place] = false;
-        }
-        Ok(Barred { removed, used })
+        self.bars[place] = Some(job);
+        Ok(())
     }
 
+    pub fn unbar(&mut self, place: usize)
+        requires { place < 3 }
+    {
+        self.bars[place] = None;
+    }
+
+    /// Says whether the content went, and the bar with it.
+    pub fn remove(&mut self, place: usize) -> bool
+        requires { place < 3 }
+    {
+        if takes_one(&mut self.failing.remove) {
+            return false;
+        }
+        self.contents[place] = false;
+        self.bars[place] = None;
+        true
+    }
+
+    pub fn remove_now(&mut self, place: usize, now: u64) -> Result<Removed, RemoveRefused>
+        requires { place < 3 }
+    {
+        match self.check(place) {
+            Err(Failed) => return Err(RemoveRefused::StoreFault { call: Call::Has }),
+            Ok(Look::Absent) => return Ok(Removed::Absent),
+            Ok(Look::Barred { job }) => return Err(RemoveRefused::Barred { job }),
+            Ok(Look::Present) => {}
+        }
+        if let Some((hold, until)) = blocker(&self.holds, place, now) {
+            return Err(RemoveRefused::Held { hold, until });
+        }
+        if takes_one(&mut self.failing.remove) {
+            return Err(RemoveRefused::StoreFault { call: Call::Remove });
+        }
+        self.contents[place] = false;
+        Ok(Removed::Gone)
+    }
+
+    pub fn fill(&mut self, place: usize) -> Result<(), FillRefused>
+        requires { place < 3 }
+    {
+        if self.fills[place] {
+            return Err(FillRefused::Busy);
+        }
+        self.fills[place] = true;
+        Ok(())
+    }
+
+    pub fn is_filling(&self, place: usize) -> bool
+        requires { place < 3 }
+    {
+        self.fills[place]
+    }
+
+    pub fn unfill(&mut self, place: usize)
+        requires { place < 3 }
+    {
+        self.fills[place] = false;
+    }
+
+    /// What a crash leaves, with the clock that was set to this.
     pub fn restart(&mut self, now: u64)
         requires { now + 600000 < 2 ^ 62 }
     {
@@ -216,5 +269,18 @@ impl Model {
             hold.kept = true;
             hold.end = now + 600_000;
         }
+        self.bars = [None; 3];
+        self.fills = [false; 3];
+    }
+
+    /// The same, from the records of the holds.
+    pub fn recover(&mut self, now: u64) -> Result<(), RecoverRefused>
+        requires { now + 600000 < 2 ^ 62 }
+    {
+        if takes_one(&mut self.failing.holds) {
+            return Err(RecoverRefused::StoreFault);
+        }
+        self.restart(now);
+        Ok(())
     }
 }

@@ -1,6 +1,8 @@
-//! A fixed sequence of numbers that looks random (Knuth, The Art of Computer Programming, 3.3.4, the generator of MMIX).
+//! A fixed sequence of numbers that looks random.
 ghost use Rattle.std.specs.Prelude.{◌<◌};
 
+/// The generator of MMIX (Knuth, The Art of Computer Programming, volume 2, 3.3.4).
+#[derive(Drop)]
 pub struct Random {
     state: u64,
 }
