@@ -1,24 +1,15 @@
 //! Calls whose memory is refused. `rt try --test --fail-alloc N` refuses the Nth allocation of the test, which then
 //! makes the call again, and passes whichever allocation it was.
-ghost use Rattle.std.specs.Prelude.{◌≡◌, ◌<◌, true, Some, All, IfOk};
+ghost use Rattle.std.specs.Prelude.{◌≡◌, ◌<◌, All};
 ghost use Rattle.content_lock.specs.Stored.{Agrees};
 
 use crate::calls::{bar, keep, place};
 use annex_base::Failed;
 use annex_key::Key;
-use content_lock::{BarRefused, LockTable, Look, ShareRefused, records_tell_numbers};
-use object_store::{HoldRecord, Keeper, KeeperFault, MemoryKeeper};
+use content_lock::{BarRefused, LockTable, Look, ShareRefused};
+use object_store::{Keeper, KeeperFault, MemoryKeeper};
 use std::alloc::Global;
 use std::test::Fail;
-
-/// A call that takes memory; the number is that of a share.
-#[derive(Clone, Copy)]
-enum Step {
-    Keep(u64),
-    Bar,
-    Fill,
-    Recover,
-}
 
 /// What a table and its store have of a key.
 #[derive(Clone, Copy, PartialEq, Eq)]
@@ -27,14 +18,6 @@ struct Row {
     filling: bool,
     barred: Option<BarRefused>,
     records: usize,
-}
-
-#[derive(Drop)]
-struct World {
-    alloc: Global,
-    keeper: MemoryKeeper,
-    table: LockTable,
-    ghost agrees: { Agrees (⟦<MemoryKeeper as Keeper>⟧.records keeper) table.holds },
 }
 
 fn key_of(alloc: Global) -> Result<Key, Fail> {
@@ -55,13 +38,18 @@ fn place_at_last<K: Keeper>(keeper: &mut K, key: &Key) -> Result<(), KeeperFault
     place(keeper, key)
 }
 
-fn holds_at_last(keeper: &mut MemoryKeeper) -> Result<Vec<HoldRecord>, KeeperFault>
-    ensures records { ⟦<MemoryKeeper as Keeper>⟧.records keeper.new ≡ ⟦<MemoryKeeper as Keeper>⟧.records keeper.old }
-    ensures told { IfOk result (λ v. ⟦<MemoryKeeper as Keeper>⟧.records keeper.old ≡ Some v.items) }
+fn count<K: Keeper>(keeper: &mut K) -> Result<usize, KeeperFault>
+    ensures { K.records keeper.new ≡ K.records keeper.old }
 {
-    match keeper.holds() {
-        Ok(holds) => Ok(holds),
-        Err(_) => keeper.holds(),
+    Ok(keeper.holds()?.len())
+}
+
+fn count_at_last<K: Keeper>(keeper: &mut K) -> Result<usize, KeeperFault>
+    ensures { K.records keeper.new ≡ K.records keeper.old }
+{
+    match count(keeper) {
+        Ok(n) => Ok(n),
+        Err(_) => count(keeper),
     }
 }
 
@@ -75,117 +63,135 @@ fn bar_at_last<K: Keeper>(table: &mut LockTable, keeper: &mut K, key: &Key) -> O
     }
 }
 
-/// Whether the number is greater than that of each record.
-fn are_below(records: &[HoldRecord], number: u64) -> bool
-    ensures { result ≡ true → All (λ r. r.number < number) records.now }
+fn row_of<K: Keeper>(table: &mut LockTable, keeper: &mut K, key: &Key) -> Result<Row, KeeperFault>
+    ensures holds { table.new.holds ≡ table.old.holds }
+    ensures records { K.records keeper.new ≡ K.records keeper.old }
 {
-    records.iter().all(|record| record.number < number)
-}
-
-impl World {
-    /// A table over a store that has the content of the key.
-    fn new(alloc: Global, key: &Key) -> Result<World, Fail> {
-        let mut keeper = MemoryKeeper::new(alloc)?;
-        place_at_last(&mut keeper, key)?;
-        let table = LockTable::new(alloc)?;
-        Ok(World {
-            alloc,
-            keeper,
-            table,
-        })
-    }
-
-    fn row(&mut self, key: &Key) -> Result<Row, KeeperFault> {
-        Ok(Row {
-            look: self.table.check(&mut self.keeper, key),
-            filling: self.table.is_filling(key),
-            barred: bar_at_last(&mut self.table, &mut self.keeper, key),
-            records: holds_at_last(&mut self.keeper)?.len(),
-        })
-    }
-
-    /// Takes a hold and keeps it, where the number is greater than each. Says whether there was memory.
-    fn keep(&mut self, key: &Key, number: u64) -> Result<bool, KeeperFault> {
-        let records = holds_at_last(&mut self.keeper)?;
-        // For the prover: what the records say of the table's holds.
-        records_tell_numbers();
-        if !are_below(&records, number) {
-            return Ok(true);
-        }
-        let answer = keep(&mut self.table, &mut self.keeper, key, number, 0);
-        Ok(answer != Some(ShareRefused::NoMemory))
-    }
-
-    fn fill(&mut self, key: &Key) -> bool {
-        match self.table.fill(key) {
-            Ok(fill) => {
-                self.table.unfill(fill);
-                true
-            }
-            Err(_) => false,
-        }
-    }
-
-    fn recover(&mut self) -> bool {
-        match LockTable::recover(self.alloc, &mut self.keeper, 0) {
-            Ok(table) => {
-                self.table = table;
-                true
-            }
-            Err(_) => false,
-        }
-    }
-
-    /// Makes the call, and says whether there was memory.
-    fn make(&mut self, key: &Key, step: Step) -> Result<bool, KeeperFault> {
-        match step {
-            Step::Keep(number) => self.keep(key, number),
-            Step::Bar => {
-                let answer = bar(&mut self.table, &mut self.keeper, key, 0);
-                Ok(answer != Some(BarRefused::NoMemory))
-            }
-            Step::Fill => Ok(self.fill(key)),
-            Step::Recover => Ok(self.recover()),
-        }
-    }
-
-    /// Makes the call until its memory is there, and says whether a refusal left all as it was.
-    fn is_kept(&mut self, key: &Key, step: Step) -> Result<bool, KeeperFault> {
-        let was = self.row(key)?;
-        if self.make(key, step)? {
-            return Ok(true);
-        }
-        let same = self.row(key)? == was;
-        let made = self.make(key, step)?;
-        Ok(same && made)
-    }
-}
-
-/// Makes the calls, and says whether each refusal left all as it was, and what the row is at last.
-fn run(alloc: Global, steps: &[Step]) -> Result<(bool, Row), Fail> {
-    let key = key_of(alloc)?;
-    let mut world = World::new(alloc, &key)?;
-    let mut kept = true;
-    for step in steps {
-        let now = world.is_kept(&key, *step)?;
-        kept = kept && now;
-    }
-    let row = world.row(&key)?;
-    Ok((kept, row))
-}
-
-fn held_by(hold: u64) -> Option<BarRefused> {
-    Some(BarRefused::Held {
-        hold,
-        until: Some(600_000),
+    let look = table.check(keeper, key);
+    let filling = table.is_filling(key);
+    let barred = bar_at_last(table, keeper, key);
+    let records = count_at_last(keeper)?;
+    Ok(Row {
+        look,
+        filling,
+        barred,
+        records,
     })
+}
+
+/// Fills the key, and gives the fill back. Says whether there was memory.
+fn fill(table: &mut LockTable, key: &Key) -> bool
+    ensures { table.new.holds ≡ table.old.holds }
+{
+    match table.fill(key) {
+        Ok(fill) => {
+            table.unfill(fill);
+            true
+        }
+        Err(_) => false,
+    }
+}
+
+/// Makes the table anew from the store's records. Says whether there was memory.
+fn recover<K: Keeper>(alloc: Global, table: &mut LockTable, keeper: &mut K) -> bool
+    requires agrees { Agrees (K.records keeper.old) table.old.holds }
+    ensures agrees { Agrees (K.records keeper.new) table.new.holds }
+{
+    match LockTable::recover(alloc, keeper, 0) {
+        Ok(recovered) => {
+            *table = recovered;
+            true
+        }
+        Err(_) => false,
+    }
+}
+
+/// Fills the key until its memory is there, and says whether a refusal left all as it was.
+fn fill_again<K: Keeper>(
+    table: &mut LockTable,
+    keeper: &mut K,
+    key: &Key,
+) -> Result<bool, KeeperFault>
+    ensures holds { table.new.holds ≡ table.old.holds }
+    ensures records { K.records keeper.new ≡ K.records keeper.old }
+{
+    let was = row_of(table, keeper, key)?;
+    if fill(table, key) {
+        return Ok(true);
+    }
+    let now = row_of(table, keeper, key)?;
+    let made = fill(table, key);
+    Ok(made && now == was)
+}
+
+/// Puts a bar until its memory is there, and says whether a refusal left all as it was.
+fn bar_again<K: Keeper>(
+    table: &mut LockTable,
+    keeper: &mut K,
+    key: &Key,
+) -> Result<bool, KeeperFault>
+    ensures holds { table.new.holds ≡ table.old.holds }
+    ensures records { K.records keeper.new ≡ K.records keeper.old }
+{
+    let was = row_of(table, keeper, key)?;
+    if bar(table, keeper, key, 0) != Some(BarRefused::NoMemory) {
+        return Ok(true);
+    }
+    let now = row_of(table, keeper, key)?;
+    let again = bar(table, keeper, key, 0);
+    Ok(again != Some(BarRefused::NoMemory) && now == was)
+}
+
+/// Takes a hold until its memory is there, and says whether a refusal left all as it was.
+fn keep_again<K: Keeper>(
+    table: &mut LockTable,
+    keeper: &mut K,
+    key: &Key,
+    number: u64,
+) -> Result<bool, KeeperFault>
+    requires agrees { Agrees (K.records keeper.old) table.old.holds }
+    requires fresh { All (λ h. h.number < number) table.old.holds }
+    ensures agrees { Agrees (K.records keeper.new) table.new.holds }
+{
+    let was = row_of(table, keeper, key)?;
+    let Some(refused) = keep(table, keeper, key, number, 0) else {
+        return Ok(true);
+    };
+    let now = row_of(table, keeper, key)?;
+    let again = keep(table, keeper, key, number, 0);
+    Ok(again == None && refused == ShareRefused::NoMemory && now == was)
+}
+
+/// Makes the table anew until its memory is there, and says whether a refusal left all as it was.
+fn recover_again<K: Keeper>(
+    alloc: Global,
+    table: &mut LockTable,
+    keeper: &mut K,
+    key: &Key,
+) -> Result<bool, KeeperFault>
+    requires agrees { Agrees (K.records keeper.old) table.old.holds }
+    ensures agrees { Agrees (K.records keeper.new) table.new.holds }
+{
+    let was = row_of(table, keeper, key)?;
+    if recover(alloc, table, keeper) {
+        return Ok(true);
+    }
+    let now = row_of(table, keeper, key)?;
+    let made = recover(alloc, table, keeper);
+    Ok(made && now == was)
 }
 
 #[test]
 fn a_free_row_stays_when_memory_is_refused(rt: HostRuntime) -> Result<(), Fail> {
-    let steps = [Step::Fill, Step::Bar, Step::Recover, Step::Fill];
-    let (kept, row) = run(rt.alloc(), &steps)?;
-    assert!(rt; kept);
+    let key = key_of(rt.alloc())?;
+    let mut keeper = MemoryKeeper::new(rt.alloc())?;
+    place_at_last(&mut keeper, &key)?;
+    let mut table = LockTable::new(rt.alloc())?;
+    let filled = fill_again(&mut table, &mut keeper, &key)?;
+    let barred = bar_again(&mut table, &mut keeper, &key)?;
+    let row = row_of(&mut table, &mut keeper, &key)?;
+    assert!(rt; filled);
+    assert!(rt; barred);
     assert!(rt; row.barred == None);
     assert_eq!(rt; row.records, 0);
     Ok(())
@@ -193,26 +199,22 @@ fn a_free_row_stays_when_memory_is_refused(rt: HostRuntime) -> Result<(), Fail> 
 
 #[test]
 fn a_held_row_stays_when_memory_is_refused(rt: HostRuntime) -> Result<(), Fail> {
-    let steps = [Step::Bar, Step::Keep(4), Step::Recover, Step::Bar];
-    let (kept, row) = run(rt.alloc(), &steps)?;
+    let key = key_of(rt.alloc())?;
+    let mut keeper = MemoryKeeper::new(rt.alloc())?;
+    place_at_last(&mut keeper, &key)?;
+    let mut table = LockTable::new(rt.alloc())?;
+    let kept = keep_again(&mut table, &mut keeper, &key, 4)?;
+    let recovered = recover_again(rt.alloc(), &mut table, &mut keeper, &key)?;
+    let barred = bar_again(&mut table, &mut keeper, &key)?;
+    let row = row_of(&mut table, &mut keeper, &key)?;
+    let held = BarRefused::Held {
+        hold: 4,
+        until: Some(600_000),
+    };
     assert!(rt; kept);
-    assert!(rt; row.barred == held_by(4));
+    assert!(rt; recovered);
+    assert!(rt; barred);
+    assert!(rt; row.barred == Some(held));
     assert_eq!(rt; row.records, 1);
-    Ok(())
-}
-
-#[test]
-fn several_holds_stay_when_memory_is_refused(rt: HostRuntime) -> Result<(), Fail> {
-    let steps = [
-        Step::Keep(4),
-        Step::Keep(6),
-        Step::Fill,
-        Step::Recover,
-        Step::Keep(7),
-    ];
-    let (kept, row) = run(rt.alloc(), &steps)?;
-    assert!(rt; kept);
-    assert!(rt; row.barred == held_by(4));
-    assert_eq!(rt; row.records, 3);
     Ok(())
 }
