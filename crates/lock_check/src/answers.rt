@@ -33,19 +33,11 @@ pub struct Shared {
     pub released: bool,
 }
 
-/// The same with a second share between.
-#[derive(Clone, Copy, PartialEq, Eq)]
-pub struct SharedTwice {
-    pub second: Result<Shared, ShareRefused>,
-    pub tried: Tried,
-    pub released: bool,
-}
-
 /// What a barred row answers, and whether the bar served for a removal.
 #[derive(Clone, Copy, PartialEq, Eq)]
 pub struct Barred {
     pub tried: Tried,
-    pub shared: Result<Shared, ShareRefused>,
+    pub kept: Option<ShareRefused>,
     pub removed: bool,
 }
 

@@ -9,28 +9,13 @@ mod model_calls;
 mod random;
 mod world;
 
-use crate::random::Random;
-use crate::world::World;
+use crate::world::{CALLS, agree};
 use annex_base::NoMemory;
 use annex_key::Key;
 use std::alloc::Global;
 use std::process::ExitCode;
 
 const SEQUENCES: u64 = 5_000;
-
-const CALLS: u32 = 40;
-
-/// Whether the answers of a sequence agree.
-fn agree(alloc: Global, keys: &[Key; 3], seed: u64) -> Result<bool, NoMemory> {
-    let mut world = World::new(alloc)?;
-    let mut random = Random::new(seed);
-    let mut agree = true;
-    for _ in 0..CALLS {
-        let agrees = world.step(keys, &mut random);
-        agree = agree && agrees;
-    }
-    Ok(agree)
-}
 
 /// In how many sequences an answer differs.
 fn run_all(alloc: Global, keys: &[Key; 3]) -> Result<u64, NoMemory> {

@@ -1,7 +1,7 @@
 //! The same calls on the plain model.
 ghost use Rattle.std.specs.Prelude.{◌<◌, ◌+◌, ◌^◌};
 
-use crate::answers::{Ask, Barred, End, Filled, Shared, SharedTwice, Tried};
+use crate::answers::{Ask, Barred, End, Filled, Shared, Tried};
 use crate::model::Model;
 use content_lock::{BarRefused, FillRefused, ShareRefused};
 
@@ -45,21 +45,18 @@ pub fn share(model: &mut Model, ask: Ask) -> Result<Shared, ShareRefused>
     Ok(Shared { tried, released })
 }
 
-pub fn share_twice(model: &mut Model, first: Ask, second: Ask) -> Result<SharedTwice, ShareRefused>
-    requires place { first.place < 3 }
-    requires second_place { second.place < 3 }
-    requires early { first.now + 600000 < 2 ^ 62 }
-    requires second_early { second.now + 600000 < 2 ^ 62 }
+/// Takes a share and keeps it.
+fn keep(model: &mut Model, ask: Ask) -> Option<ShareRefused>
+    requires place { ask.place < 3 }
+    requires early { ask.now + 600000 < 2 ^ 62 }
 {
-    model.share(first.place, first.number, first.now)?;
-    let second = share(model, second);
-    let tried = attempt(model, first);
-    let released = spend(model, first);
-    Ok(SharedTwice {
-        second,
-        tried,
-        released,
-    })
+    match model.share(ask.place, ask.number, ask.now) {
+        Ok(()) => {
+            model.abandon(ask.number);
+            None
+        }
+        Err(e) => Some(e),
+    }
 }
 
 pub fn bar(model: &mut Model, ask: Ask) -> Result<Barred, BarRefused>
@@ -68,7 +65,7 @@ pub fn bar(model: &mut Model, ask: Ask) -> Result<Barred, BarRefused>
 {
     model.bar(ask.place, 1, ask.now)?;
     let tried = attempt(model, ask);
-    let shared = share(model, ask);
+    let kept = keep(model, ask);
     let removed = match ask.end {
         End::Abandon => false,
         End::Release => model.remove(ask.place),
@@ -78,7 +75,7 @@ pub fn bar(model: &mut Model, ask: Ask) -> Result<Barred, BarRefused>
     }
     Ok(Barred {
         tried,
-        shared,
+        kept,
         removed,
     })
 }

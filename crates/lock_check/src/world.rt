@@ -1,11 +1,10 @@
 //! A table and its store beside the model, and calls that are made on both.
-ghost use Rattle.std.specs.Prelude.{◌≡◌, ◌<◌, ◌+◌, ◌^◌, true, All, None};
-ghost use Rattle.run_data.specs.declared.entry.By.TheVariants.{Job};
+ghost use Rattle.std.specs.Prelude.{◌≡◌, ◌<◌, true, All, IfOk, nat_lt};
+ghost use Rattle.std.specs.List.{list_all};
 ghost use Rattle.content_lock.specs.Stored.{Agrees};
-ghost use Rattle.content_lock.specs.Tokens.{Owns};
 
 use crate::answers::{Ask, End};
-use crate::calls::{attempt, bar, fill, share, share_twice};
+use crate::calls::{attempt, bar, fill, share};
 use crate::model::Model;
 use crate::model_calls;
 use crate::random::Random;
@@ -13,28 +12,24 @@ use annex_base::{Call, NoMemory};
 use annex_key::Key;
 use content_lock::{LockTable, records_tell_numbers};
 use object_store::{FailingKeeper, HoldRecord, Keeper, MemoryKeeper};
-use run_data::By;
 use std::alloc::Global;
 
-/// The calls of the store that are made to fail.
-const FAILING: [Call; 4] = [Call::Has, Call::Hold, Call::Unhold, Call::Remove];
+/// How many calls a sequence has.
+pub const CALLS: u32 = 40;
 
-/// Between two calls no token is out, so each hold of the two jobs is kept.
+/// Between two calls no token is out.
 #[derive(Drop)]
 pub struct World {
     alloc: Global,
-    keeper: MemoryKeeper,
-    table: LockTable,
+    pub keeper: MemoryKeeper,
+    pub table: LockTable,
     model: Model,
     number: u64,
-    ghost agrees: { Agrees (⟦<MemoryKeeper as Keeper>⟧.records keeper) table.holds },
-    ghost first: { Owns (Job 1) None table.holds },
-    ghost second: { Owns (Job 2) None table.holds },
 }
 
 /// Whether the number is greater than that of each record.
 fn are_below(records: &[HoldRecord], number: u64) -> bool
-    ensures { result ≡ true → All (λ r. r.number < number) records.now }
+    ensures { result ≡ list_all (λ r. nat_lt r.number number) records.now }
 {
     records.iter().all(|record| record.number < number)
 }
@@ -53,9 +48,21 @@ fn is_fresh(table: &LockTable, keeper: &mut MemoryKeeper, number: u64) -> bool
     }
 }
 
+/// One of the calls of the store that are made to fail.
+fn failing_call(place: u64) -> Call {
+    match place {
+        0 => Call::Has,
+        1 => Call::Hold,
+        2 => Call::Unhold,
+        _ => Call::Remove,
+    }
+}
+
 impl World {
     /// No content and no hold.
-    pub fn new(alloc: Global) -> Result<World, NoMemory> {
+    pub fn new(alloc: Global) -> Result<World, NoMemory>
+        ensures { IfOk result (λ w. Agrees (⟦<MemoryKeeper as Keeper>⟧.records w.keeper) w.table.holds) }
+    {
         Ok(World {
             alloc,
             keeper: MemoryKeeper::new(alloc)?,
@@ -69,6 +76,8 @@ impl World {
     fn draw(&mut self, random: &mut Random) -> Ask
         ensures place { result.place < 3 }
         ensures early { result.now < 2000000 }
+        ensures keeper { self.new.keeper ≡ self.old.keeper }
+        ensures table { self.new.table ≡ self.old.table }
     {
         let place = random.draw(3) as usize;
         let now = random.draw(2_000_000);
@@ -87,7 +96,9 @@ impl World {
     }
 
     fn place(&mut self, key: &Key, ask: Ask) -> bool
-        requires { ask.place < 3 }
+        requires place { ask.place < 3 }
+        requires agrees { Agrees (⟦<MemoryKeeper as Keeper>⟧.records self.old.keeper) self.old.table.holds }
+        ensures agrees { Agrees (⟦<MemoryKeeper as Keeper>⟧.records self.new.keeper) self.new.table.holds }
     {
         self.model.place(ask.place);
         let added = self.keeper.append_part(key, b"abc").is_ok();
@@ -96,7 +107,9 @@ impl World {
     }
 
     fn attempt(&mut self, key: &Key, ask: Ask) -> bool
-        requires { ask.place < 3 }
+        requires place { ask.place < 3 }
+        requires agrees { Agrees (⟦<MemoryKeeper as Keeper>⟧.records self.old.keeper) self.old.table.holds }
+        ensures agrees { Agrees (⟦<MemoryKeeper as Keeper>⟧.records self.new.keeper) self.new.table.holds }
     {
         let want = model_calls::attempt(&mut self.model, ask);
         let got = attempt(&mut self.table, &mut self.keeper, key, ask.now);
@@ -106,33 +119,22 @@ impl World {
     fn share(&mut self, key: &Key, ask: Ask) -> bool
         requires place { ask.place < 3 }
         requires early { ask.now < 2000000 }
+        requires agrees { Agrees (⟦<MemoryKeeper as Keeper>⟧.records self.old.keeper) self.old.table.holds }
+        ensures agrees { Agrees (⟦<MemoryKeeper as Keeper>⟧.records self.new.keeper) self.new.table.holds }
     {
         if !is_fresh(&self.table, &mut self.keeper, ask.number) {
             return false;
         }
         let want = model_calls::share(&mut self.model, ask);
-        let got = share(&mut self.table, &mut self.keeper, key, By::Job(1), ask);
-        got == want
-    }
-
-    fn share_twice(&mut self, keys: &[Key; 3], first: Ask, second: Ask) -> bool
-        requires place { first.place < 3 }
-        requires second_place { second.place < 3 }
-        requires early { first.now < 2000000 }
-        requires second_early { second.now < 2000000 }
-    {
-        let is_greater = first.number < second.number;
-        if !is_greater || !is_fresh(&self.table, &mut self.keeper, first.number) {
-            return false;
-        }
-        let want = model_calls::share_twice(&mut self.model, first, second);
-        let got = share_twice(&mut self.table, &mut self.keeper, keys, first, second);
+        let got = share(&mut self.table, &mut self.keeper, key, ask);
         got == want
     }
 
     fn bar(&mut self, key: &Key, ask: Ask) -> bool
         requires place { ask.place < 3 }
         requires early { ask.now < 2000000 }
+        requires agrees { Agrees (⟦<MemoryKeeper as Keeper>⟧.records self.old.keeper) self.old.table.holds }
+        ensures agrees { Agrees (⟦<MemoryKeeper as Keeper>⟧.records self.new.keeper) self.new.table.holds }
     {
         if !is_fresh(&self.table, &mut self.keeper, ask.number) {
             return false;
@@ -143,7 +145,9 @@ impl World {
     }
 
     fn fill(&mut self, key: &Key, ask: Ask) -> bool
-        requires { ask.place < 3 }
+        requires place { ask.place < 3 }
+        requires agrees { Agrees (⟦<MemoryKeeper as Keeper>⟧.records self.old.keeper) self.old.table.holds }
+        ensures agrees { Agrees (⟦<MemoryKeeper as Keeper>⟧.records self.new.keeper) self.new.table.holds }
     {
         let want = model_calls::fill(&mut self.model, ask.place);
         let got = fill(&mut self.table, key);
@@ -151,13 +155,18 @@ impl World {
     }
 
     /// Lets the next call of this kind fail.
-    fn fail(&mut self, call: Call) -> bool {
+    fn fail(&mut self, call: Call) -> bool
+        requires agrees { Agrees (⟦<MemoryKeeper as Keeper>⟧.records self.old.keeper) self.old.table.holds }
+        ensures agrees { Agrees (⟦<MemoryKeeper as Keeper>⟧.records self.new.keeper) self.new.table.holds }
+    {
         self.model.failing.add(call);
         self.keeper.fail_next(call).is_ok()
     }
 
     fn restart(&mut self, now: u64) -> bool
-        requires { now < 2000000 }
+        requires early { now < 2000000 }
+        requires agrees { Agrees (⟦<MemoryKeeper as Keeper>⟧.records self.old.keeper) self.old.table.holds }
+        ensures agrees { Agrees (⟦<MemoryKeeper as Keeper>⟧.records self.new.keeper) self.new.table.holds }
     {
         self.model.restart(now);
         self.table.restart(now);
@@ -166,7 +175,9 @@ impl World {
 
     /// Makes the table anew from the store's records.
     fn recover(&mut self, now: u64) -> bool
-        requires { now < 2000000 }
+        requires early { now < 2000000 }
+        requires agrees { Agrees (⟦<MemoryKeeper as Keeper>⟧.records self.old.keeper) self.old.table.holds }
+        ensures agrees { Agrees (⟦<MemoryKeeper as Keeper>⟧.records self.new.keeper) self.new.table.holds }
     {
         let want = self.model.recover(now);
         match LockTable::recover(self.alloc, &mut self.keeper, now) {
@@ -180,7 +191,9 @@ impl World {
 
     /// Lets the store fail to tell its records once.
     fn recover_twice(&mut self, now: u64) -> bool
-        requires { now < 2000000 }
+        requires early { now < 2000000 }
+        requires agrees { Agrees (⟦<MemoryKeeper as Keeper>⟧.records self.old.keeper) self.old.table.holds }
+        ensures agrees { Agrees (⟦<MemoryKeeper as Keeper>⟧.records self.new.keeper) self.new.table.holds }
     {
         let told = self.fail(Call::Holds);
         let refused = self.recover(now);
@@ -188,23 +201,46 @@ impl World {
         told && refused && recovered
     }
 
-    /// Makes a call that is drawn, and says whether the model agrees.
-    pub fn step(&mut self, keys: &[Key; 3], random: &mut Random) -> bool {
-        let ask = self.draw(random);
-        let key = &keys[ask.place];
-        match random.draw(16) {
+    /// Makes a call that takes no hold.
+    fn other_step(&mut self, key: &Key, ask: Ask, random: &mut Random) -> bool
+        requires place { ask.place < 3 }
+        requires early { ask.now < 2000000 }
+        requires agrees { Agrees (⟦<MemoryKeeper as Keeper>⟧.records self.old.keeper) self.old.table.holds }
+        ensures agrees { Agrees (⟦<MemoryKeeper as Keeper>⟧.records self.new.keeper) self.new.table.holds }
+    {
+        match random.draw(9) {
             0 | 1 | 2 => self.place(key, ask),
-            3 | 4 | 5 => self.share(key, ask),
-            6 | 7 => {
-                let second = self.draw(random);
-                self.share_twice(keys, ask, second)
-            }
-            8 | 9 => self.bar(key, ask),
-            10 => self.attempt(key, ask),
-            11 => self.fill(key, ask),
-            12 | 13 => self.fail(FAILING[random.draw(4) as usize]),
-            14 => self.restart(ask.now),
+            3 => self.attempt(key, ask),
+            4 => self.fill(key, ask),
+            5 | 6 => self.fail(failing_call(random.draw(4))),
+            7 => self.restart(ask.now),
             _ => self.recover_twice(ask.now),
         }
     }
+
+    /// Makes a call that is drawn, and says whether the model agrees.
+    pub fn step(&mut self, keys: &[Key; 3], random: &mut Random) -> bool
+        requires agrees { Agrees (⟦<MemoryKeeper as Keeper>⟧.records self.old.keeper) self.old.table.holds }
+        ensures agrees { Agrees (⟦<MemoryKeeper as Keeper>⟧.records self.new.keeper) self.new.table.holds }
+    {
+        let ask = self.draw(random);
+        let key = &keys[ask.place];
+        match random.draw(4) {
+            0 => self.share(key, ask),
+            1 => self.bar(key, ask),
+            _ => self.other_step(key, ask, random),
+        }
+    }
+}
+
+/// Whether the answers of a sequence agree.
+pub fn agree(alloc: Global, keys: &[Key; 3], seed: u64) -> Result<bool, NoMemory> {
+    let mut world = World::new(alloc)?;
+    let mut random = Random::new(seed);
+    let mut all = true;
+    for _call in 0..CALLS {
+        let agrees = world.step(keys, &mut random);
+        all = all && agrees;
+    }
+    Ok(all)
 }
