@@ -7,12 +7,12 @@ use Rattle.std.proofs.lemmas.Slice.Eq.{bytes_eq-Decides}
 use Rattle.annex_key.specs.declared.fault.KeyFault.{KeyFault}
 use Rattle.annex_key.specs.declared.fault.KeyFault.TheVariants.{NoMemory}
 use Rattle.annex_key.specs.KeyText.{Parts, IsKeyText}
-use Rattle.annex_key.specs.KeyFile.{ampersand, percent, colon, slash, escaped, file_text}
+use Rattle.annex_key.specs.KeyFile.{ampersand, percent, colon, slash, escape_of, file_text}
 use Rattle.annex_key.specs.Reading.{key_at}
 use Rattle.annex_key.specs.FileKey.{bytes_after, text_in, was_read, is_key, key_by, key_of_file}
 use Rattle.annex_key.proofs.KeyLemmas.{text_takes, text_again}
 
-escaped_read : (b : ℕ) (rest : List ℕ) → bytes_after false (escaped b ++ rest) ≡ b ∷ bytes_after false rest
+escaped_read : (b : ℕ) (rest : List ℕ) → bytes_after false (escape_of b ++ rest) ≡ b ∷ bytes_after false rest
 escaped_read b rest =
     elim (cases_Bool (eqb b ampersand)) [
       | inl is ↦ rw (eqb-true b ampersand is) refl

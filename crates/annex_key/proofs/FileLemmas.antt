@@ -4,13 +4,13 @@ use Rattle.std.proofs.lemmas.Bool.{cases_Bool, eqb-true, and_parts, or_cases}
 use Rattle.std.proofs.lemmas.Option.{none-some, same_Some}
 use Rattle.annex_key.specs.declared.fault.KeyFault.{KeyFault}
 use Rattle.annex_key.specs.declared.fault.KeyFault.TheVariants.{NoDashes, BadBackend, BadField, EmptyName, TooLong, BadEscape, BadName, NoMemory}
-use Rattle.annex_key.specs.KeyFile.{ampersand, percent, colon, slash, ampersand_letter, percent_letter, colon_letter, escaped, file_text, byte_at, after_ampersand, is_bad_escape, HasBadEscape, BreaksFile, StandsForBroken, FailsEscape}
+use Rattle.annex_key.specs.KeyFile.{ampersand, percent, colon, slash, ampersand_letter, percent_letter, colon_letter, escape_of, file_text, byte_at, after_ampersand, is_bad_escape, HasBadEscape, BreaksFile, StandsForBroken, FailsEscape}
 use Rattle.annex_key.specs.KeyText.{IsKeyText}
 use Rattle.annex_key.specs.Reading.{begins}
 use Rattle.annex_key.specs.Faults.{Breaks}
 
 -- what is written of a byte is read as it
-pub byte_at-escaped : (b : ℕ) (rest : List ℕ) → byte_at (escaped b ++ rest) ≡ Some (b, rest)
+pub byte_at-escaped : (b : ℕ) (rest : List ℕ) → byte_at (escape_of b ++ rest) ≡ Some (b, rest)
 byte_at-escaped b rest =
     elim (cases_Bool (eqb b ampersand)) [
       | inl is ↦ rw (eqb-true b ampersand is) refl
@@ -58,7 +58,7 @@ byte_at-bad (b ∷ bs) bad = bad_at b bs bad
 
 -- a text's first byte is read from what begins with its file name
 cons_read : (b : ℕ) (bs rest : List ℕ) → byte_at (file_text (b ∷ bs) ++ rest) ≡ Some (b, file_text bs ++ rest)
-cons_read b bs rest = ap byte_at (append_assoc (escaped b) (file_text bs) rest) ∙ byte_at-escaped b (file_text bs ++ rest)
+cons_read b bs rest = ap byte_at (append_assoc (escape_of b) (file_text bs) rest) ∙ byte_at-escaped b (file_text bs ++ rest)
 
 -- two texts with one file name are one
 pub one_text : (x y : List ℕ) → file_text x ≡ file_text y → x ≡ y
@@ -87,9 +87,9 @@ one_place [] a (d ∷ ds) b same bad bad' = absurd (none-some (d, file_text ds +
 one_place (c ∷ cs) a [] b same bad bad' = absurd (none-some (c, file_text cs ++ a) (sym (byte_at-bad b bad') ∙ ap byte_at (sym same) ∙ cons_read c cs a))
 one_place (c ∷ cs) a (d ∷ ds) b same bad bad' =
     let is = same_Some (c, file_text cs ++ a) (d, file_text ds ++ b) (sym (cons_read c cs a) ∙ ap byte_at same ∙ cons_read d ds b) in
-    let first : length (escaped c) ≡ length (escaped d) = ap (λ (p : ℕ × List ℕ). length (escaped p.0)) is in
+    let first : length (escape_of c) ≡ length (escape_of d) = ap (λ (p : ℕ × List ℕ). length (escape_of p.0)) is in
     let rest : length (file_text cs) ≡ length (file_text ds) = one_place cs a ds b (ap (λ (p : ℕ × List ℕ). p.1) is) bad bad' in
-    length-append (escaped c) (file_text cs) ∙ ap (λ n. n + length (file_text cs)) first ∙ ap (λ n. length (escaped d) + n) rest ∙ sym (length-append (escaped d) (file_text ds))
+    length-append (escape_of c) (file_text cs) ∙ ap (λ n. n + length (file_text cs)) first ∙ ap (λ n. length (escape_of d) + n) rest ∙ sym (length-append (escape_of d) (file_text ds))
 
 -- ---- what a call answers of a file name
 

@@ -22,7 +22,7 @@ use Rattle.annex_base.proofs.Lists.{filter_no, filter_yes}
 use Rattle.std.proofs.lemmas.Option.{none-some, same_Some}
 use Rattle.annex_key.specs.Tree.{Entries, with_key, key_of, paths_of, each_once, distinct_keys}
 use Rattle.annex_base.specs.ByteOrder.{path_cmp}
-use Rattle.annex_key.specs.TreeView.{seen}
+use Rattle.annex_key.specs.TreeView.{view_of}
 
 -- ---- elements
 
@@ -226,28 +226,28 @@ distinct_keys-each es key sorted = (
 abbrev Row : Type 0
 Row = Vec ℕ Global × List ℕ
 
-below_seen : (path : Vec ℕ Global) (es : List Row) → AllByRecursion (λ q. path_cmp path q ≡ Less) (keys_of es) → AllByRecursion (λ q. text_cmp path.items q ≡ Less) (keys_of (seen es))
+below_seen : (path : Vec ℕ Global) (es : List Row) → AllByRecursion (λ q. path_cmp path q ≡ Less) (keys_of es) → AllByRecursion (λ q. text_cmp path.items q ≡ Less) (keys_of (view_of es))
 below_seen path [] all = tt
 below_seen path (e ∷ es) all = (all.0, below_seen path es all.1)
 
-pub seen-sorted : (es : List Row) → IsStrictlySortedBy path_cmp (keys_of es) → IsInOrder (seen es)
+pub seen-sorted : (es : List Row) → IsStrictlySortedBy path_cmp (keys_of es) → IsInOrder (view_of es)
 unfolding IsStrictlySortedBy
 seen-sorted [] sorted = tt
 seen-sorted (e ∷ es) sorted = (below_seen e.0 es sorted.0, seen-sorted es sorted.1)
 
 -- ---- what the lists say
 
-pub paths_each : (es : List Row) (t : Entries) (key : List ℕ) (paths : List (List ℕ)) → seen es ≡ t → paths ≡ paths_of (seen es) key → IsInOrder (seen es)
+pub paths_each : (es : List Row) (t : Entries) (key : List ℕ) (paths : List (List ℕ)) → view_of es ≡ t → paths ≡ paths_of (view_of es) key → IsInOrder (view_of es)
     → (path : List ℕ) → Contains paths path ↔ (key_of t path ≡ Some key)
 paths_each es t key paths same is sorted path =
     subst (λ (u : Entries). Contains paths path ↔ (key_of u path ≡ Some key)) same
-    (subst (λ (w : List (List ℕ)). Contains w path ↔ (key_of (seen es) path ≡ Some key)) (sym is) (paths_of-each (seen es) key path sorted))
+    (subst (λ (w : List (List ℕ)). Contains w path ↔ (key_of (view_of es) path ≡ Some key)) (sym is) (paths_of-each (view_of es) key path sorted))
 
-pub keys_each : (es : List Row) (t : Entries) (keys : List (List ℕ)) → seen es ≡ t → keys ≡ distinct_keys (seen es) → IsInOrder (seen es)
+pub keys_each : (es : List Row) (t : Entries) (keys : List (List ℕ)) → view_of es ≡ t → keys ≡ distinct_keys (view_of es) → IsInOrder (view_of es)
     → (key : List ℕ) → Contains keys key ↔ ((path : List ℕ) × (key_of t path ≡ Some key))
 keys_each es t keys same is sorted key =
     subst (λ (u : Entries). Contains keys key ↔ ((path : List ℕ) × (key_of u path ≡ Some key))) same
-    (subst (λ (w : List (List ℕ)). Contains w key ↔ ((path : List ℕ) × (key_of (seen es) path ≡ Some key))) (sym is) (distinct_keys-each (seen es) key sorted))
+    (subst (λ (w : List (List ℕ)). Contains w key ↔ ((path : List ℕ) × (key_of (view_of es) path ≡ Some key))) (sym is) (distinct_keys-each (view_of es) key sorted))
 
 -- ---- a path that is set
 

@@ -30,15 +30,15 @@ abbrev pub colon_letter : ℕ
 colon_letter = 99
 
 -- a byte of a text as its file name has it
-abbrev pub escaped : ℕ → List ℕ
-escaped b = if b == ampersand then ampersand ∷ ampersand_letter ∷ []
+abbrev pub escape_of : ℕ → List ℕ
+escape_of b = if b == ampersand then ampersand ∷ ampersand_letter ∷ []
     else (if b == percent then ampersand ∷ percent_letter ∷ []
     else (if b == colon then ampersand ∷ colon_letter ∷ []
     else (if b == slash then percent ∷ [] else b ∷ [])))
 
 -- the file name of a text
 abbrev pub file_text : List ℕ → List ℕ
-file_text text = flat_map escaped text
+file_text text = flat_map escape_of text
 
 -- the byte that a letter after a `&` stands for
 abbrev pub letter_byte : ℕ → Option ℕ

@@ -14,8 +14,8 @@ use Rattle.std.specs.declared.alloc.Global.{Global}
 use Rattle.annex_base.specs.ByteOrder.{text_cmp}
 use Rattle.annex_key.specs.Tree.{Entries, key_of}
 
-abbrev pub seen : List (Vec ℕ Global × List ℕ) → List (List ℕ × List ℕ)
-seen entries = map (λ e. (e.0.items, e.1)) entries
+abbrev pub view_of : List (Vec ℕ Global × List ℕ) → List (List ℕ × List ℕ)
+view_of entries = map (λ e. (e.0.items, e.1)) entries
 
 -- whether the path is among those that were found
 abbrev pub has : Option (BTreeSet (List ℕ)) → List ℕ → Bool

@@ -1,13 +1,13 @@
 //! The file names of keys (own): four bytes of a text are written otherwise.
 ghost use Rattle.std.specs.Prelude.{◌≡◌, ◌++◌, OnOk, IfOk, IfErr};
 ghost use Rattle.std.specs.Option.{option_map};
-ghost use Rattle.annex_key.specs.KeyFile.{escaped, file_text, letter_byte, byte_at, FailsEscape};
+ghost use Rattle.annex_key.specs.KeyFile.{escape_of, file_text, letter_byte, byte_at, FailsEscape};
 
 use crate::fault::KeyFault;
 use std::alloc::{AllocError, Global};
 
 fn put_escaped(out: &mut Vec<u8>, byte: u8) -> Result<(), AllocError>
-    ensures { OnOk result (out.new.items ≡ out.old.items ++ escaped byte) }
+    ensures { OnOk result (out.new.items ≡ out.old.items ++ escape_of byte) }
 {
     match byte {
         b'&' => out.extend_from_slice(b"&a")?,

@@ -5,7 +5,7 @@ ghost use Rattle.std.specs.Map.{keys_of, values_of};
 ghost use Rattle.std.specs.Option.{option_copied};
 ghost use Rattle.annex_base.specs.ByteOrder.{text_cmp};
 ghost use Rattle.annex_key.specs.Tree.{with_key, key_of, paths_of, distinct_keys};
-ghost use Rattle.annex_key.specs.TreeView.{seen, IsIndexed};
+ghost use Rattle.annex_key.specs.TreeView.{view_of, IsIndexed};
 
 use crate::index::{PathIndex, add_path, firsts_of, leave_key, paths_of, take_path};
 use crate::key::Key;
@@ -25,13 +25,13 @@ pub struct Tree {
 
 impl Model for Tree {
     ghost use Rattle.std.specs.Prelude.{List, ℕ};
-    ghost use Rattle.annex_key.specs.TreeView.{seen, IsIndexed};
+    ghost use Rattle.annex_key.specs.TreeView.{view_of, IsIndexed};
 
     ghost Value = { List (List ℕ × List ℕ) };
 
-    ghost view = { λ t. seen t.keys.entries };
+    ghost view = { λ t. view_of t.keys.entries };
 
-    ghost invariant = { λ t. IsIndexed (seen t.keys.entries) t.paths };
+    ghost invariant = { λ t. IsIndexed (view_of t.keys.entries) t.paths };
 }
 
 impl Tree {
@@ -89,10 +89,10 @@ fn put(
     path: &[u8],
     key: &Key,
 ) -> Result<(), NoMemory>
-    requires { IsIndexed (seen keys.old.entries) paths.old }
-    ensures ok { OnOk result (seen keys.new.entries ≡ with_key (seen keys.old.entries) path.now key.now) }
-    ensures err { OnErr result (seen keys.new.entries ≡ seen keys.old.entries) }
-    ensures indexed { IsIndexed (seen keys.new.entries) paths.new }
+    requires { IsIndexed (view_of keys.old.entries) paths.old }
+    ensures ok { OnOk result (view_of keys.new.entries ≡ with_key (view_of keys.old.entries) path.now key.now) }
+    ensures err { OnErr result (view_of keys.new.entries ≡ view_of keys.old.entries) }
+    ensures indexed { IsIndexed (view_of keys.new.entries) paths.new }
 {
     let text = Text::new(alloc, path)?;
     let row = Vec::from_slice(alloc, path)?;
@@ -117,11 +117,11 @@ fn replace(
     path: Vec<u8>,
     key: Key,
 ) -> Result<Option<Key>, NoMemory>
-    ensures ok { OnOk result (seen keys.new.entries ≡ with_key (seen keys.old.entries) path.items key) }
-    ensures old { IfOk result (λ old. old ≡ key_of (seen keys.old.entries) path.items) }
-    ensures err { OnErr result (seen keys.new.entries ≡ seen keys.old.entries) }
-    ensures none { OnErr result (key_of (seen keys.old.entries) path.items ≡ None) }
-    ensures sorted { IsStrictlySortedBy text_cmp (keys_of (seen keys.new.entries)) }
+    ensures ok { OnOk result (view_of keys.new.entries ≡ with_key (view_of keys.old.entries) path.items key) }
+    ensures old { IfOk result (λ old. old ≡ key_of (view_of keys.old.entries) path.items) }
+    ensures err { OnErr result (view_of keys.new.entries ≡ view_of keys.old.entries) }
+    ensures none { OnErr result (key_of (view_of keys.old.entries) path.items ≡ None) }
+    ensures sorted { IsStrictlySortedBy text_cmp (keys_of (view_of keys.new.entries)) }
 {
     Ok(keys.insert(path, key)?)
 }

@@ -9,7 +9,7 @@ use Rattle.annex_base.specs.Lists.{Each}
 use Rattle.annex_base.proofs.Conditions.{bytes_eq-true, eqb_refl, if_same}
 use Rattle.annex_base.proofs.Lists.{Each-weaker, filter_all, find_nowhere}
 use Rattle.run_data.specs.declared.row.Hold.{Hold}
-use Rattle.content_lock.specs.Indexed.{AreRising, IsIndexed, items_in, listed_at, numbered, on_key}
+use Rattle.content_lock.specs.Indexed.{AreRising, IsIndexed, items_in, listed_at, with_number, on_key}
 use Rattle.content_lock.specs.Tokens.{others_of}
 use Rattle.content_lock.proofs.NumberedLemmas.{below_other, numbered-append, one_of, rising-filter, rising-last, rising-map, values-numbered}
 
@@ -21,11 +21,11 @@ abbrev pub numbers_on : List ℕ → List Hold → List ℕ
 numbers_on key hs = map (λ h. h.number) (on_key key hs)
 
 -- from the holds alone
-pub indexed_by : (es : List (ℕ × Hold)) (lists : Lists) (hs : List Hold) → es ≡ map numbered hs → AreRising hs → ((key : List ℕ) → listed_at lists key ≡ numbers_on key hs) → IsIndexed es lists
+pub indexed_by : (es : List (ℕ × Hold)) (lists : Lists) (hs : List Hold) → es ≡ map with_number hs → AreRising hs → ((key : List ℕ) → listed_at lists key ≡ numbers_on key hs) → IsIndexed es lists
 indexed_by es lists hs is rising listed =
     let values : values_of es ≡ hs = ap values_of is ∙ values-numbered hs in
     record {
-      named = is ∙ ap (map numbered) (sym values);
+      named = is ∙ ap (map with_number) (sym values);
       rising = subst AreRising (sym values) rising;
       listed = λ key. listed key ∙ ap (numbers_on key) (sym values);
     }
@@ -48,10 +48,10 @@ abbrev pub Enlists : Lists → Lists → List ℕ → ℕ → Type 0
 Enlists was now key number = (k : List ℕ) → listed_at now k ≡ (if bytes_eq key k then listed_at was k ++ number ∷ [] else listed_at was k)
 
 pub indexed_more : (es fs : List (ℕ × Hold)) (was now : Lists) (h : Hold) → IsIndexed es was → Each (λ x. x.number < h.number) (values_of es) → Enlists was now h.key h.number
-    → fs ≡ es ++ numbered h ∷ [] → IsIndexed fs now
+    → fs ≡ es ++ with_number h ∷ [] → IsIndexed fs now
 indexed_more es fs was now h indexed less enlists is =
     let hs = values_of es in
-    indexed_by fs now (hs ++ h ∷ []) (is ∙ ap (λ l. l ++ numbered h ∷ []) indexed.named ∙ sym (numbered-append hs (h ∷ []))) (rising-last hs h less indexed.rising)
+    indexed_by fs now (hs ++ h ∷ []) (is ∙ ap (λ l. l ++ with_number h ∷ []) indexed.named ∙ sym (numbered-append hs (h ∷ []))) (rising-last hs h less indexed.rising)
     (λ key. enlists key ∙ ap (λ (l : List ℕ). if bytes_eq h.key key then l ++ h.number ∷ [] else l) (indexed.listed key) ∙ on_last key hs h)
 
 -- ---- one less
@@ -84,7 +84,7 @@ off_other key n (h ∷ hs) away = go (h.number == n) refl (bytes_eq h.key key) r
     go false m false k ih = rw k ih
 
 pub indexed_less : (es fs : List (ℕ × Hold)) (was now : Lists) (n : ℕ) (h : Hold) → IsIndexed es was → find (λ x. x.number == n) (values_of es) ≡ Some h → Delists was now h.key n
-    → fs ≡ map numbered (others_of n (values_of es)) → IsIndexed fs now
+    → fs ≡ map with_number (others_of n (values_of es)) → IsIndexed fs now
 indexed_less es fs was now n h indexed found delists is =
     let hs = values_of es in
     let one = one_of hs n h indexed.rising found in
@@ -117,7 +117,7 @@ on_mapped f number key' key (h ∷ hs) =
     go false ih = ih
 
 pub indexed_mapped : (f : Hold → Hold) → ((h : Hold) → (f h).number ≡ h.number) → ((h : Hold) → (f h).key ≡ h.key)
-    → (es fs : List (ℕ × Hold)) (lists : Lists) → IsIndexed es lists → fs ≡ map numbered (map f (values_of es)) → IsIndexed fs lists
+    → (es fs : List (ℕ × Hold)) (lists : Lists) → IsIndexed es lists → fs ≡ map with_number (map f (values_of es)) → IsIndexed fs lists
 indexed_mapped f number key' es fs lists indexed is =
     indexed_by fs lists (map f (values_of es)) is (rising-map f number (values_of es) indexed.rising)
     (λ key. indexed.listed key ∙ on_mapped f number key' key (values_of es))

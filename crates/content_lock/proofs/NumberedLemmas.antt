@@ -12,12 +12,12 @@ use Rattle.std.proofs.lemmas.List.Elements.{filter-append}
 use Rattle.annex_base.specs.Lists.{Each}
 use Rattle.annex_base.proofs.Lists.{Each-append, Each-filter, Each-from_All, Each-reverse, Each-weaker, filter_all, find_member, find_nowhere}
 use Rattle.run_data.specs.declared.row.Hold.{Hold}
-use Rattle.content_lock.specs.Indexed.{AreRising, AreFalling, numbered}
+use Rattle.content_lock.specs.Indexed.{AreRising, AreFalling, with_number}
 use Rattle.content_lock.specs.Tokens.{keep_numbered, others_of}
 
 -- ---- entries and their holds
 
-pub values-numbered : (hs : List Hold) → values_of (map numbered hs) ≡ hs
+pub values-numbered : (hs : List Hold) → values_of (map with_number hs) ≡ hs
 values-numbered [] = refl
 values-numbered (h ∷ hs) = ap (λ l. h ∷ l) (values-numbered hs)
 
@@ -25,9 +25,9 @@ pub values-append : (es fs : List (ℕ × Hold)) → values_of (es ++ fs) ≡ va
 values-append [] fs = refl
 values-append (e ∷ es) fs = ap (λ l. e.1 ∷ l) (values-append es fs)
 
-pub numbered-append : (hs ks : List Hold) → map numbered (hs ++ ks) ≡ map numbered hs ++ map numbered ks
+pub numbered-append : (hs ks : List Hold) → map with_number (hs ++ ks) ≡ map with_number hs ++ map with_number ks
 numbered-append [] ks = refl
-numbered-append (h ∷ hs) ks = ap (λ l. numbered h ∷ l) (numbered-append hs ks)
+numbered-append (h ∷ hs) ks = ap (λ l. with_number h ∷ l) (numbered-append hs ks)
 
 -- ---- numbers compared
 
@@ -48,13 +48,13 @@ below_other n m lt = grind arith
 
 -- ---- a hold of a greater number goes last
 
-pub insert_last : (hs : List Hold) (n : ℕ) (h : Hold) → Each (λ x. x.number < n) hs → insert_entry nat_cmp (map numbered hs) n h ≡ map numbered hs ++ (n, h) ∷ []
+pub insert_last : (hs : List Hold) (n : ℕ) (h : Hold) → Each (λ x. x.number < n) hs → insert_entry nat_cmp (map with_number hs) n h ≡ map with_number hs ++ (n, h) ∷ []
 insert_last [] n h less = refl
-insert_last (x ∷ xs) n h less = rw (greater_is n x.number less.0) (ap (λ l. numbered x ∷ l) (insert_last xs n h less.1))
+insert_last (x ∷ xs) n h less = rw (greater_is n x.number less.0) (ap (λ l. with_number x ∷ l) (insert_last xs n h less.1))
 
 -- ---- one that is looked up
 
-pub lookup_is : (hs : List Hold) (n : ℕ) → lookup (is_at (nat_cmp n)) (map numbered hs) ≡ find (λ h. h.number == n) hs
+pub lookup_is : (hs : List Hold) (n : ℕ) → lookup (is_at (nat_cmp n)) (map with_number hs) ≡ find (λ h. h.number == n) hs
 lookup_is [] n = refl
 lookup_is (h ∷ hs) n = rw (at_is n h.number, lookup_is hs n) refl
 
@@ -63,15 +63,15 @@ lookup_is (h ∷ hs) n = rw (at_is n h.number, lookup_is hs n) refl
 remove_none : (hs : List Hold) (n : ℕ) → Each (λ x. n < x.number) hs → others_of n hs ≡ hs
 remove_none hs n more = filter_all (λ h. not (h.number == n)) hs (Each-weaker (λ x. n < x.number) (λ h. not (h.number == n) ≡ true) (λ x lt. not_at n x.number lt) hs more)
 
-pub remove_is : (hs : List Hold) (n : ℕ) → AreRising hs → remove_entry (is_at (nat_cmp n)) (map numbered hs) ≡ map numbered (others_of n hs)
+pub remove_is : (hs : List Hold) (n : ℕ) → AreRising hs → remove_entry (is_at (nat_cmp n)) (map with_number hs) ≡ map with_number (others_of n hs)
 remove_is [] n rising = refl
 remove_is (h ∷ hs) n rising = rw (at_is n h.number) (go (remove_is hs n rising.1) (h.number == n) refl)
   where
-    go : remove_entry (is_at (nat_cmp n)) (map numbered hs) ≡ map numbered (others_of n hs) → (b : Bool) → (h.number == n) ≡ b
-        → cond b (map numbered hs) (numbered h ∷ remove_entry (is_at (nat_cmp n)) (map numbered hs)) ≡ map numbered (if not b then h ∷ others_of n hs else others_of n hs)
+    go : remove_entry (is_at (nat_cmp n)) (map with_number hs) ≡ map with_number (others_of n hs) → (b : Bool) → (h.number == n) ≡ b
+        → cond b (map with_number hs) (with_number h ∷ remove_entry (is_at (nat_cmp n)) (map with_number hs)) ≡ map with_number (if not b then h ∷ others_of n hs else others_of n hs)
     go ih true is = let same : h.number ≡ n = grind arith in
-        ap (map numbered) (sym (remove_none hs n (subst (λ m. Each (λ x. m < x.number) hs) same rising.0)))
-    go ih false is = ap (λ l. numbered h ∷ l) ih
+        ap (map with_number) (sym (remove_none hs n (subst (λ m. Each (λ x. m < x.number) hs) same rising.0)))
+    go ih false is = ap (λ l. with_number h ∷ l) ih
 
 -- ---- one that is written
 
@@ -83,17 +83,17 @@ put_none : (hs : List Hold) (n : ℕ) (w : Hold) → Each (λ x. n < x.number) h
 put_none [] n w more = refl
 put_none (h ∷ hs) n w more = rw (eqb_false n h.number more.0) (ap (λ l. h ∷ l) (put_none hs n w more.1))
 
-pub set_is : (hs : List Hold) (n : ℕ) (w : Hold) → w.number ≡ n → AreRising hs → set_value (is_at (nat_cmp n)) (map numbered hs) w ≡ map numbered (map (put_at n w) hs)
+pub set_is : (hs : List Hold) (n : ℕ) (w : Hold) → w.number ≡ n → AreRising hs → set_value (is_at (nat_cmp n)) (map with_number hs) w ≡ map with_number (map (put_at n w) hs)
 set_is [] n w named rising = refl
 set_is (h ∷ hs) n w named rising = rw (at_is n h.number) (go (set_is hs n w named rising.1) (h.number == n) refl)
   where
-    go : set_value (is_at (nat_cmp n)) (map numbered hs) w ≡ map numbered (map (put_at n w) hs) → (b : Bool) → (h.number == n) ≡ b
-        → cond b ((h.number, w) ∷ map numbered hs) (numbered h ∷ set_value (is_at (nat_cmp n)) (map numbered hs) w) ≡ numbered (if b then w else h) ∷ map numbered (map (put_at n w) hs)
+    go : set_value (is_at (nat_cmp n)) (map with_number hs) w ≡ map with_number (map (put_at n w) hs) → (b : Bool) → (h.number == n) ≡ b
+        → cond b ((h.number, w) ∷ map with_number hs) (with_number h ∷ set_value (is_at (nat_cmp n)) (map with_number hs) w) ≡ with_number (if b then w else h) ∷ map with_number (map (put_at n w) hs)
     go ih true is =
         let same : h.number ≡ n = grind arith in
         let rest : map (put_at n w) hs ≡ hs = put_none hs n w (subst (λ m. Each (λ x. m < x.number) hs) same rising.0) in
-        λ i. ((same ∙ sym named) i, w) ∷ map numbered (sym rest i)
-    go ih false is = ap (λ l. numbered h ∷ l) ih
+        λ i. ((same ∙ sym named) i, w) ∷ map with_number (sym rest i)
+    go ih false is = ap (λ l. with_number h ∷ l) ih
 
 -- ---- the one hold of a number
 
@@ -144,20 +144,20 @@ falling-reverse (h ∷ hs) rising =
 
 -- ---- what the map's calls leave
 
-pub inserted : (es fs : List (ℕ × Hold)) (h : Hold) → es ≡ map numbered (values_of es) → Each (λ x. x.number < h.number) (values_of es) → fs ≡ insert_entry nat_cmp es h.number h → fs ≡ es ++ numbered h ∷ []
+pub inserted : (es fs : List (ℕ × Hold)) (h : Hold) → es ≡ map with_number (values_of es) → Each (λ x. x.number < h.number) (values_of es) → fs ≡ insert_entry nat_cmp es h.number h → fs ≡ es ++ with_number h ∷ []
 inserted es fs h named less is =
-    is ∙ ap (λ (l : List (ℕ × Hold)). insert_entry nat_cmp l h.number h) named ∙ insert_last (values_of es) h.number h less ∙ ap (λ (l : List (ℕ × Hold)). l ++ numbered h ∷ []) (sym named)
+    is ∙ ap (λ (l : List (ℕ × Hold)). insert_entry nat_cmp l h.number h) named ∙ insert_last (values_of es) h.number h less ∙ ap (λ (l : List (ℕ × Hold)). l ++ with_number h ∷ []) (sym named)
 
-pub values_more : (es fs : List (ℕ × Hold)) (h : Hold) → fs ≡ es ++ numbered h ∷ [] → values_of fs ≡ values_of es ++ h ∷ []
-values_more es fs h is = ap values_of is ∙ values-append es (numbered h ∷ [])
+pub values_more : (es fs : List (ℕ × Hold)) (h : Hold) → fs ≡ es ++ with_number h ∷ [] → values_of fs ≡ values_of es ++ h ∷ []
+values_more es fs h is = ap values_of is ∙ values-append es (with_number h ∷ [])
 
-pub removed : (es fs : List (ℕ × Hold)) (n : ℕ) → es ≡ map numbered (values_of es) → AreRising (values_of es) → fs ≡ remove_entry (is_at (nat_cmp n)) es → fs ≡ map numbered (others_of n (values_of es))
+pub removed : (es fs : List (ℕ × Hold)) (n : ℕ) → es ≡ map with_number (values_of es) → AreRising (values_of es) → fs ≡ remove_entry (is_at (nat_cmp n)) es → fs ≡ map with_number (others_of n (values_of es))
 removed es fs n named rising is = is ∙ ap (remove_entry (is_at (nat_cmp n))) named ∙ remove_is (values_of es) n rising
 
-pub values_less : (es fs : List (ℕ × Hold)) (n : ℕ) → fs ≡ map numbered (others_of n (values_of es)) → values_of fs ≡ others_of n (values_of es)
+pub values_less : (es fs : List (ℕ × Hold)) (n : ℕ) → fs ≡ map with_number (others_of n (values_of es)) → values_of fs ≡ others_of n (values_of es)
 values_less es fs n is = ap values_of is ∙ values-numbered (others_of n (values_of es))
 
-pub looked_up : (es : List (ℕ × Hold)) (n : ℕ) (o : Option Hold) → es ≡ map numbered (values_of es) → o ≡ lookup (is_at (nat_cmp n)) es → find (λ h. h.number == n) (values_of es) ≡ o
+pub looked_up : (es : List (ℕ × Hold)) (n : ℕ) (o : Option Hold) → es ≡ map with_number (values_of es) → o ≡ lookup (is_at (nat_cmp n)) es → find (λ h. h.number == n) (values_of es) ≡ o
 looked_up es n o named is = sym (is ∙ ap (lookup (is_at (nat_cmp n))) named ∙ lookup_is (values_of es) n)
 
 or_true : (b : Bool) → true ≡ (b || true)
@@ -180,29 +180,29 @@ keeps_none : (hs : List Hold) (n : ℕ) → Each (λ x. (x.number == n) ≡ fals
 keeps_none [] n none = refl
 keeps_none (x ∷ xs) n none = λ i. (ap (λ (c : Bool). record x { kept = c }) (or_false x.kept) ∙ ap (λ (b : Bool). record x { kept = x.kept || b }) (sym none.0)) i ∷ keeps_none xs n none.1 i
 
-pub kept_one : (es fs : List (ℕ × Hold)) (n : ℕ) (h : Hold) → es ≡ map numbered (values_of es) → AreRising (values_of es) → Some h ≡ lookup (is_at (nat_cmp n)) es
-    → fs ≡ set_value (is_at (nat_cmp n)) es (record h { kept = true }) → fs ≡ map numbered (map (keep_numbered n) (values_of es))
+pub kept_one : (es fs : List (ℕ × Hold)) (n : ℕ) (h : Hold) → es ≡ map with_number (values_of es) → AreRising (values_of es) → Some h ≡ lookup (is_at (nat_cmp n)) es
+    → fs ≡ set_value (is_at (nat_cmp n)) es (record h { kept = true }) → fs ≡ map with_number (map (keep_numbered n) (values_of es))
 kept_one es fs n h named rising found is =
     let hs = values_of es in
     let at = looked_up es n (Some h) named found in
     let number : h.number ≡ n = number_is (find_member (λ x. x.number == n) hs h at).1 in
     is ∙ ap (λ (l : List (ℕ × Hold)). set_value (is_at (nat_cmp n)) l (record h { kept = true })) named ∙ set_is hs n (record h { kept = true }) number rising
-    ∙ ap (map numbered) (put_keeps hs n h (one_of hs n h rising at))
+    ∙ ap (map with_number) (put_keeps hs n h (one_of hs n h rising at))
   where
     number_is : (h.number == n) ≡ true → h.number ≡ n
     number_is e = grind arith
 
-pub kept_none : (es fs : List (ℕ × Hold)) (n : ℕ) → es ≡ map numbered (values_of es) → None ≡ lookup (is_at (nat_cmp n)) es → fs ≡ es → fs ≡ map numbered (map (keep_numbered n) (values_of es))
+pub kept_none : (es fs : List (ℕ × Hold)) (n : ℕ) → es ≡ map with_number (values_of es) → None ≡ lookup (is_at (nat_cmp n)) es → fs ≡ es → fs ≡ map with_number (map (keep_numbered n) (values_of es))
 kept_none es fs n named none is =
     let hs = values_of es in
-    is ∙ named ∙ ap (map numbered) (keeps_none hs n (find_nowhere (λ x. x.number == n) hs (looked_up es n None named none)))
+    is ∙ named ∙ ap (map with_number) (keeps_none hs n (find_nowhere (λ x. x.number == n) hs (looked_up es n None named none)))
 
 -- what is written of each
-mapped : (f : Hold → Hold) → ((h : Hold) → (f h).number ≡ h.number) → (hs : List Hold) → map (λ (e : ℕ × Hold). (e.0, f e.1)) (map numbered hs) ≡ map numbered (map f hs)
+mapped : (f : Hold → Hold) → ((h : Hold) → (f h).number ≡ h.number) → (hs : List Hold) → map (λ (e : ℕ × Hold). (e.0, f e.1)) (map with_number hs) ≡ map with_number (map f hs)
 mapped f number [] = refl
 mapped f number (h ∷ hs) = λ i. (sym (number h) i, f h) ∷ mapped f number hs i
 
-pub mapped_all : (f : Hold → Hold) → ((h : Hold) → (f h).number ≡ h.number) → (es fs : List (ℕ × Hold)) → es ≡ map numbered (values_of es) → fs ≡ map (λ (e : ℕ × Hold). (e.0, f e.1)) es → fs ≡ map numbered (map f (values_of es))
+pub mapped_all : (f : Hold → Hold) → ((h : Hold) → (f h).number ≡ h.number) → (es fs : List (ℕ × Hold)) → es ≡ map with_number (values_of es) → fs ≡ map (λ (e : ℕ × Hold). (e.0, f e.1)) es → fs ≡ map with_number (map f (values_of es))
 mapped_all f number es fs named is = is ∙ ap (map (λ (e : ℕ × Hold). (e.0, f e.1))) named ∙ mapped f number (values_of es)
 
 -- ---- the list from the last on

@@ -15,7 +15,7 @@ use Rattle.run_data.specs.declared.row.Hold.{Hold}
 use Rattle.node_model.specs.Rows.{restart}
 use Rattle.object_store.specs.declared.keeper.HoldRecord.{HoldRecord}
 use Rattle.object_store.specs.Stores.{AreFalling}
-use Rattle.content_lock.specs.Indexed.{AreRising, IsRecovered, numbered, on_key}
+use Rattle.content_lock.specs.Indexed.{AreRising, IsRecovered, with_number, on_key}
 use Rattle.content_lock.specs.Stored.{AreRecordsOf, Label, kept_hold, label_in, label_of, ownerless}
 use Rattle.content_lock.proofs.IndexedLemmas.{numbers_on}
 use Rattle.content_lock.proofs.NumberedLemmas.{values-numbered}
@@ -39,16 +39,16 @@ greater_is n m e = grind arith
 is_less : (n m : ℕ) → n < m → nat_cmp n m ≡ Less
 is_less n m lt = grind arith
 
-placed : (h : Hold) (hs : List Hold) → insert_entry nat_cmp (map numbered hs) h.number h ≡ map numbered (place h hs)
+placed : (h : Hold) (hs : List Hold) → insert_entry nat_cmp (map with_number hs) h.number h ≡ map with_number (place h hs)
 placed h [] = refl
 placed h (x ∷ xs) = go (nat_cmp h.number x.number) refl (placed h xs)
   where
-    go : (o : Ordering) → nat_cmp h.number x.number ≡ o → insert_entry nat_cmp (map numbered xs) h.number h ≡ map numbered (place h xs)
-        → match_ordering o ((h.number, h) ∷ numbered x ∷ map numbered xs) ((x.number, h) ∷ map numbered xs) (numbered x ∷ insert_entry nat_cmp (map numbered xs) h.number h)
-        ≡ map numbered (match_ordering o (h ∷ x ∷ xs) (h ∷ xs) (x ∷ place h xs))
+    go : (o : Ordering) → nat_cmp h.number x.number ≡ o → insert_entry nat_cmp (map with_number xs) h.number h ≡ map with_number (place h xs)
+        → match_ordering o ((h.number, h) ∷ with_number x ∷ map with_number xs) ((x.number, h) ∷ map with_number xs) (with_number x ∷ insert_entry nat_cmp (map with_number xs) h.number h)
+        ≡ map with_number (match_ordering o (h ∷ x ∷ xs) (h ∷ xs) (x ∷ place h xs))
     go Less is ih = refl
-    go Equal is ih = λ i. (sym (equal_is h.number x.number is) i, h) ∷ map numbered xs
-    go Greater is ih = ap (λ (l : List (ℕ × Hold)). numbered x ∷ l) ih
+    go Equal is ih = λ i. (sym (equal_is h.number x.number is) i, h) ∷ map with_number xs
+    go Greater is ih = ap (λ (l : List (ℕ × Hold)). with_number x ∷ l) ih
 
 each_placed : (P : Hold → Type 0) (h : Hold) (hs : List Hold) → P h → Each P hs → Each P (place h hs)
 each_placed P h [] it each = (it, tt)
@@ -106,10 +106,10 @@ pub recovered_more : (now : ℕ) (rs : List HoldRecord) (r : HoldRecord) (es fs 
 recovered_more now rs r es fs was is =
     let hs = values_of es in
     let h = kept_hold now r in
-    let put : fs ≡ map numbered (place h hs) = is ∙ ap (λ (l : List (ℕ × Hold)). insert_entry nat_cmp l h.number h) was.named ∙ placed h hs in
+    let put : fs ≡ map with_number (place h hs) = is ∙ ap (λ (l : List (ℕ × Hold)). insert_entry nat_cmp l h.number h) was.named ∙ placed h hs in
     let values : values_of fs ≡ place h hs = ap values_of put ∙ values-numbered (place h hs) in
     record {
-      named = put ∙ ap (map numbered) (sym values);
+      named = put ∙ ap (map with_number) (sym values);
       rising = subst AreRising (sym values) (rising_placed h hs was.rising);
       kept = subst (λ (l : List Hold). Each (λ x. x.kept ≡ true) l) (sym values) (each_placed (λ x. x.kept ≡ true) h hs refl was.kept);
       same = λ falling.

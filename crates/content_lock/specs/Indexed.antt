@@ -22,8 +22,8 @@ abbrev pub AreFalling : List Hold → Type 0
 AreFalling [] = Unit {0}
 AreFalling (h ∷ hs) = Each (λ x. x.number < h.number) hs × AreFalling hs
 
-abbrev pub numbered : Hold → ℕ × Hold
-numbered h = (h.number, h)
+abbrev pub with_number : Hold → ℕ × Hold
+with_number h = (h.number, h)
 
 -- the holds on a key
 abbrev pub on_key : List ℕ → List Hold → List Hold
@@ -39,13 +39,13 @@ listed_at lists key = items_in (lookup (bytes_eq key) lists)
 
 -- a map of holds in order of their numbers, and lists of the numbers on each key, in the same order
 pub record IsIndexed (holds : List (ℕ × Hold)) (lists : List (List ℕ × Vec ℕ Global)) : Type 0 where
-  pub named : holds ≡ map numbered (values_of holds)
+  pub named : holds ≡ map with_number (values_of holds)
   pub rising : AreRising (values_of holds)
   pub listed : (key : List ℕ) → listed_at lists key ≡ map (λ h. h.number) (on_key key (values_of holds))
 
 -- the map has the kept holds of the records, of each number the last; where the records stand in falling order, these are all
 pub record IsRecovered (clock : ℕ) (records : List HoldRecord) (holds : List (ℕ × Hold)) : Type 0 where
-  pub named : holds ≡ map numbered (values_of holds)
+  pub named : holds ≡ map with_number (values_of holds)
   pub rising : AreRising (values_of holds)
   pub kept : Each (λ h. h.kept ≡ true) (values_of holds)
   pub same : stores.AreFalling records → reverse (values_of holds) ≡ map (kept_hold clock) records

@@ -3,7 +3,7 @@ ghost use Rattle.std.specs.Prelude.{◌≡◌, ◌+◌, ◌<◌, ◌^◌, ◌==�
 ghost use Rattle.std.specs.Map.{values_of};
 ghost use Rattle.node_model.specs.Rows.{blocks, is_blocked, restart};
 ghost use Rattle.node_model.specs.DropStep.{until};
-ghost use Rattle.content_lock.specs.Indexed.{AreFalling, AreRising, IsIndexed, IsRecovered, listed_at, on_key, numbered, after_hold, hold_at};
+ghost use Rattle.content_lock.specs.Indexed.{AreFalling, AreRising, IsIndexed, IsRecovered, listed_at, on_key, with_number, after_hold, hold_at};
 ghost use Rattle.annex_base.specs.Lists.{Each};
 ghost use Rattle.object_store.specs.Stores as stores;
 ghost use Rattle.content_lock.specs.Blocking.{Names};
@@ -214,9 +214,9 @@ fn take_off(by_number: &mut BTreeMap<u64, Hold>, numbers: &mut IndexMap<Key, Vec
 }
 
 fn keep(by_number: &mut BTreeMap<u64, Hold>, number: u64)
-    requires named { by_number.old.entries ≡ map numbered (values_of by_number.old.entries) }
+    requires named { by_number.old.entries ≡ map with_number (values_of by_number.old.entries) }
     requires rising { AreRising (values_of by_number.old.entries) }
-    ensures { by_number.new.entries ≡ map numbered (map (keep_numbered number) (values_of by_number.old.entries)) }
+    ensures { by_number.new.entries ≡ map with_number (map (keep_numbered number) (values_of by_number.old.entries)) }
 {
     if let Some(hold) = by_number.get_mut(&number) {
         hold.kept = true;

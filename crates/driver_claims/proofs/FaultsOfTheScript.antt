@@ -21,7 +21,7 @@ use Rattle.driver_model.specs.Driver.{Driver, Given, at_first}
 use Rattle.driver_model.specs.ScriptSteps.{begins}
 use Rattle.driver_model.specs.Turning.{turn}
 use Rattle.driver_model.specs.Rounds.{settles, turns_of}
-use Rattle.driver_model.specs.Driving.{does, drives, marked, run_of, run_with}
+use Rattle.driver_model.specs.Driving.{does, drives, with_mark, run_of, run_with}
 use Rattle.driver_claims.proofs.Settling.{came, goes, settles_by}
 use Rattle.driver_claims.specs.Opened.{opened, matches_in}
 
@@ -1078,7 +1078,7 @@ abbrev made : Run
 made = record { repos = repos; entries = (e0 ∷ e1 ∷ e2 ∷ e3 ∷ e4 ∷ e5 ∷ e6 ∷ e7 ∷ e8 ∷ e9 ∷ e10 ∷ e11 ∷ e12 ∷ e13 ∷ e14 ∷ e15 ∷ e16 ∷ e17 ∷ e18 ∷ e19 ∷ e20 ∷ e21 ∷ e22 ∷ e23 ∷ e24 ∷ e25 ∷ e26 ∷ e27 ∷ e28 ∷ e29 ∷ e30 ∷ e31 ∷ e32 ∷ e33 ∷ e34 ∷ e35 ∷ e36 ∷ e37 ∷ e38 ∷ e39 ∷ e40 ∷ e41 ∷ e42 ∷ e43 ∷ e44 ∷ e45 ∷ e46 ∷ []); tree = ((record { place = 15; path = t3; key = t2 }) ∷ (record { place = 17; path = t4; key = t0 }) ∷ []); marks = (0 ∷ 1 ∷ 1 ∷ 2 ∷ 2 ∷ 3 ∷ 3 ∷ 4 ∷ 4 ∷ 6 ∷ 6 ∷ 6 ∷ 7 ∷ 7 ∷ 8 ∷ 9 ∷ 9 ∷ 10 ∷ 12 ∷ 12 ∷ 13 ∷ 13 ∷ 14 ∷ 15 ∷ 15 ∷ 17 ∷ 17 ∷ 33 ∷ 47 ∷ []) }
 
 all : drives given (l0 ∷ l1 ∷ l2 ∷ l3 ∷ l4 ∷ l5 ∷ l6 ∷ l7 ∷ l8 ∷ l9 ∷ l10 ∷ l11 ∷ l12 ∷ l13 ∷ l14 ∷ l15 ∷ l16 ∷ l17 ∷ l18 ∷ l19 ∷ l20 ∷ l21 ∷ l22 ∷ l23 ∷ l24 ∷ l25 ∷ l26 ∷ l27 ∷ l28 ∷ []) at_first ≡ d83
-all = ap (λ d. drives given (l1 ∷ l2 ∷ l3 ∷ l4 ∷ l5 ∷ l6 ∷ l7 ∷ l8 ∷ l9 ∷ l10 ∷ l11 ∷ l12 ∷ l13 ∷ l14 ∷ l15 ∷ l16 ∷ l17 ∷ l18 ∷ l19 ∷ l20 ∷ l21 ∷ l22 ∷ l23 ∷ l24 ∷ l25 ∷ l26 ∷ l27 ∷ l28 ∷ []) (marked d)) line0 ∙ ap (λ d. drives given (l2 ∷ l3 ∷ l4 ∷ l5 ∷ l6 ∷ l7 ∷ l8 ∷ l9 ∷ l10 ∷ l11 ∷ l12 ∷ l13 ∷ l14 ∷ l15 ∷ l16 ∷ l17 ∷ l18 ∷ l19 ∷ l20 ∷ l21 ∷ l22 ∷ l23 ∷ l24 ∷ l25 ∷ l26 ∷ l27 ∷ l28 ∷ []) (marked d)) line1 ∙ ap (λ d. drives given (l3 ∷ l4 ∷ l5 ∷ l6 ∷ l7 ∷ l8 ∷ l9 ∷ l10 ∷ l11 ∷ l12 ∷ l13 ∷ l14 ∷ l15 ∷ l16 ∷ l17 ∷ l18 ∷ l19 ∷ l20 ∷ l21 ∷ l22 ∷ l23 ∷ l24 ∷ l25 ∷ l26 ∷ l27 ∷ l28 ∷ []) (marked d)) line2 ∙ ap (λ d. drives given (l4 ∷ l5 ∷ l6 ∷ l7 ∷ l8 ∷ l9 ∷ l10 ∷ l11 ∷ l12 ∷ l13 ∷ l14 ∷ l15 ∷ l16 ∷ l17 ∷ l18 ∷ l19 ∷ l20 ∷ l21 ∷ l22 ∷ l23 ∷ l24 ∷ l25 ∷ l26 ∷ l27 ∷ l28 ∷ []) (marked d)) line3 ∙ ap (λ d. drives given (l5 ∷ l6 ∷ l7 ∷ l8 ∷ l9 ∷ l10 ∷ l11 ∷ l12 ∷ l13 ∷ l14 ∷ l15 ∷ l16 ∷ l17 ∷ l18 ∷ l19 ∷ l20 ∷ l21 ∷ l22 ∷ l23 ∷ l24 ∷ l25 ∷ l26 ∷ l27 ∷ l28 ∷ []) (marked d)) line4 ∙ ap (λ d. drives given (l6 ∷ l7 ∷ l8 ∷ l9 ∷ l10 ∷ l11 ∷ l12 ∷ l13 ∷ l14 ∷ l15 ∷ l16 ∷ l17 ∷ l18 ∷ l19 ∷ l20 ∷ l21 ∷ l22 ∷ l23 ∷ l24 ∷ l25 ∷ l26 ∷ l27 ∷ l28 ∷ []) (marked d)) line5 ∙ ap (λ d. drives given (l7 ∷ l8 ∷ l9 ∷ l10 ∷ l11 ∷ l12 ∷ l13 ∷ l14 ∷ l15 ∷ l16 ∷ l17 ∷ l18 ∷ l19 ∷ l20 ∷ l21 ∷ l22 ∷ l23 ∷ l24 ∷ l25 ∷ l26 ∷ l27 ∷ l28 ∷ []) (marked d)) line6 ∙ ap (λ d. drives given (l8 ∷ l9 ∷ l10 ∷ l11 ∷ l12 ∷ l13 ∷ l14 ∷ l15 ∷ l16 ∷ l17 ∷ l18 ∷ l19 ∷ l20 ∷ l21 ∷ l22 ∷ l23 ∷ l24 ∷ l25 ∷ l26 ∷ l27 ∷ l28 ∷ []) (marked d)) line7 ∙ ap (λ d. drives given (l9 ∷ l10 ∷ l11 ∷ l12 ∷ l13 ∷ l14 ∷ l15 ∷ l16 ∷ l17 ∷ l18 ∷ l19 ∷ l20 ∷ l21 ∷ l22 ∷ l23 ∷ l24 ∷ l25 ∷ l26 ∷ l27 ∷ l28 ∷ []) (marked d)) line8 ∙ ap (λ d. drives given (l10 ∷ l11 ∷ l12 ∷ l13 ∷ l14 ∷ l15 ∷ l16 ∷ l17 ∷ l18 ∷ l19 ∷ l20 ∷ l21 ∷ l22 ∷ l23 ∷ l24 ∷ l25 ∷ l26 ∷ l27 ∷ l28 ∷ []) (marked d)) line9 ∙ ap (λ d. drives given (l11 ∷ l12 ∷ l13 ∷ l14 ∷ l15 ∷ l16 ∷ l17 ∷ l18 ∷ l19 ∷ l20 ∷ l21 ∷ l22 ∷ l23 ∷ l24 ∷ l25 ∷ l26 ∷ l27 ∷ l28 ∷ []) (marked d)) line10 ∙ ap (λ d. drives given (l12 ∷ l13 ∷ l14 ∷ l15 ∷ l16 ∷ l17 ∷ l18 ∷ l19 ∷ l20 ∷ l21 ∷ l22 ∷ l23 ∷ l24 ∷ l25 ∷ l26 ∷ l27 ∷ l28 ∷ []) (marked d)) line11 ∙ ap (λ d. drives given (l13 ∷ l14 ∷ l15 ∷ l16 ∷ l17 ∷ l18 ∷ l19 ∷ l20 ∷ l21 ∷ l22 ∷ l23 ∷ l24 ∷ l25 ∷ l26 ∷ l27 ∷ l28 ∷ []) (marked d)) line12 ∙ ap (λ d. drives given (l14 ∷ l15 ∷ l16 ∷ l17 ∷ l18 ∷ l19 ∷ l20 ∷ l21 ∷ l22 ∷ l23 ∷ l24 ∷ l25 ∷ l26 ∷ l27 ∷ l28 ∷ []) (marked d)) line13 ∙ ap (λ d. drives given (l15 ∷ l16 ∷ l17 ∷ l18 ∷ l19 ∷ l20 ∷ l21 ∷ l22 ∷ l23 ∷ l24 ∷ l25 ∷ l26 ∷ l27 ∷ l28 ∷ []) (marked d)) line14 ∙ ap (λ d. drives given (l16 ∷ l17 ∷ l18 ∷ l19 ∷ l20 ∷ l21 ∷ l22 ∷ l23 ∷ l24 ∷ l25 ∷ l26 ∷ l27 ∷ l28 ∷ []) (marked d)) line15 ∙ ap (λ d. drives given (l17 ∷ l18 ∷ l19 ∷ l20 ∷ l21 ∷ l22 ∷ l23 ∷ l24 ∷ l25 ∷ l26 ∷ l27 ∷ l28 ∷ []) (marked d)) line16 ∙ ap (λ d. drives given (l18 ∷ l19 ∷ l20 ∷ l21 ∷ l22 ∷ l23 ∷ l24 ∷ l25 ∷ l26 ∷ l27 ∷ l28 ∷ []) (marked d)) line17 ∙ ap (λ d. drives given (l19 ∷ l20 ∷ l21 ∷ l22 ∷ l23 ∷ l24 ∷ l25 ∷ l26 ∷ l27 ∷ l28 ∷ []) (marked d)) line18 ∙ ap (λ d. drives given (l20 ∷ l21 ∷ l22 ∷ l23 ∷ l24 ∷ l25 ∷ l26 ∷ l27 ∷ l28 ∷ []) (marked d)) line19 ∙ ap (λ d. drives given (l21 ∷ l22 ∷ l23 ∷ l24 ∷ l25 ∷ l26 ∷ l27 ∷ l28 ∷ []) (marked d)) line20 ∙ ap (λ d. drives given (l22 ∷ l23 ∷ l24 ∷ l25 ∷ l26 ∷ l27 ∷ l28 ∷ []) (marked d)) line21 ∙ ap (λ d. drives given (l23 ∷ l24 ∷ l25 ∷ l26 ∷ l27 ∷ l28 ∷ []) (marked d)) line22 ∙ ap (λ d. drives given (l24 ∷ l25 ∷ l26 ∷ l27 ∷ l28 ∷ []) (marked d)) line23 ∙ ap (λ d. drives given (l25 ∷ l26 ∷ l27 ∷ l28 ∷ []) (marked d)) line24 ∙ ap (λ d. drives given (l26 ∷ l27 ∷ l28 ∷ []) (marked d)) line25 ∙ ap (λ d. drives given (l27 ∷ l28 ∷ []) (marked d)) line26 ∙ ap (λ d. drives given (l28 ∷ []) (marked d)) line27 ∙ ap (λ d. drives given ([]) (marked d)) line28
+all = ap (λ d. drives given (l1 ∷ l2 ∷ l3 ∷ l4 ∷ l5 ∷ l6 ∷ l7 ∷ l8 ∷ l9 ∷ l10 ∷ l11 ∷ l12 ∷ l13 ∷ l14 ∷ l15 ∷ l16 ∷ l17 ∷ l18 ∷ l19 ∷ l20 ∷ l21 ∷ l22 ∷ l23 ∷ l24 ∷ l25 ∷ l26 ∷ l27 ∷ l28 ∷ []) (with_mark d)) line0 ∙ ap (λ d. drives given (l2 ∷ l3 ∷ l4 ∷ l5 ∷ l6 ∷ l7 ∷ l8 ∷ l9 ∷ l10 ∷ l11 ∷ l12 ∷ l13 ∷ l14 ∷ l15 ∷ l16 ∷ l17 ∷ l18 ∷ l19 ∷ l20 ∷ l21 ∷ l22 ∷ l23 ∷ l24 ∷ l25 ∷ l26 ∷ l27 ∷ l28 ∷ []) (with_mark d)) line1 ∙ ap (λ d. drives given (l3 ∷ l4 ∷ l5 ∷ l6 ∷ l7 ∷ l8 ∷ l9 ∷ l10 ∷ l11 ∷ l12 ∷ l13 ∷ l14 ∷ l15 ∷ l16 ∷ l17 ∷ l18 ∷ l19 ∷ l20 ∷ l21 ∷ l22 ∷ l23 ∷ l24 ∷ l25 ∷ l26 ∷ l27 ∷ l28 ∷ []) (with_mark d)) line2 ∙ ap (λ d. drives given (l4 ∷ l5 ∷ l6 ∷ l7 ∷ l8 ∷ l9 ∷ l10 ∷ l11 ∷ l12 ∷ l13 ∷ l14 ∷ l15 ∷ l16 ∷ l17 ∷ l18 ∷ l19 ∷ l20 ∷ l21 ∷ l22 ∷ l23 ∷ l24 ∷ l25 ∷ l26 ∷ l27 ∷ l28 ∷ []) (with_mark d)) line3 ∙ ap (λ d. drives given (l5 ∷ l6 ∷ l7 ∷ l8 ∷ l9 ∷ l10 ∷ l11 ∷ l12 ∷ l13 ∷ l14 ∷ l15 ∷ l16 ∷ l17 ∷ l18 ∷ l19 ∷ l20 ∷ l21 ∷ l22 ∷ l23 ∷ l24 ∷ l25 ∷ l26 ∷ l27 ∷ l28 ∷ []) (with_mark d)) line4 ∙ ap (λ d. drives given (l6 ∷ l7 ∷ l8 ∷ l9 ∷ l10 ∷ l11 ∷ l12 ∷ l13 ∷ l14 ∷ l15 ∷ l16 ∷ l17 ∷ l18 ∷ l19 ∷ l20 ∷ l21 ∷ l22 ∷ l23 ∷ l24 ∷ l25 ∷ l26 ∷ l27 ∷ l28 ∷ []) (with_mark d)) line5 ∙ ap (λ d. drives given (l7 ∷ l8 ∷ l9 ∷ l10 ∷ l11 ∷ l12 ∷ l13 ∷ l14 ∷ l15 ∷ l16 ∷ l17 ∷ l18 ∷ l19 ∷ l20 ∷ l21 ∷ l22 ∷ l23 ∷ l24 ∷ l25 ∷ l26 ∷ l27 ∷ l28 ∷ []) (with_mark d)) line6 ∙ ap (λ d. drives given (l8 ∷ l9 ∷ l10 ∷ l11 ∷ l12 ∷ l13 ∷ l14 ∷ l15 ∷ l16 ∷ l17 ∷ l18 ∷ l19 ∷ l20 ∷ l21 ∷ l22 ∷ l23 ∷ l24 ∷ l25 ∷ l26 ∷ l27 ∷ l28 ∷ []) (with_mark d)) line7 ∙ ap (λ d. drives given (l9 ∷ l10 ∷ l11 ∷ l12 ∷ l13 ∷ l14 ∷ l15 ∷ l16 ∷ l17 ∷ l18 ∷ l19 ∷ l20 ∷ l21 ∷ l22 ∷ l23 ∷ l24 ∷ l25 ∷ l26 ∷ l27 ∷ l28 ∷ []) (with_mark d)) line8 ∙ ap (λ d. drives given (l10 ∷ l11 ∷ l12 ∷ l13 ∷ l14 ∷ l15 ∷ l16 ∷ l17 ∷ l18 ∷ l19 ∷ l20 ∷ l21 ∷ l22 ∷ l23 ∷ l24 ∷ l25 ∷ l26 ∷ l27 ∷ l28 ∷ []) (with_mark d)) line9 ∙ ap (λ d. drives given (l11 ∷ l12 ∷ l13 ∷ l14 ∷ l15 ∷ l16 ∷ l17 ∷ l18 ∷ l19 ∷ l20 ∷ l21 ∷ l22 ∷ l23 ∷ l24 ∷ l25 ∷ l26 ∷ l27 ∷ l28 ∷ []) (with_mark d)) line10 ∙ ap (λ d. drives given (l12 ∷ l13 ∷ l14 ∷ l15 ∷ l16 ∷ l17 ∷ l18 ∷ l19 ∷ l20 ∷ l21 ∷ l22 ∷ l23 ∷ l24 ∷ l25 ∷ l26 ∷ l27 ∷ l28 ∷ []) (with_mark d)) line11 ∙ ap (λ d. drives given (l13 ∷ l14 ∷ l15 ∷ l16 ∷ l17 ∷ l18 ∷ l19 ∷ l20 ∷ l21 ∷ l22 ∷ l23 ∷ l24 ∷ l25 ∷ l26 ∷ l27 ∷ l28 ∷ []) (with_mark d)) line12 ∙ ap (λ d. drives given (l14 ∷ l15 ∷ l16 ∷ l17 ∷ l18 ∷ l19 ∷ l20 ∷ l21 ∷ l22 ∷ l23 ∷ l24 ∷ l25 ∷ l26 ∷ l27 ∷ l28 ∷ []) (with_mark d)) line13 ∙ ap (λ d. drives given (l15 ∷ l16 ∷ l17 ∷ l18 ∷ l19 ∷ l20 ∷ l21 ∷ l22 ∷ l23 ∷ l24 ∷ l25 ∷ l26 ∷ l27 ∷ l28 ∷ []) (with_mark d)) line14 ∙ ap (λ d. drives given (l16 ∷ l17 ∷ l18 ∷ l19 ∷ l20 ∷ l21 ∷ l22 ∷ l23 ∷ l24 ∷ l25 ∷ l26 ∷ l27 ∷ l28 ∷ []) (with_mark d)) line15 ∙ ap (λ d. drives given (l17 ∷ l18 ∷ l19 ∷ l20 ∷ l21 ∷ l22 ∷ l23 ∷ l24 ∷ l25 ∷ l26 ∷ l27 ∷ l28 ∷ []) (with_mark d)) line16 ∙ ap (λ d. drives given (l18 ∷ l19 ∷ l20 ∷ l21 ∷ l22 ∷ l23 ∷ l24 ∷ l25 ∷ l26 ∷ l27 ∷ l28 ∷ []) (with_mark d)) line17 ∙ ap (λ d. drives given (l19 ∷ l20 ∷ l21 ∷ l22 ∷ l23 ∷ l24 ∷ l25 ∷ l26 ∷ l27 ∷ l28 ∷ []) (with_mark d)) line18 ∙ ap (λ d. drives given (l20 ∷ l21 ∷ l22 ∷ l23 ∷ l24 ∷ l25 ∷ l26 ∷ l27 ∷ l28 ∷ []) (with_mark d)) line19 ∙ ap (λ d. drives given (l21 ∷ l22 ∷ l23 ∷ l24 ∷ l25 ∷ l26 ∷ l27 ∷ l28 ∷ []) (with_mark d)) line20 ∙ ap (λ d. drives given (l22 ∷ l23 ∷ l24 ∷ l25 ∷ l26 ∷ l27 ∷ l28 ∷ []) (with_mark d)) line21 ∙ ap (λ d. drives given (l23 ∷ l24 ∷ l25 ∷ l26 ∷ l27 ∷ l28 ∷ []) (with_mark d)) line22 ∙ ap (λ d. drives given (l24 ∷ l25 ∷ l26 ∷ l27 ∷ l28 ∷ []) (with_mark d)) line23 ∙ ap (λ d. drives given (l25 ∷ l26 ∷ l27 ∷ l28 ∷ []) (with_mark d)) line24 ∙ ap (λ d. drives given (l26 ∷ l27 ∷ l28 ∷ []) (with_mark d)) line25 ∙ ap (λ d. drives given (l27 ∷ l28 ∷ []) (with_mark d)) line26 ∙ ap (λ d. drives given (l28 ∷ []) (with_mark d)) line27 ∙ ap (λ d. drives given ([]) (with_mark d)) line28
 
 claim : run_of given (l0 ∷ l1 ∷ l2 ∷ l3 ∷ l4 ∷ l5 ∷ l6 ∷ l7 ∷ l8 ∷ l9 ∷ l10 ∷ l11 ∷ l12 ∷ l13 ∷ l14 ∷ l15 ∷ l16 ∷ l17 ∷ l18 ∷ l19 ∷ l20 ∷ l21 ∷ l22 ∷ l23 ∷ l24 ∷ l25 ∷ l26 ∷ l27 ∷ l28 ∷ []) ≡ made
 claim = ap (run_with given) all

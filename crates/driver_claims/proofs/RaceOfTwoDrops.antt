@@ -19,7 +19,7 @@ use Rattle.driver_model.specs.Driver.{Driver, Given, at_first}
 use Rattle.driver_model.specs.ScriptSteps.{begins}
 use Rattle.driver_model.specs.Turning.{turn}
 use Rattle.driver_model.specs.Rounds.{turns_of}
-use Rattle.driver_model.specs.Driving.{does, drives, marked, run_of, run_with, turns}
+use Rattle.driver_model.specs.Driving.{does, drives, with_mark, run_of, run_with, turns}
 use Rattle.driver_claims.proofs.Settling.{came, goes, settles_by}
 use Rattle.driver_claims.specs.Opened.{opened, matches_in}
 
@@ -517,7 +517,7 @@ abbrev made : Run
 made = record { repos = repos; entries = (e0 ∷ e1 ∷ e2 ∷ e3 ∷ e4 ∷ e5 ∷ e6 ∷ e7 ∷ e8 ∷ e9 ∷ e10 ∷ e11 ∷ e12 ∷ e13 ∷ e14 ∷ e15 ∷ e16 ∷ e17 ∷ e18 ∷ e19 ∷ e20 ∷ e21 ∷ e22 ∷ e23 ∷ e24 ∷ e25 ∷ e26 ∷ e27 ∷ e28 ∷ e29 ∷ []); tree = ([]); marks = (2 ∷ 4 ∷ 5 ∷ 6 ∷ 7 ∷ 8 ∷ 30 ∷ []) }
 
 all : drives given (l0 ∷ l1 ∷ l2 ∷ l3 ∷ l4 ∷ l5 ∷ l6 ∷ []) at_first ≡ d35
-all = ap (λ d. drives given (l1 ∷ l2 ∷ l3 ∷ l4 ∷ l5 ∷ l6 ∷ []) (marked d)) line0 ∙ ap (λ d. drives given (l2 ∷ l3 ∷ l4 ∷ l5 ∷ l6 ∷ []) (marked d)) line1 ∙ ap (λ d. drives given (l3 ∷ l4 ∷ l5 ∷ l6 ∷ []) (marked d)) line2 ∙ ap (λ d. drives given (l4 ∷ l5 ∷ l6 ∷ []) (marked d)) line3 ∙ ap (λ d. drives given (l5 ∷ l6 ∷ []) (marked d)) line4 ∙ ap (λ d. drives given (l6 ∷ []) (marked d)) line5 ∙ ap (λ d. drives given ([]) (marked d)) line6
+all = ap (λ d. drives given (l1 ∷ l2 ∷ l3 ∷ l4 ∷ l5 ∷ l6 ∷ []) (with_mark d)) line0 ∙ ap (λ d. drives given (l2 ∷ l3 ∷ l4 ∷ l5 ∷ l6 ∷ []) (with_mark d)) line1 ∙ ap (λ d. drives given (l3 ∷ l4 ∷ l5 ∷ l6 ∷ []) (with_mark d)) line2 ∙ ap (λ d. drives given (l4 ∷ l5 ∷ l6 ∷ []) (with_mark d)) line3 ∙ ap (λ d. drives given (l5 ∷ l6 ∷ []) (with_mark d)) line4 ∙ ap (λ d. drives given (l6 ∷ []) (with_mark d)) line5 ∙ ap (λ d. drives given ([]) (with_mark d)) line6
 
 claim : run_of given (l0 ∷ l1 ∷ l2 ∷ l3 ∷ l4 ∷ l5 ∷ l6 ∷ []) ≡ made
 claim = ap (run_with given) all

@@ -14,7 +14,7 @@ use Rattle.driver_model.specs.Lines.{Have, SetPart, Add, File, Set, Raw, Merge, 
 use Rattle.driver_model.specs.Driver.{Driver, Given, at_first}
 use Rattle.driver_model.specs.ScriptSteps.{begins}
 use Rattle.driver_model.specs.Turning.{turn}
-use Rattle.driver_model.specs.Driving.{does, drives, marked, run_of, run_with, turns}
+use Rattle.driver_model.specs.Driving.{does, drives, with_mark, run_of, run_with, turns}
 use Rattle.driver_claims.specs.Opened.{opened, matches_in}
 
 abbrev t0 : List ℕ
@@ -324,7 +324,7 @@ abbrev made : Run
 made = record { repos = repos; entries = (e0 ∷ e1 ∷ e2 ∷ e3 ∷ e4 ∷ e5 ∷ e6 ∷ e7 ∷ e8 ∷ e9 ∷ e10 ∷ e11 ∷ e12 ∷ e13 ∷ []); tree = ([]); marks = (2 ∷ 4 ∷ 5 ∷ 7 ∷ 8 ∷ 9 ∷ 10 ∷ 11 ∷ 12 ∷ 13 ∷ 14 ∷ []) }
 
 all : drives given (l0 ∷ l1 ∷ l2 ∷ l3 ∷ l4 ∷ l5 ∷ l6 ∷ l7 ∷ l8 ∷ l9 ∷ l10 ∷ []) at_first ≡ d23
-all = ap (λ d. drives given (l1 ∷ l2 ∷ l3 ∷ l4 ∷ l5 ∷ l6 ∷ l7 ∷ l8 ∷ l9 ∷ l10 ∷ []) (marked d)) line0 ∙ ap (λ d. drives given (l2 ∷ l3 ∷ l4 ∷ l5 ∷ l6 ∷ l7 ∷ l8 ∷ l9 ∷ l10 ∷ []) (marked d)) line1 ∙ ap (λ d. drives given (l3 ∷ l4 ∷ l5 ∷ l6 ∷ l7 ∷ l8 ∷ l9 ∷ l10 ∷ []) (marked d)) line2 ∙ ap (λ d. drives given (l4 ∷ l5 ∷ l6 ∷ l7 ∷ l8 ∷ l9 ∷ l10 ∷ []) (marked d)) line3 ∙ ap (λ d. drives given (l5 ∷ l6 ∷ l7 ∷ l8 ∷ l9 ∷ l10 ∷ []) (marked d)) line4 ∙ ap (λ d. drives given (l6 ∷ l7 ∷ l8 ∷ l9 ∷ l10 ∷ []) (marked d)) line5 ∙ ap (λ d. drives given (l7 ∷ l8 ∷ l9 ∷ l10 ∷ []) (marked d)) line6 ∙ ap (λ d. drives given (l8 ∷ l9 ∷ l10 ∷ []) (marked d)) line7 ∙ ap (λ d. drives given (l9 ∷ l10 ∷ []) (marked d)) line8 ∙ ap (λ d. drives given (l10 ∷ []) (marked d)) line9 ∙ ap (λ d. drives given ([]) (marked d)) line10
+all = ap (λ d. drives given (l1 ∷ l2 ∷ l3 ∷ l4 ∷ l5 ∷ l6 ∷ l7 ∷ l8 ∷ l9 ∷ l10 ∷ []) (with_mark d)) line0 ∙ ap (λ d. drives given (l2 ∷ l3 ∷ l4 ∷ l5 ∷ l6 ∷ l7 ∷ l8 ∷ l9 ∷ l10 ∷ []) (with_mark d)) line1 ∙ ap (λ d. drives given (l3 ∷ l4 ∷ l5 ∷ l6 ∷ l7 ∷ l8 ∷ l9 ∷ l10 ∷ []) (with_mark d)) line2 ∙ ap (λ d. drives given (l4 ∷ l5 ∷ l6 ∷ l7 ∷ l8 ∷ l9 ∷ l10 ∷ []) (with_mark d)) line3 ∙ ap (λ d. drives given (l5 ∷ l6 ∷ l7 ∷ l8 ∷ l9 ∷ l10 ∷ []) (with_mark d)) line4 ∙ ap (λ d. drives given (l6 ∷ l7 ∷ l8 ∷ l9 ∷ l10 ∷ []) (with_mark d)) line5 ∙ ap (λ d. drives given (l7 ∷ l8 ∷ l9 ∷ l10 ∷ []) (with_mark d)) line6 ∙ ap (λ d. drives given (l8 ∷ l9 ∷ l10 ∷ []) (with_mark d)) line7 ∙ ap (λ d. drives given (l9 ∷ l10 ∷ []) (with_mark d)) line8 ∙ ap (λ d. drives given (l10 ∷ []) (with_mark d)) line9 ∙ ap (λ d. drives given ([]) (with_mark d)) line10
 
 claim : run_of given (l0 ∷ l1 ∷ l2 ∷ l3 ∷ l4 ∷ l5 ∷ l6 ∷ l7 ∷ l8 ∷ l9 ∷ l10 ∷ []) ≡ made
 claim = ap (run_with given) all

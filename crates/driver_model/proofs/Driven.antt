@@ -12,7 +12,7 @@ use Rattle.run_data.specs.declared.entry.LogFile.TheVariants.{Of}
 use Rattle.run_data.specs.Repos.{IsSetUp}
 use Rattle.run_model.specs.Run.{IsRun}
 use Rattle.annex_key.specs.KeyText.{IsKeyText}
-use Rattle.run_model.specs.Past.{begun, present}
+use Rattle.run_model.specs.Past.{begun_count, present}
 use Rattle.run_data.specs.Repos.{fits_size}
 use Rattle.node_model.specs.SessionStep.{is_filled}
 use Rattle.driver_model.specs.Lines.{Agendum, BlockLine, Line, Runs, Crashes, Closes, Fails, Have, SetPart, Add, File, Set, Raw, Merge, Compact, Begin, Turns, Settle, Close, Crash, Wait, Fail, Par}
@@ -21,7 +21,7 @@ use Rattle.driver_model.specs.Driver.{Driver, Given, at_first, commits, drops_pa
 use Rattle.driver_model.specs.ScriptSteps.{begins, begins_part, calling, crashes, closes, enters, faults, fills_up, gains, has, is_busy, sets_part, setting_line, unless_busy, will_fail}
 use Rattle.driver_model.specs.Turning.{turn}
 use Rattle.driver_model.specs.Rounds.{Agenda, Blocked, Going, Taken, agenda, block_round, block_rounds, blocks, came_to, goes_round, is_over, is_settled, lines_for, may_begin, most_rounds, numbers, round, rounds, settles, takes, takes_all, takes_each, turns_of, with_round}
-use Rattle.driver_model.specs.Driving.{does, driven, drives, marked, run_of, run_with, turns}
+use Rattle.driver_model.specs.Driving.{does, driven, drives, with_mark, run_of, run_with, turns}
 use Rattle.driver_model.specs.Scripts.{Fits, IsAgendum, IsBlockLine, IsOne}
 use Rattle.driver_model.proofs.EndsAlike.{ends_alike}
 use Rattle.driver_model.proofs.Holding.{Holds, Keeps}
@@ -117,10 +117,10 @@ module _ (laws : Laws) (g : Given) where
 
   keeps_takes : (r : ℕ) → r < length g.repos → (ls : List BlockLine) (jobs : List ℕ) (d : Driver) → Each (IsBlockLine g r) ls → Keeps g d → KeepsTaken (takes_all g r ls jobs d)
   keeps_takes r known [] jobs d all k = (k, (known, tt))
-  keeps_takes r known (Runs job ∷ ls) jobs d all k = go (keeps_takes r known ls ((begun d.past r + 1) ∷ jobs) (begins r job d) all.1 (keeps_begins laws g d r job known all.0 k)) (may_begin d r jobs)
+  keeps_takes r known (Runs job ∷ ls) jobs d all k = go (keeps_takes r known ls ((begun_count d.past r + 1) ∷ jobs) (begins r job d) all.1 (keeps_begins laws g d r job known all.0 k)) (may_begin d r jobs)
     where
-      go : KeepsTaken (takes_all g r ls ((begun d.past r + 1) ∷ jobs) (begins r job d)) → (b : Bool)
-          → KeepsTaken (if b then takes_all g r ls ((begun d.past r + 1) ∷ jobs) (begins r job d) else record { driver = d; left = record { repo = r; lines = Runs job ∷ ls; jobs = jobs } })
+      go : KeepsTaken (takes_all g r ls ((begun_count d.past r + 1) ∷ jobs) (begins r job d)) → (b : Bool)
+          → KeepsTaken (if b then takes_all g r ls ((begun_count d.past r + 1) ∷ jobs) (begins r job d) else record { driver = d; left = record { repo = r; lines = Runs job ∷ ls; jobs = jobs } })
       go more true = more
       go more false = (k, (known, all))
   keeps_takes r known (Crashes clock ∷ ls) jobs d all k = keeps_takes r known ls jobs (crashes g r clock d) all.1 (keeps_crashes laws g d r clock known k)
@@ -190,12 +190,12 @@ module _ (laws : Laws) (g : Given) where
   keeps_line keys (Fail r call) d x k = keeps_will_fail g d r call k
   keeps_line keys (Par lines) d x k = keeps_blocks lines x d k
 
-  keeps_marked : (d : Driver) → Keeps g d → Keeps g (marked d)
-  keeps_marked d k fits = let h = k fits in record { run = laws.command (run_with g d) (marked d).marks h.run; flies = h.flies; order = h.order; down = h.down; parts = h.parts }
+  keeps_marked : (d : Driver) → Keeps g d → Keeps g (with_mark d)
+  keeps_marked d k fits = let h = k fits in record { run = laws.command (run_with g d) (with_mark d).marks h.run; flies = h.flies; order = h.order; down = h.down; parts = h.parts }
 
   keeps_drives : OwedKeys → (lines : List Line) (d : Driver) → Each (IsOne g) lines → Keeps g d → Keeps g (drives g lines d)
   keeps_drives keys [] d all k = k
-  keeps_drives keys (line ∷ lines) d all k = keeps_drives keys lines (marked (does g line d)) all.1 (keeps_marked (does g line d) (keeps_line keys line d all.0 k))
+  keeps_drives keys (line ∷ lines) d all k = keeps_drives keys lines (with_mark (does g line d)) all.1 (keeps_marked (does g line d) (keeps_line keys line d all.0 k))
 
   first_holds : Each IsSetUp g.repos → Holds g at_first
   first_holds repos = record { run = laws.first (run_with g at_first) repos refl; flies = λ r a n. inr (record { inside = omega arith; same = refl }); order = λ r a n. order_begins r a n; down = tt; parts = tt }

@@ -15,7 +15,7 @@ use Rattle.run_data.specs.declared.entry.FrameView.{FrameView}
 use Rattle.run_data.specs.declared.job.Job.{Job}
 use Rattle.run_data.specs.declared.job.Outcome.{Outcome}
 use Rattle.run_model.specs.Frames.{sender_of, frames_sent, taken_count, taker_of}
-use Rattle.run_model.specs.Past.{begun, is_of, now}
+use Rattle.run_model.specs.Past.{begun_count, is_of, now}
 use Rattle.node_model.specs.SetUp.{SetUp, others}
 use Rattle.node_model.specs.State.{State}
 use Rattle.node_model.specs.Ends.{End, EndName}
@@ -93,8 +93,8 @@ keeps_begins laws g d r job known x k = go (nat_lt (length (works d.past r)) 4) 
     free : nat_lt (length (works d.past r)) 4 ≡ true → length (works d.past r) < 4
     free i = grind (arith, nat_tests)
 
-    go : (b : Bool) → nat_lt (length (works d.past r)) 4 ≡ b → Keeps g (if b then notes r (kinds.Begin (begun d.past r + 1) job) [] d else d)
-    go true i = keeps_notes laws g d r (kinds.Begin (begun d.past r + 1) job) [] known (λ h small. (record { number_is = refl; slot_free = free i; peer = peer_same g d r job x; valid = x.valid }, refl, refl)) k
+    go : (b : Bool) → nat_lt (length (works d.past r)) 4 ≡ b → Keeps g (if b then notes r (kinds.Begin (begun_count d.past r + 1) job) [] d else d)
+    go true i = keeps_notes laws g d r (kinds.Begin (begun_count d.past r + 1) job) [] known (λ h small. (record { number_is = refl; slot_free = free i; peer = peer_same g d r job x; valid = x.valid }, refl, refl)) k
     go false i = k
 
 -- ---- closes and crashes

@@ -15,7 +15,7 @@ use Rattle.node_model.specs.State.{State}
 use Rattle.node_model.specs.Look.{Look, Made}
 use Rattle.node_model.specs.Step.{step}
 use Rattle.annex_base.proofs.Lists.{find_member}
-use Rattle.driver_model.specs.Driver.{Driver, Given, cleared, drops_part, fails_at, set_up_of, state_at}
+use Rattle.driver_model.specs.Driver.{Driver, Given, without_old_flights, drops_part, fails_at, set_up_of, state_at}
 use Rattle.driver_model.specs.Turning.{all_calls, asked_key, bytes_taken, calm_look, fails_in, is_failure, is_valid, look_for, looks, makes, makes_fault, meets, plain_look, store_after, takes_frame, takes_into, turn}
 use Rattle.driver_model.specs.Rounds.{Going, came_to, goes_round, idle_after, is_idle, is_settled, most_rounds, numbers, round, rounds, turns_of}
 use Rattle.driver_model.proofs.EndsAlike.{still_steps}
@@ -56,7 +56,7 @@ looks_more g r s st None d = omega arith
 looks_more g r s st (Some m) d = makes_more st r (look_for g d r s st m) (step s st (look_for g d r s st m)) d
 
 turn_more : (g : Given) (r : ℕ) (d : Driver) → many d ≤ many (turn g r d)
-turn_more g r d = looks_more g r (set_up_of g d r) (state_at g d r) (step (set_up_of g d r) (state_at g d r) (plain_look (set_up_of g d r) (cleared (state_at g d r) r d))) (cleared (state_at g d r) r d)
+turn_more g r d = looks_more g r (set_up_of g d r) (state_at g d r) (step (set_up_of g d r) (state_at g d r) (plain_look (set_up_of g d r) (without_old_flights (state_at g d r) r d))) (without_old_flights (state_at g d r) r d)
 
 turns_more : (g : Given) (rs : List ℕ) (d : Driver) → many d ≤ many (turns_of g rs d)
 turns_more g [] d = omega arith
@@ -91,7 +91,7 @@ module _ (g : Given) (r : ℕ) (d : Driver) where
   step_ready m e = met m (find (fails_in d r s st (calm_look g d r s st m)) all_calls) refl e
 
 -- a turn that adds no entry found no step ready, with all frames at hand
-pub idle_none : (g : Given) (r : ℕ) (d : Driver) → many (turn g r d) ≡ many d → step (set_up_of g d r) (state_at g d r) (plain_look (set_up_of g d r) (cleared (state_at g d r) r d)) ≡ None
+pub idle_none : (g : Given) (r : ℕ) (d : Driver) → many (turn g r d) ≡ many d → step (set_up_of g d r) (state_at g d r) (plain_look (set_up_of g d r) (without_old_flights (state_at g d r) r d)) ≡ None
 idle_none g r d same = go (step s' st' (plain_look s' c)) refl same
   where
     s' : SetUp
@@ -101,20 +101,20 @@ idle_none g r d same = go (step s' st' (plain_look s' c)) refl same
     st' = state_at g d r
 
     c : Driver
-    c = cleared (state_at g d r) r d
+    c = without_old_flights (state_at g d r) r d
 
-    made : (m : Made) (o : Option Made) (m' : Made) → o ≡ Some m' → many (makes (state_at g d r) r (look_for g (cleared (state_at g d r) r d) r (set_up_of g d r) (state_at g d r) m) o (cleared (state_at g d r) r d)) ≡ many d → ⊥
+    made : (m : Made) (o : Option Made) (m' : Made) → o ≡ Some m' → many (makes (state_at g d r) r (look_for g (without_old_flights (state_at g d r) r d) r (set_up_of g d r) (state_at g d r) m) o (without_old_flights (state_at g d r) r d)) ≡ many d → ⊥
     made m None m' i e = absurd (cc)
     made m (Some x) m' i e =
-        let grew : suc (many d) ≡ many d = ap length (sym (store_past (state_at g d r) r x (bytes_taken r x.taken (cleared (state_at g d r) r d)) x.kind _)) ∙ e in
+        let grew : suc (many d) ≡ many d = ap length (sym (store_past (state_at g d r) r x (bytes_taken r x.taken (without_old_flights (state_at g d r) r d)) x.kind _)) ∙ e in
         omega (arith, grew)
 
-    go : (o : Option Made) → step (set_up_of g d r) (state_at g d r) (plain_look (set_up_of g d r) (cleared (state_at g d r) r d)) ≡ o
-        → many (looks g r (set_up_of g d r) (state_at g d r) o (cleared (state_at g d r) r d)) ≡ many d → o ≡ None
+    go : (o : Option Made) → step (set_up_of g d r) (state_at g d r) (plain_look (set_up_of g d r) (without_old_flights (state_at g d r) r d)) ≡ o
+        → many (looks g r (set_up_of g d r) (state_at g d r) o (without_old_flights (state_at g d r) r d)) ≡ many d → o ≡ None
     go None i e = refl
     go (Some m) i e =
-        let x = step_ready g r (cleared (state_at g d r) r d) m i in
-        absurd (made m (step (set_up_of g d r) (state_at g d r) (look_for g (cleared (state_at g d r) r d) r (set_up_of g d r) (state_at g d r) m)) x.0 x.1 e)
+        let x = step_ready g r (without_old_flights (state_at g d r) r d) m i in
+        absurd (made m (step (set_up_of g d r) (state_at g d r) (look_for g (without_old_flights (state_at g d r) r d) r (set_up_of g d r) (state_at g d r) m)) x.0 x.1 e)
 
 -- ---- so many rounds need so many entries
 

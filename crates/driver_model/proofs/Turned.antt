@@ -23,8 +23,8 @@ use Rattle.run_model.specs.Words.{word_told}
 use Rattle.driver_model.proofs.EndLemmas.{takes_end}
 use Rattle.driver_model.proofs.Premises.{Laws}
 use Rattle.driver_model.specs.Scripts.{Fits}
-use Rattle.driver_model.specs.Stores.{Stored, bytes_in, is_stored, stored}
-use Rattle.driver_model.specs.Driver.{Driver, Given, adds, answers, cleared, commits, drops_part, end_to, fails_at, frames_to, old_at, part_at, puts_part, removes_content, set_up_of, state_at}
+use Rattle.driver_model.specs.Stores.{Stored, bytes_in, is_stored, stored_bytes}
+use Rattle.driver_model.specs.Driver.{Driver, Given, adds, answers, without_old_flights, commits, drops_part, end_to, fails_at, frames_to, old_at, part_at, puts_part, removes_content, set_up_of, state_at}
 use Rattle.driver_model.specs.Turning.{all_calls, asked_key, bytes_taken, calm_look, fails_in, is_failure, is_valid, is_fault, look_for, looks, makes, makes_fault, meets, part_right, part_size, plain_look, steps, store_after, takes_frame, takes_into, told_words, turn}
 use Rattle.driver_model.proofs.AtHand.{taken_at_hand}
 use Rattle.driver_model.proofs.InFlight.{first_found, flies_cleared}
@@ -71,7 +71,7 @@ module _ (g : Given) (d : Driver) where
         parts = (max_second d.largest (length bytes), each_larger d.largest (max d.largest (length bytes)) (filter (λ x. not (is_stored r key x)) d.parts) more (Each-filter (Small d.largest) (λ x. not (is_stored r key x)) d.parts h.parts));
       }
 
-  pub keeps_cleared : (r : ℕ) → Keeps g d → Keeps g (cleared (state_at g d r) r d)
+  pub keeps_cleared : (r : ℕ) → Keeps g d → Keeps g (without_old_flights (state_at g d r) r d)
   keeps_cleared r k fits =
       let h = k fits in
       record {
@@ -123,11 +123,11 @@ hand_first fs (a ∷ ends) f m = go (hand_first fs ends f) (Member-append_cases 
 
 -- ---- parts are small
 
-part_in : (r : ℕ) (key : List ℕ) (n : ℕ) (xs : List Stored) → Each (Small n) xs → length (stored xs r key) ≤ n
+part_in : (r : ℕ) (key : List ℕ) (n : ℕ) (xs : List Stored) → Each (Small n) xs → length (stored_bytes xs r key) ≤ n
 part_in r key n [] a = omega arith
 part_in r key n (x ∷ xs) a = go (part_in r key n xs a.1) (is_stored r key x)
   where
-    go : length (stored xs r key) ≤ n → (b : Bool) → length (bytes_in (cond b (Some x) (find (is_stored r key) xs))) ≤ n
+    go : length (stored_bytes xs r key) ≤ n → (b : Bool) → length (bytes_in (cond b (Some x) (find (is_stored r key) xs))) ≤ n
     go more true = a.0
     go more false = more
 
@@ -194,4 +194,4 @@ module _ (laws : Laws) (alike : EndsAlike) (g : Given) (r : ℕ) (known : r < le
 
 -- a turn
 pub keeps_turn : Laws → EndsAlike → (g : Given) (r : ℕ) → r < length g.repos → (d : Driver) → Keeps g d → Keeps g (turn g r d)
-keeps_turn laws alike g r known d k = keeps_steps laws alike g r known (cleared (state_at g d r) r d) (keeps_cleared g d r k)
+keeps_turn laws alike g r known d k = keeps_steps laws alike g r known (without_old_flights (state_at g d r) r d) (keeps_cleared g d r k)

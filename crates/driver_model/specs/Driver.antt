@@ -19,7 +19,7 @@ use Rattle.annex_base.specs.Calls.{same_call}
 use Rattle.node_model.specs.State.{State}
 use Rattle.run_model.specs.States.{state_of}
 use Rattle.run_model.specs.Run.{paths_at}
-use Rattle.driver_model.specs.Stores.{Stored, stored, with_bytes, without}
+use Rattle.driver_model.specs.Stores.{Stored, stored_bytes, with_bytes, without}
 
 -- what a script is driven on: its repositories, and whether bytes match a key
 pub record Given : Type 0 where
@@ -64,10 +64,10 @@ newest_count (e ∷ past) = e.count
 -- ---- contents and parts
 
 abbrev pub content_at : Driver → ℕ → List ℕ → List ℕ
-content_at d r key = stored d.contents r key
+content_at d r key = stored_bytes d.contents r key
 
 abbrev pub part_at : Driver → ℕ → List ℕ → List ℕ
-part_at d r key = stored d.parts r key
+part_at d r key = stored_bytes d.parts r key
 
 abbrev pub puts_part : ℕ → List ℕ → List ℕ → Driver → Driver
 puts_part r key bytes d = record d { parts = with_bytes d.parts r key bytes; largest = max d.largest (length bytes) }
@@ -99,8 +99,8 @@ abbrev pub old_at : State → ℕ → Flight → Bool
 old_at st r x = (x.to == r) && is_old (st.ends (end_to x.frame)) x.frame
 
 -- a turn of r first drops such frames
-abbrev pub cleared : State → ℕ → Driver → Driver
-cleared st r d = record d { flights = filter (λ x. not (old_at st r x)) d.flights }
+abbrev pub without_old_flights : State → ℕ → Driver → Driver
+without_old_flights st r d = record d { flights = filter (λ x. not (old_at st r x)) d.flights }
 
 abbrev pub frames_to : ℕ → List Flight → List FrameView
 frames_to r xs = map (λ x. x.frame) (filter (λ x. x.to == r) xs)

@@ -33,13 +33,13 @@ does g (Fail r call) d = will_fail r call d
 does g (Par lines) d = blocks g lines d
 
 -- the line is done
-abbrev pub marked : Driver → Driver
-marked d = record d { marks = d.marks ++ length d.past ∷ [] }
+abbrev pub with_mark : Driver → Driver
+with_mark d = record d { marks = d.marks ++ length d.past ∷ [] }
 
 -- the driver after these lines, one after the other
 abbrev pub drives : Given → List Line → Driver → Driver
 drives g [] d = d
-drives g (line ∷ lines) d = drives g lines (marked (does g line d))
+drives g (line ∷ lines) d = drives g lines (with_mark (does g line d))
 
 abbrev pub driven : Given → List Line → Driver
 driven g lines = drives g lines at_first

@@ -1,7 +1,7 @@
 -- Rounds of turns, until all are idle, and blocks (the project's own).
 use Rattle.std.specs.Prelude.{ℕ, zero, suc, ◌+◌, Bool, true, not, ◌&&◌, if◌then◌else◌, ◌==◌, nat_le, nat_lt, List, [], ◌∷◌, filter, flat_map, length, map}
 use Rattle.std.specs.List.{list_any, range_with_len}
-use Rattle.run_model.specs.Past.{begun}
+use Rattle.run_model.specs.Past.{begun_count}
 use Rattle.run_model.specs.States.{works}
 use Rattle.driver_model.specs.Lines.{Agendum, BlockLine, Runs, Crashes, Closes, Fails}
 use Rattle.driver_model.specs.Driver.{Driver, Given}
@@ -84,7 +84,7 @@ pub record Taken : Type 0 where
 abbrev pub takes_all : Given → ℕ → List BlockLine → List ℕ → Driver → Taken
 takes_all g r [] jobs d = record { driver = d; left = record { repo = r; lines = []; jobs = jobs } }
 takes_all g r (Runs job ∷ lines) jobs d =
-    if may_begin d r jobs then takes_all g r lines ((begun d.past r + 1) ∷ jobs) (begins r job d)
+    if may_begin d r jobs then takes_all g r lines ((begun_count d.past r + 1) ∷ jobs) (begins r job d)
     else record { driver = d; left = record { repo = r; lines = Runs job ∷ lines; jobs = jobs } }
 takes_all g r (Crashes clock ∷ lines) jobs d = takes_all g r lines jobs (crashes g r clock d)
 takes_all g r (Closes other ∷ lines) jobs d = takes_all g r lines jobs (closes g r other d)

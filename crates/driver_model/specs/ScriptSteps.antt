@@ -18,7 +18,7 @@ use Rattle.run_data.specs.declared.entry.LogFile.{LogFile}
 use Rattle.run_data.specs.declared.entry.LogFile.TheVariants.{Location, Of}
 use Rattle.run_data.specs.declared.job.Job.{Job}
 use Rattle.run_data.specs.Repos.{id_of}
-use Rattle.run_model.specs.Past.{begun, now, present}
+use Rattle.run_model.specs.Past.{begun_count, now, present}
 use Rattle.node_model.specs.Clocks.{wall}
 use Rattle.run_model.specs.Logs.{branch, lines_of_file}
 use Rattle.node_model.specs.Files.{compact_lines}
@@ -146,7 +146,7 @@ enters path key d = record d { tree = d.tree ++ record { place = length d.past; 
 
 -- a job begins where fewer than four run
 abbrev pub begins : ℕ → Job → Driver → Driver
-begins r job d = if nat_lt (length (works d.past r)) 4 then notes r (kinds.Begin (begun d.past r + 1) job) [] d else d
+begins r job d = if nat_lt (length (works d.past r)) 4 then notes r (kinds.Begin (begun_count d.past r + 1) job) [] d else d
 
 -- an entry of r that only sends
 abbrev pub sends : Given → ℕ → EntryKind → List FrameView → Driver → Driver

@@ -23,7 +23,7 @@ use Rattle.node_model.specs.State.{State}
 use Rattle.node_model.specs.Step.{step}
 use Rattle.node_model.specs.AnyTime.{all_ends}
 use Rattle.run_model.specs.Words.{word_told}
-use Rattle.driver_model.specs.Driver.{Driver, Flight, Given, adds, answers, cleared, commits, drops_part, end_to, fails_at, frames_to, has_room, is_at, newest_count, part_at, puts_part, removes_content, set_up_of, state_at}
+use Rattle.driver_model.specs.Driver.{Driver, Flight, Given, adds, answers, without_old_flights, commits, drops_part, end_to, fails_at, frames_to, has_room, is_at, newest_count, part_at, puts_part, removes_content, set_up_of, state_at}
 
 -- ---- what is at hand
 
@@ -172,9 +172,9 @@ looks g r s st (Some m) d = makes st r (look_for g d r s st m) (step s st (look_
 abbrev pub steps : Given → ℕ → SetUp → State → Driver → Driver
 steps g r s st d = looks g r s st (step s st (plain_look s d)) d
 
-abbrev pub turned : Given → ℕ → SetUp → State → Driver → Driver
-turned g r s st d = steps g r s st (cleared st r d)
+abbrev pub after_turn : Given → ℕ → SetUp → State → Driver → Driver
+after_turn g r s st d = steps g r s st (without_old_flights st r d)
 
 -- a turn of r: it drops frames, and makes a step if one is ready
 abbrev pub turn : Given → ℕ → Driver → Driver
-turn g r d = turned g r (set_up_of g d r) (state_at g d r) d
+turn g r d = after_turn g r (set_up_of g d r) (state_at g d r) d

@@ -7,7 +7,7 @@ ghost use Rattle.node_model.specs.Step.{step};
 ghost use Rattle.run_model.specs.Causes.{HasCauses};
 ghost use Rattle.run_model.specs.Run.{IsRun};
 ghost use Rattle.run_model.specs.Safety.{IsSafe};
-ghost use Rattle.driver_model.specs.Driver.{Driver, Given, cleared, set_up_of, state_at};
+ghost use Rattle.driver_model.specs.Driver.{Driver, Given, without_old_flights, set_up_of, state_at};
 ghost use Rattle.driver_model.specs.Driving.{driven, run_of};
 ghost use Rattle.driver_model.specs.Lines.{Line};
 ghost use Rattle.driver_model.specs.Rounds.{Going, is_settled, most_rounds, rounds};
@@ -49,5 +49,5 @@ pub fn settlings_come_to_rest()
     ensures settled { (g : Given) (x : Going) (bound : ℕ) → bound ≡ most_rounds
         → length (rounds g bound x).driver.past < 2000000 → is_settled (rounds g bound x) ≡ true }
     ensures idle { (g : Given) (r : ℕ) (d : Driver) → length (turn g r d).past ≡ length d.past
-        → step (set_up_of g d r) (state_at g d r) (plain_look (set_up_of g d r) (cleared (state_at g d r) r d)) ≡ None }
+        → step (set_up_of g d r) (state_at g d r) (plain_look (set_up_of g d r) (without_old_flights (state_at g d r) r d)) ≡ None }
 {}

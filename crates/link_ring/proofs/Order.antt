@@ -14,7 +14,7 @@ use Rattle.link_ring.specs.declared.frame.Body.TheVariants as bodies
 use Rattle.link_ring.specs.declared.end.Phase.{Phase}
 use Rattle.link_ring.specs.declared.end.Phase.TheVariants.{Closed, Opening, Open}
 use Rattle.link_ring.specs.Frames.{is_close, is_past, is_old}
-use Rattle.link_ring.specs.Ends.{EndView, accepts, begun, after_send, is_taken, next_frame, with_body, with_taken, after_take, after_open, after_close}
+use Rattle.link_ring.specs.Ends.{EndView, accepts, phase_after_frame, after_send, is_taken, next_frame, with_body, with_taken, after_take, after_open, after_close}
 use Rattle.link_ring.specs.Ways.{Call, Event, Way, Sends, Takes, Opens, Closes, AtSender, AtTaker, Carries, after_call, sent_by, new_way, after_event, after_events, of_epoch, IsFront}
 use Rattle.link_ring.proofs.Taking.{passed}
 
@@ -103,7 +103,7 @@ past_with_taken : (a : EndView) (o : Option Frame) (e : ℕ) → past_of a e ≡
 past_with_taken a None e past live = past
 past_with_taken a (Some f) e past live = past_with_body a f.epoch e f.body past live
 
-past_begun : (epoch : ℕ) (phase : Phase) (e : ℕ) → is_past epoch phase e ≡ true → is_past epoch (begun phase) e ≡ true
+past_begun : (epoch : ℕ) (phase : Phase) (e : ℕ) → is_past epoch phase e ≡ true → is_past epoch (phase_after_frame phase) e ≡ true
 past_begun epoch Closed e past = past
 past_begun epoch Opening e past = past
 past_begun epoch Open e past = past

@@ -7,7 +7,7 @@ use Rattle.std.proofs.lemmas.List.{length-drop}
 use Rattle.link_ring.specs.declared.frame.Frame.{Frame}
 use Rattle.link_ring.specs.declared.frame.Body.{Body}
 use Rattle.link_ring.specs.declared.frame.Body.TheVariants as bodies
-use Rattle.link_ring.specs.Ends.{EndView, ArePaired, accepts, is_taken, next_frame, with_body, with_taken, carried}
+use Rattle.link_ring.specs.Ends.{EndView, ArePaired, accepts, is_taken, next_frame, with_body, with_taken, after_carry}
 use Rattle.link_ring.specs.Ways.{Call, Sends, Takes, Opens, Closes, after_call, sent_by}
 use Rattle.link_ring.proofs.Order.{at_hand-after_take, on_way-after_call}
 
@@ -43,7 +43,7 @@ paired_call c a b pair = record {
   second = omega (arith, pair.second, hand_shorter c a);
 }
 
-pub paired_carry : (a b : EndView) → ArePaired (carried a b) (carried b a)
+pub paired_carry : (a b : EndView) → ArePaired (after_carry a b) (after_carry b a)
 paired_carry a b = record {
   first = omega (arith, length-append b.at_hand a.on_way);
   second = omega (arith, length-append a.at_hand b.on_way);

@@ -28,14 +28,14 @@ free e = 8 - e.used
 abbrev pub accepts : EndView → Frame → Bool
 accepts e f = if is_close f then not (is_closed e.phase) && nat_le 1 (free e) else nat_le 2 (free e)
 
-abbrev pub begun : Phase → Phase
-begun Closed = Closed
-begun Opening = Open
-begun Open = Open
+abbrev pub phase_after_frame : Phase → Phase
+phase_after_frame Closed = Closed
+phase_after_frame Opening = Open
+phase_after_frame Open = Open
 
 -- a Close closes the end; with the first other frame after its opening it is open
 abbrev pub phase_after_send : Phase → Frame → Phase
-phase_after_send phase f = if is_close f then Closed else begun phase
+phase_after_send phase f = if is_close f then Closed else phase_after_frame phase
 
 abbrev pub after_send : EndView → Frame → EndView
 after_send e f = record e { phase = phase_after_send e.phase f; on_way = e.on_way ++ f ∷ []; used = e.used + 1 }
@@ -77,5 +77,5 @@ abbrev pub StaysPaired : EndView → EndView → Type 0
 StaysPaired old new = (other : EndView) → ArePaired old other → ArePaired new other
 
 -- an end after frames were carried between it and the other one
-abbrev pub carried : EndView → EndView → EndView
-carried a b = record a { at_hand = a.at_hand ++ b.on_way; on_way = []; used = length b.at_hand + length a.on_way }
+abbrev pub after_carry : EndView → EndView → EndView
+after_carry a b = record a { at_hand = a.at_hand ++ b.on_way; on_way = []; used = length b.at_hand + length a.on_way }

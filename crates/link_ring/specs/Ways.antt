@@ -2,7 +2,7 @@
 use Rattle.std.specs.Prelude.{◌≡◌, ℕ, ◌==◌, if◌then◌else◌, List, [], ◌∷◌, ◌++◌, filter}
 use Rattle.std.specs.Option.{option_to_list}
 use Rattle.link_ring.specs.declared.frame.Frame.{Frame}
-use Rattle.link_ring.specs.Ends.{EndView, fresh, accepts, after_send, next_frame, after_take, after_open, after_close, carried}
+use Rattle.link_ring.specs.Ends.{EndView, fresh, accepts, after_send, next_frame, after_take, after_open, after_close, after_carry}
 
 -- a call at an end
 pub data Call : Type 0 where
@@ -46,7 +46,7 @@ new_way = record { sender = fresh; taker = fresh; sent = []; taken = [] }
 abbrev pub after_event : Event → Way → Way
 after_event (AtSender c) w = record w { sender = after_call c w.sender; sent = w.sent ++ sent_by c w.sender }
 after_event (AtTaker c) w = record w { taker = after_call c w.taker; taken = w.taken ++ taken_by c w.taker }
-after_event Carries w = record w { sender = carried w.sender w.taker; taker = carried w.taker w.sender }
+after_event Carries w = record w { sender = after_carry w.sender w.taker; taker = after_carry w.taker w.sender }
 
 abbrev pub after_events : List Event → Way → Way
 after_events [] w = w

@@ -2,7 +2,7 @@
 ghost use Rattle.std.specs.Prelude.{◌≡◌, ◌≤◌, ◌<◌, ◌+◌, ◌-◌, ◌++◌, vec_len, ◌^◌, ◌↔◌, [], true, false, not, nat_le, IfOk, IfErr, IsErr, IsOk, OnOk, OnErr, filter, nat_lt, vec_capacity};
 ghost use Rattle.std.specs.List.{find, after_first};
 ghost use Rattle.link_ring.specs.Frames.{is_old, is_close};
-ghost use Rattle.link_ring.specs.Ends.{ArePaired, StaysPaired, carried, fresh, accepts, after_send, next_frame, after_take, after_open, after_close, free, phase_after_send};
+ghost use Rattle.link_ring.specs.Ends.{ArePaired, StaysPaired, after_carry, fresh, accepts, after_send, next_frame, after_take, after_open, after_close, free, phase_after_send};
 
 use crate::frame::{Body, Frame};
 use annex_base::NoMemory;
@@ -215,8 +215,8 @@ fn arrive(on_way: &mut Vec<Frame>, at_hand: &mut Vec<Frame>)
 /// and all that it took.
 pub fn carry(a: &mut End, b: &mut End)
     requires { ArePaired a.old b.old }
-    ensures first { a.new ≡ carried a.old b.old }
-    ensures second { b.new ≡ carried b.old a.old }
+    ensures first { a.new ≡ after_carry a.old b.old }
+    ensures second { b.new ≡ after_carry b.old a.old }
     ensures paired { ArePaired a.new b.new }
 {
     arrive(&mut a.on_way, &mut b.at_hand);

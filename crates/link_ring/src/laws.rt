@@ -1,7 +1,7 @@
 //! Laws on the ends of connections, which no call depends on.
 ghost use Rattle.std.specs.Prelude.{◌≡◌, ℕ, List, false, IfSome};
 ghost use Rattle.link_ring.specs.Frames.{is_old};
-ghost use Rattle.link_ring.specs.Ends.{EndView, ArePaired, carried, fresh, next_frame};
+ghost use Rattle.link_ring.specs.Ends.{EndView, ArePaired, after_carry, fresh, next_frame};
 ghost use Rattle.link_ring.specs.Ways.{Call, Event, after_call, after_events, new_way, of_epoch, IsFront};
 
 /// Two ends of one connection stay so, whatever is called at either.
@@ -9,7 +9,7 @@ pub fn ends_stay_paired()
     ensures fresh { ArePaired fresh fresh }
     ensures other { (a b : EndView) → ArePaired a b → ArePaired b a }
     ensures call { (c : Call) (a b : EndView) → ArePaired a b → ArePaired (after_call c a) b }
-    ensures carry { (a b : EndView) → ArePaired a b → ArePaired (carried a b) (carried b a) }
+    ensures carry { (a b : EndView) → ArePaired a b → ArePaired (after_carry a b) (after_carry b a) }
 {}
 
 /// Whatever is called at the two ends and however often frames are carried, of each epoch the frames that were taken

@@ -12,7 +12,7 @@ use Rattle.log_lines.specs.declared.entry.LogKind.{LogKind}
 use Rattle.log_lines.specs.declared.entry.Topic.{Topic}
 use Rattle.log_lines.specs.declared.entry.Entry.{Entry}
 use Rattle.log_lines.specs.Reading.{entry_of}
-use Rattle.log_lines.specs.Newest.{same_topic, is_older, IsNewest, newer, newest, entry_at, newest_of, ReadAlike, says_newer, outdated_by, is_outdated, compacted}
+use Rattle.log_lines.specs.Newest.{same_topic, is_older, IsNewest, newer, newest, entry_at, newest_of, ReadAlike, says_newer, outdated_by, is_outdated, current_lines}
 use Rattle.log_lines.specs.Latest.{said_of, newer_of, is_outdated_in}
 use Rattle.log_lines.specs.Keeping.{HasNewer, Keeps}
 use Rattle.log_lines.specs.Keeping.Keeps.{Empty, Add, AddAgain, Merge, Arrange, Compact}
@@ -51,14 +51,14 @@ has_newer_outdated kind lines line n =
 
 -- ---- compaction keeps what is newest
 
-pub compacted_among : (kind : LogKind) (lines : List (List ℕ)) (line : List ℕ) → Member line (compacted kind lines) → Member line lines × (is_outdated kind lines line ≡ false)
+pub compacted_among : (kind : LogKind) (lines : List (List ℕ)) (line : List ℕ) → Member line (current_lines kind lines) → Member line lines × (is_outdated kind lines line ≡ false)
 compacted_among kind lines line among =
     let found = Member-filter_parts (λ l. not (is_outdated kind lines l)) lines line among in (found.0, not-true (is_outdated kind lines line) found.1)
 
-pub among_compacted : (kind : LogKind) (lines : List (List ℕ)) (line : List ℕ) → Member line lines → is_outdated kind lines line ≡ false → Member line (compacted kind lines)
+pub among_compacted : (kind : LogKind) (lines : List (List ℕ)) (line : List ℕ) → Member line lines → is_outdated kind lines line ≡ false → Member line (current_lines kind lines)
 among_compacted kind lines line among h = Member-filter_from (λ l. not (is_outdated kind lines l)) lines line among (ap not h)
 
-compacted_newest : (kind : LogKind) (lines : List (List ℕ)) (e : Entry) → IsNewest kind (compacted kind lines) e → IsNewest kind lines e
+compacted_newest : (kind : LogKind) (lines : List (List ℕ)) (e : Entry) → IsNewest kind (current_lines kind lines) e → IsNewest kind lines e
 compacted_newest kind lines e new =
     let stands = compacted_among kind lines new.line new.among in
     record {
@@ -71,7 +71,7 @@ compacted_newest kind lines e new =
           (λ t. t);
     }
 
-newest_compacted : (kind : LogKind) (lines : List (List ℕ)) (e : Entry) → IsNewest kind lines e → IsNewest kind (compacted kind lines) e
+newest_compacted : (kind : LogKind) (lines : List (List ℕ)) (e : Entry) → IsNewest kind lines e → IsNewest kind (current_lines kind lines) e
 newest_compacted kind lines e new = record {
   line = new.line;
   among = among_compacted kind lines new.line new.among
@@ -84,15 +84,15 @@ newest_compacted kind lines e new = record {
   last = λ line f among says. new.last line f (compacted_among kind lines line among).0 says;
 }
 
-pub compacted_alike : (kind : LogKind) (lines : List (List ℕ)) → ReadAlike kind (compacted kind lines) lines
-compacted_alike kind lines = alike_by_newest kind (compacted kind lines) lines (compacted_newest kind lines) (newest_compacted kind lines)
+pub compacted_alike : (kind : LogKind) (lines : List (List ℕ)) → ReadAlike kind (current_lines kind lines) lines
+compacted_alike kind lines = alike_by_newest kind (current_lines kind lines) lines (compacted_newest kind lines) (newest_compacted kind lines)
 
 -- compaction keeps the newest entry of each topic
-pub newest_of-compacted : (kind : LogKind) (lines : List (List ℕ)) (t : Topic) → newest_of kind (compacted kind lines) t ≡ newest_of kind lines t
+pub newest_of-compacted : (kind : LogKind) (lines : List (List ℕ)) (t : Topic) → newest_of kind (current_lines kind lines) t ≡ newest_of kind lines t
 newest_of-compacted kind lines t = ap (λ es. entry_at es t) (compacted_alike kind lines)
 
 -- a line is left out exactly where it has a newer one
-pub left_out : (kind : LogKind) (lines : List (List ℕ)) (line : List ℕ) → Member line lines → (¬ Member line (compacted kind lines)) ↔ HasNewer kind lines line
+pub left_out : (kind : LogKind) (lines : List (List ℕ)) (line : List ℕ) → Member line lines → (¬ Member line (current_lines kind lines)) ↔ HasNewer kind lines line
 left_out kind lines line among = (
   λ out. by_test (is_outdated kind lines line) (outdated_has_newer kind lines line) (λ t. absurd (out (among_compacted kind lines line among t))),
   λ n m. other (sym (compacted_among kind lines line m).1 ∙ has_newer_outdated kind lines line n),
@@ -169,7 +169,7 @@ pub outdated_by_newest : (kind : LogKind) (lines : List (List ℕ)) (line : List
 outdated_by_newest kind lines line = outdated_in kind lines (entry_of kind line)
 
 -- a line without a newer one stays
-pub stays : (kind : LogKind) (lines : List (List ℕ)) (line : List ℕ) → Member line lines → ¬ HasNewer kind lines line → Member line (compacted kind lines)
+pub stays : (kind : LogKind) (lines : List (List ℕ)) (line : List ℕ) → Member line lines → ¬ HasNewer kind lines line → Member line (current_lines kind lines)
 stays kind lines line among last =
     among_compacted kind lines line among (by_test (is_outdated kind lines line) (λ t. absurd (last (outdated_has_newer kind lines line t))) (λ t. t))
 

@@ -14,7 +14,7 @@ use Rattle.log_lines.specs.declared.entry.Topic.{Topic}
 use Rattle.log_lines.specs.declared.entry.Entry.{Entry}
 use Rattle.log_lines.specs.LineText.{IsLine}
 use Rattle.log_lines.specs.Reading.{entry_of}
-use Rattle.log_lines.specs.Newest.{same_topic, entry_cmp, is_older, IsNewest, IsReading, newer, put_if, newest, entry_at, newest_of, ReadAlike}
+use Rattle.log_lines.specs.Newest.{same_topic, entry_cmp, is_older, IsNewest, IsReading, newer, with_entry_if, newest, entry_at, newest_of, ReadAlike}
 use Rattle.log_lines.specs.Latest.{said_of, newer_of}
 use Rattle.log_lines.specs.Keeping.{Says}
 use Rattle.log_lines.proofs.FormLemmas.{entry_takes, entry_again}
@@ -30,29 +30,29 @@ latest kind (line ∷ lines) topic = newer_of (said_of topic (entry_of kind line
 -- ---- lines after others
 
 abbrev read_from : LogKind → List Entry → List (List ℕ) → List Entry
-read_from kind es lines = fold (λ es line. put_if es (entry_of kind line)) es lines
+read_from kind es lines = fold (λ es line. with_entry_if es (entry_of kind line)) es lines
 
 read_append : (kind : LogKind) (es : List Entry) (xs ys : List (List ℕ)) → read_from kind es (xs ++ ys) ≡ read_from kind (read_from kind es xs) ys
 read_append kind es [] ys = refl
-read_append kind es (x ∷ xs) ys = read_append kind (put_if es (entry_of kind x)) xs ys
+read_append kind es (x ∷ xs) ys = read_append kind (with_entry_if es (entry_of kind x)) xs ys
 
-pub newest_append : (kind : LogKind) (xs ys : List (List ℕ)) → newest kind (xs ++ ys) ≡ fold (λ es line. put_if es (entry_of kind line)) (newest kind xs) ys
+pub newest_append : (kind : LogKind) (xs ys : List (List ℕ)) → newest kind (xs ++ ys) ≡ fold (λ es line. with_entry_if es (entry_of kind line)) (newest kind xs) ys
 newest_append kind xs ys = read_append kind [] xs ys
 
-put_if_at : (es : List Entry) (o : Option Entry) (t : Topic) → IsRising es → entry_at (put_if es o) t ≡ newer_of (entry_at es t) (said_of t o)
+put_if_at : (es : List Entry) (o : Option Entry) (t : Topic) → IsRising es → entry_at (with_entry_if es o) t ≡ newer_of (entry_at es t) (said_of t o)
 put_if_at es None t h = sym (newer_of_none (entry_at es t))
 put_if_at es (Some e) t h = put_at es e t h
 
 read_rising : (kind : LogKind) (es : List Entry) (lines : List (List ℕ)) → IsRising es → IsRising (read_from kind es lines)
 read_rising kind es [] h = h
-read_rising kind es (line ∷ lines) h = read_rising kind (put_if es (entry_of kind line)) lines (put_if_rising es (entry_of kind line) h)
+read_rising kind es (line ∷ lines) h = read_rising kind (with_entry_if es (entry_of kind line)) lines (put_if_rising es (entry_of kind line) h)
 
 read_at : (kind : LogKind) (es : List Entry) (lines : List (List ℕ)) (t : Topic) → IsRising es → entry_at (read_from kind es lines) t ≡ newer_of (entry_at es t) (latest kind lines t)
 unfolding latest
 read_at kind es [] t h = sym (newer_of_none (entry_at es t))
 read_at kind es (line ∷ lines) t h =
     let o = entry_of kind line in
-    read_at kind (put_if es o) lines t (put_if_rising es o h)
+    read_at kind (with_entry_if es o) lines t (put_if_rising es o h)
     ∙ ap (λ a. newer_of a (latest kind lines t)) (put_if_at es o t h)
     ∙ newer_of_assoc (entry_at es t) (said_of t o) (latest kind lines t)
 
@@ -228,7 +228,7 @@ alike_by_members kind xs ys same =
 -- lines that read alike do so with more lines after them
 pub alike_append : (kind : LogKind) (xs ys more : List (List ℕ)) → ReadAlike kind xs ys → ReadAlike kind (xs ++ more) (ys ++ more)
 alike_append kind xs ys more alike =
-    newest_append kind xs more ∙ ap (λ es. fold (λ es line. put_if es (entry_of kind line)) es more) alike ∙ sym (newest_append kind ys more)
+    newest_append kind xs more ∙ ap (λ es. fold (λ es line. with_entry_if es (entry_of kind line)) es more) alike ∙ sym (newest_append kind ys more)
 
 pub reading_by : {E : Type 0} (kind : LogKind) (lines : List (List ℕ)) (es : List Entry) (r : Result (Vec Entry Global) E) → es ≡ newest kind lines → IfOk r (λ v. v.items ≡ es) → IfOk r (λ v. IsReading kind lines v.items)
 reading_by kind lines es (Ok v) made is = subst (IsReading kind lines) (sym (is ∙ made)) (newest_reading kind lines)
@@ -269,5 +269,5 @@ pub newest_of_alike : (kind : LogKind) (xs ys : List (List ℕ)) (t : Topic) →
 newest_of_alike kind xs ys t alike = ap (λ es. entry_at es t) alike
 
 -- one line more
-pub newest_more : (kind : LogKind) (lines : List (List ℕ)) (line : List ℕ) → newest kind (lines ++ line ∷ []) ≡ put_if (newest kind lines) (entry_of kind line)
+pub newest_more : (kind : LogKind) (lines : List (List ℕ)) (line : List ℕ) → newest kind (lines ++ line ∷ []) ≡ with_entry_if (newest kind lines) (entry_of kind line)
 newest_more kind lines line = newest_append kind lines (line ∷ [])

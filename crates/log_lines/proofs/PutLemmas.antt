@@ -11,7 +11,7 @@ use Rattle.annex_base.proofs.Conditions.{by_test}
 use Rattle.annex_base.proofs.TextOrder.{by_order}
 use Rattle.log_lines.specs.declared.entry.Topic.{Topic}
 use Rattle.log_lines.specs.declared.entry.Entry.{Entry}
-use Rattle.log_lines.specs.Newest.{topic_cmp, same_topic, newer, put, put_if, entry_at}
+use Rattle.log_lines.specs.Newest.{topic_cmp, same_topic, newer, with_entry, with_entry_if, entry_at}
 use Rattle.log_lines.specs.Latest.{said_of, newer_of}
 use Rattle.log_lines.proofs.OrderLemmas.{other, topic_total, topic_exact, same_topic_is, same_topic_own}
 use Rattle.log_lines.proofs.NewerLemmas.{newer_topic, newer_of_none}
@@ -62,7 +62,7 @@ past_none t (e ∷ es) past = let apart = not_same t e.topic past.0 in rw apart 
 
 -- ---- the topics still rise with one more entry
 
-put_past : (t : Topic) (es : List Entry) (e : Entry) → topic_cmp t e.topic ≡ Less → ArePast t es → ArePast t (put es e)
+put_past : (t : Topic) (es : List Entry) (e : Entry) → topic_cmp t e.topic ≡ Less → ArePast t es → ArePast t (with_entry es e)
 put_past t [] e h past = (h, tt)
 put_past t (x ∷ xs) e h past =
     by_order (topic_cmp e.topic x.topic)
@@ -70,16 +70,16 @@ put_past t (x ∷ xs) e h past =
     (λ o. rw o (ap (topic_cmp t) (newer_topic x e x.topic refl (topic_exact e.topic x.topic o)) ∙ past.0, past.1))
     (λ o. rw o (past.0, put_past t xs e h past.1))
 
-pub put_rising : (es : List Entry) (e : Entry) → IsRising es → IsRising (put es e)
+pub put_rising : (es : List Entry) (e : Entry) → IsRising es → IsRising (with_entry es e)
 put_rising [] e h = parts_rising e [] tt none_rising
 put_rising (x ∷ xs) e h =
     let parts = rising_parts x xs h in
     by_order (topic_cmp e.topic x.topic)
     (λ o. rw o (parts_rising e (x ∷ xs) (o, past_further e.topic x.topic xs o parts.0) h))
     (λ o. rw o (parts_rising (newer x e) xs (subst (λ t. ArePast t xs) (sym (newer_topic x e x.topic refl (topic_exact e.topic x.topic o))) parts.0) parts.1))
-    (λ o. rw o (parts_rising x (put xs e) (put_past x.topic xs e (turned e.topic x.topic o) parts.0) (put_rising xs e parts.1)))
+    (λ o. rw o (parts_rising x (with_entry xs e) (put_past x.topic xs e (turned e.topic x.topic o) parts.0) (put_rising xs e parts.1)))
 
-pub put_if_rising : (es : List Entry) (o : Option Entry) → IsRising es → IsRising (put_if es o)
+pub put_if_rising : (es : List Entry) (o : Option Entry) → IsRising es → IsRising (with_entry_if es o)
 put_if_rising es None h = h
 put_if_rising es (Some e) h = put_rising es e h
 
@@ -114,14 +114,14 @@ put_after t x xs rest e o after =
     rw (s, apart) refl)
     (λ s. rw s after)
 
-pub put_at : (es : List Entry) (e : Entry) (t : Topic) → IsRising es → entry_at (put es e) t ≡ newer_of (entry_at es t) (said_of t (Some e))
+pub put_at : (es : List Entry) (e : Entry) (t : Topic) → IsRising es → entry_at (with_entry es e) t ≡ newer_of (entry_at es t) (said_of t (Some e))
 put_at [] e t h = refl
 put_at (x ∷ xs) e t h =
     let parts = rising_parts x xs h in
     by_order (topic_cmp e.topic x.topic)
     (λ o. rw o (put_before t (x ∷ xs) e (o, past_further e.topic x.topic xs o parts.0)))
     (λ o. rw o (put_over t x xs e (topic_exact e.topic x.topic o)))
-    (λ o. rw o (put_after t x xs (put xs e) e o (put_at xs e t parts.1)))
+    (λ o. rw o (put_after t x xs (with_entry xs e) e o (put_at xs e t parts.1)))
 
 -- ---- members
 

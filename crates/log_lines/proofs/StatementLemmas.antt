@@ -11,7 +11,7 @@ use Rattle.log_lines.specs.declared.entry.Topic.{Topic}
 use Rattle.log_lines.specs.declared.entry.Topic.TheVariants as topics
 use Rattle.log_lines.specs.declared.statement.Statement.{Statement}
 use Rattle.log_lines.specs.contracts.entry.TopicOrd.TheImpl as topic_ord
-use Rattle.log_lines.specs.Newest.{topic_cmp, same_topic, put, put_if, entry_at, says_newer}
+use Rattle.log_lines.specs.Newest.{topic_cmp, same_topic, with_entry, with_entry_if, entry_at, says_newer}
 use Rattle.log_lines.specs.declared.entry.Entry.{Entry}
 use Rattle.log_lines.specs.Index.{statement_of, entry_with, entries_in}
 use Rattle.log_lines.specs.Latest.{statement_cmp, is_news, is_old}
@@ -39,7 +39,7 @@ abbrev known_at : (Topic → Topic → Ordering) → List (Topic × Statement) �
 known_at cmp statements t = lookup (is_at (cmp t)) statements
 
 -- a statement that is news is put
-pub put_news : (statements : List (Topic × Statement)) (t : Topic) (c : Statement) → is_news c (known_at topic_cmp statements t) ≡ true → entries_in (insert_entry topic_cmp statements t c) ≡ put (entries_in statements) (entry_with t c)
+pub put_news : (statements : List (Topic × Statement)) (t : Topic) (c : Statement) → is_news c (known_at topic_cmp statements t) ≡ true → entries_in (insert_entry topic_cmp statements t c) ≡ with_entry (entries_in statements) (entry_with t c)
 put_news [] t c news = refl
 put_news (p ∷ ps) t c news =
     by_order (topic_cmp t p.0)
@@ -55,7 +55,7 @@ past_unknown [] t past = refl
 past_unknown (p ∷ ps) t past = rw past.0 (past_unknown ps t past.1)
 
 -- where it isn't, it changes nothing
-pub put_known : (statements : List (Topic × Statement)) (t : Topic) (c : Statement) → IsRising (entries_in statements) → is_news c (known_at topic_cmp statements t) ≡ false → entries_in statements ≡ put (entries_in statements) (entry_with t c)
+pub put_known : (statements : List (Topic × Statement)) (t : Topic) (c : Statement) → IsRising (entries_in statements) → is_news c (known_at topic_cmp statements t) ≡ false → entries_in statements ≡ with_entry (entries_in statements) (entry_with t c)
 put_known [] t c up news = other (sym news)
 put_known (p ∷ ps) t c up news =
     let parts = rising_parts (entry_with p.0 p.1) (entries_in ps) up in
@@ -89,6 +89,6 @@ statement_at [] t = refl
 statement_at (p ∷ ps) t = by_test (same_topic t p.0) (λ s. rw s refl) (λ s. rw s (statement_at ps t))
 
 -- the topics still rise when a line is put, or nothing is changed
-pub kept_rising : {T E : Type 0} (r : Result T E) (old new : List (Topic × Statement)) (o : Option Entry) → IsRising (entries_in old) → OnOk r (entries_in new ≡ put_if (entries_in old) o) → OnErr r (new ≡ old) → IsRising (entries_in new)
+pub kept_rising : {T E : Type 0} (r : Result T E) (old new : List (Topic × Statement)) (o : Option Entry) → IsRising (entries_in old) → OnOk r (entries_in new ≡ with_entry_if (entries_in old) o) → OnErr r (new ≡ old) → IsRising (entries_in new)
 kept_rising (Ok v) old new o up ok err = subst IsRising (sym ok) (put_if_rising (entries_in old) o up)
 kept_rising (Err e) old new o up ok err = subst (λ s. IsRising (entries_in s)) (sym err) up

@@ -5,7 +5,7 @@ use Rattle.log_lines.specs.declared.entry.Topic.{Topic}
 use Rattle.log_lines.specs.declared.entry.Entry.{Entry}
 use Rattle.log_lines.specs.declared.statement.Statement.{Statement}
 use Rattle.log_lines.specs.Reading.{entry_of}
-use Rattle.log_lines.specs.Newest.{put_if, newest}
+use Rattle.log_lines.specs.Newest.{with_entry_if, newest}
 
 -- the newest entries of a file of this kind, in order of topic
 pub record Index : Type 0 where
@@ -18,7 +18,7 @@ empty_index kind = record { kind = kind; entries = [] }
 
 -- with one more line
 abbrev pub index_with : Index → List ℕ → Index
-index_with index line = record { kind = index.kind; entries = put_if index.entries (entry_of index.kind line) }
+index_with index line = record { kind = index.kind; entries = with_entry_if index.entries (entry_of index.kind line) }
 
 -- of these lines
 abbrev pub index_of : LogKind → List (List ℕ) → Index

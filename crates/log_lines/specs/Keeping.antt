@@ -5,7 +5,7 @@ use Rattle.annex_base.specs.Lists.{Member, Each}
 use Rattle.log_lines.specs.declared.entry.LogKind.{LogKind}
 use Rattle.log_lines.specs.declared.entry.Entry.{Entry}
 use Rattle.log_lines.specs.LineText.{IsLine}
-use Rattle.log_lines.specs.Newest.{is_older, compacted}
+use Rattle.log_lines.specs.Newest.{is_older, current_lines}
 
 -- a line among these says the entry
 pub record Says (kind : LogKind) (lines : List (List ℕ)) (e : Entry) : Type 0 where
@@ -32,4 +32,4 @@ pub data Keeps (kind : LogKind) : List (List ℕ) → List (List ℕ) → Type 0
   AddAgain : (kept ever lines : List (List ℕ)) → Each (λ line. Member line ever) lines → Keeps kind kept ever → Keeps kind (kept ++ lines) ever
   Merge : (kept ever others all : List (List ℕ)) → Keeps kind kept ever → Keeps kind others all → Keeps kind (kept ++ others) (ever ++ all)
   Arrange : (kept ever arranged : List (List ℕ)) → SameLines kept arranged → Keeps kind kept ever → Keeps kind arranged ever
-  Compact : (kept ever : List (List ℕ)) → Keeps kind kept ever → Keeps kind (compacted kind kept) ever
+  Compact : (kept ever : List (List ℕ)) → Keeps kind kept ever → Keeps kind (current_lines kind kept) ever

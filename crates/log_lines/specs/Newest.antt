@@ -96,17 +96,17 @@ abbrev pub newer : Entry → Entry → Entry
 newer e f = if is_lt (entry_cmp e f) then f else e
 
 -- the entries with one more, which replaces an older one of its topic
-abbrev pub put : List Entry → Entry → List Entry
-put [] e = e ∷ []
-put (x ∷ xs) e = match_ordering (topic_cmp e.topic x.topic) (e ∷ x ∷ xs) (newer x e ∷ xs) (x ∷ put xs e)
+abbrev pub with_entry : List Entry → Entry → List Entry
+with_entry [] e = e ∷ []
+with_entry (x ∷ xs) e = match_ordering (topic_cmp e.topic x.topic) (e ∷ x ∷ xs) (newer x e ∷ xs) (x ∷ with_entry xs e)
 
-abbrev pub put_if : List Entry → Option Entry → List Entry
-put_if es None = es
-put_if es (Some e) = put es e
+abbrev pub with_entry_if : List Entry → Option Entry → List Entry
+with_entry_if es None = es
+with_entry_if es (Some e) = with_entry es e
 
 -- the newest entries of the lines, in order of topic
 abbrev pub newest : LogKind → List (List ℕ) → List Entry
-newest kind lines = fold (λ es line. put_if es (entry_of kind line)) [] lines
+newest kind lines = fold (λ es line. with_entry_if es (entry_of kind line)) [] lines
 
 abbrev pub entry_at : List Entry → Topic → Option Entry
 entry_at [] topic = None
@@ -153,8 +153,8 @@ abbrev pub is_outdated : LogKind → List (List ℕ) → List ℕ → Bool
 is_outdated kind lines line = outdated_by kind lines (entry_of kind line)
 
 -- the lines without those that are outdated
-abbrev pub compacted : LogKind → List (List ℕ) → List (List ℕ)
-compacted kind lines = filter (λ line. not (is_outdated kind lines line)) lines
+abbrev pub current_lines : LogKind → List (List ℕ) → List (List ℕ)
+current_lines kind lines = filter (λ line. not (is_outdated kind lines line)) lines
 
 -- compaction leaves out a line
 abbrev pub has_outdated : LogKind → List (List ℕ) → Bool

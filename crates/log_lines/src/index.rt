@@ -8,7 +8,7 @@ ghost use Rattle.std.specs.Option.{option_copied, option_map};
 ghost use Rattle.log_lines.specs.declared.entry.LogKind.{LogKind};
 ghost use Rattle.log_lines.specs.declared.entry.Topic.TheVariants as topics;
 ghost use Rattle.log_lines.specs.Reading.{entry_of};
-ghost use Rattle.log_lines.specs.Newest.{topic_cmp, same_topic, entry_at, put, put_if};
+ghost use Rattle.log_lines.specs.Newest.{topic_cmp, same_topic, entry_at, with_entry, with_entry_if};
 ghost use Rattle.log_lines.specs.Index.{empty_index, index_of, index_with, statement_of, entries_in};
 ghost use Rattle.log_lines.specs.Latest.{is_news, is_old, is_outdated_in};
 
@@ -144,7 +144,7 @@ fn is_old(statements: &BTreeMap<Topic, Statement>, topic: &Topic, statement: &St
 /// Keeps what the entry says, unless what is known of its topic is as new.
 fn put(statements: &mut BTreeMap<Topic, Statement>, entry: Entry) -> Result<(), NoMemory>
     requires { IsStrictlySortedBy topic_cmp (map (λ e. e.topic) (entries_in statements.old.entries)) }
-    ensures ok { OnOk result (entries_in statements.new.entries ≡ put (entries_in statements.old.entries) entry) }
+    ensures ok { OnOk result (entries_in statements.new.entries ≡ with_entry (entries_in statements.old.entries) entry) }
     ensures err { OnErr result (statements.new.entries ≡ statements.old.entries) }
 {
     let Entry {
@@ -167,7 +167,7 @@ fn put_line(
     line: &Line,
 ) -> Result<(), NoMemory>
     requires { IsStrictlySortedBy topic_cmp (map (λ e. e.topic) (entries_in statements.old.entries)) }
-    ensures ok { OnOk result (entries_in statements.new.entries ≡ put_if (entries_in statements.old.entries) (entry_of kind line.now)) }
+    ensures ok { OnOk result (entries_in statements.new.entries ≡ with_entry_if (entries_in statements.old.entries) (entry_of kind line.now)) }
     ensures err { OnErr result (statements.new.entries ≡ statements.old.entries) }
 {
     if let Some(entry) = read(alloc, kind, line.bytes())? {

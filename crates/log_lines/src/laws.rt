@@ -11,7 +11,7 @@ ghost use Rattle.log_lines.specs.declared.entry.Topic.{Topic};
 ghost use Rattle.log_lines.specs.declared.entry.Entry.{Entry};
 ghost use Rattle.log_lines.specs.Files.{file_name, kind_named};
 ghost use Rattle.log_lines.specs.LineText.{IsLine};
-ghost use Rattle.log_lines.specs.Newest.{topic_cmp, entry_cmp, newer, IsNewest, IsReading, ReadAlike, newest, entry_at, newest_of, newest_stamp, next_stamp, greatest_stamp, compacted};
+ghost use Rattle.log_lines.specs.Newest.{topic_cmp, entry_cmp, newer, IsNewest, IsReading, ReadAlike, newest, entry_at, newest_of, newest_stamp, next_stamp, greatest_stamp, current_lines};
 ghost use Rattle.log_lines.specs.Keeping.{Says, HasNewer, SameLines, Keeps};
 
 /// A file's name tells its kind: of each kind but that of location logs there is one file (git-annex internals).
@@ -55,20 +55,20 @@ pub fn readings_depend_on_the_set()
 /// Compaction keeps what a file says, also after lines are added to it or other files are merged into it; it leaves out
 /// exactly the lines that have an entry of which another line has a newer one (own).
 pub fn compaction_keeps_the_reading()
-    ensures alike { (kind : LogKind) (lines : List (List ℕ)) → ReadAlike kind (compacted kind lines) lines }
+    ensures alike { (kind : LogKind) (lines : List (List ℕ)) → ReadAlike kind (current_lines kind lines) lines }
     ensures later { (kind : LogKind) (xs ys more : List (List ℕ))
         → ReadAlike kind xs ys → ReadAlike kind (xs ++ more) (ys ++ more) }
     ensures merged { (kind : LogKind) (xs ys others all : List (List ℕ))
         → ReadAlike kind xs ys → ReadAlike kind others all → ReadAlike kind (xs ++ others) (ys ++ all) }
     ensures kept { (kind : LogKind) (kept ever : List (List ℕ)) → Keeps kind kept ever → ReadAlike kind kept ever }
     ensures within { (kind : LogKind) (lines : List (List ℕ)) (line : List ℕ)
-        → Member line (compacted kind lines) → Member line lines }
+        → Member line (current_lines kind lines) → Member line lines }
     ensures left_out { (kind : LogKind) (lines : List (List ℕ)) (line : List ℕ)
-        → Member line lines → (¬ Member line (compacted kind lines)) ↔ HasNewer kind lines line }
+        → Member line lines → (¬ Member line (current_lines kind lines)) ↔ HasNewer kind lines line }
     ensures stays { (kind : LogKind) (lines : List (List ℕ)) (line : List ℕ)
-        → Member line lines → ¬ HasNewer kind lines line → Member line (compacted kind lines) }
+        → Member line lines → ¬ HasNewer kind lines line → Member line (current_lines kind lines) }
     ensures outside { (kind : LogKind) (lines : List (List ℕ)) (line : List ℕ)
-        → Member line lines → ((e : Entry) → ¬ IsLine kind line e) → Member line (compacted kind lines) }
+        → Member line lines → ((e : Entry) → ¬ IsLine kind line e) → Member line (current_lines kind lines) }
 {}
 
 /// An entry with the next stamp is the newest of its topic as soon as its line is added, unless the newest one has the

@@ -8,32 +8,32 @@ use Rattle.std.proofs.lemmas.Nat.{div-add-mod', mod_below}
 use Rattle.std.proofs.lemmas.List.{drop-drop, drop-take, drop_all, drop_at, length-take-le, take-append-drop, take_all, take_at}
 use Rattle.std.proofs.lemmas.Slice.{drop-put_mid, take-put_mid}
 use Rattle.annex_base.specs.Lists.{Each}
-use Rattle.object_store.specs.BlockLists.{joined, AreBlocks}
+use Rattle.object_store.specs.BlockLists.{bytes_of_blocks, AreBlocks}
 
-pub length-joined : (full : List (Vec ℕ Global)) → Each (λ b. length b.items ≡ 32768) full → length (joined full) ≡ length full * 32768
+pub length-joined : (full : List (Vec ℕ Global)) → Each (λ b. length b.items ≡ 32768) full → length (bytes_of_blocks full) ≡ length full * 32768
 length-joined [] e = refl
-length-joined (b ∷ bs) e = omega (arith, length-append b.items (joined bs), e.0, length-joined bs e.1)
+length-joined (b ∷ bs) e = omega (arith, length-append b.items (bytes_of_blocks bs), e.0, length-joined bs e.1)
 
-pub length-blocks : (full : List (Vec ℕ Global)) (last : List ℕ) → AreBlocks full last → length full * 32768 + length last ≡ length (joined full ++ last)
-length-blocks full last b = omega (arith, length-append (joined full) last, length-joined full b.whole)
+pub length-blocks : (full : List (Vec ℕ Global)) (last : List ℕ) → AreBlocks full last → length full * 32768 + length last ≡ length (bytes_of_blocks full ++ last)
+length-blocks full last b = omega (arith, length-append (bytes_of_blocks full) last, length-joined full b.whole)
 
 pub drop_past : (xs ys : List ℕ) (n m : ℕ) → m ≡ length xs + n → drop m (xs ++ ys) ≡ drop n ys
 drop_past xs ys n m e = ap (λ k. drop k (xs ++ ys)) e ∙ drop-append-add xs ys n
 
-pub whole_block : (full : List (Vec ℕ Global)) (last : List ℕ) (q : ℕ) (d : Vec ℕ Global) → Each (λ b. length b.items ≡ 32768) full → q < length full → take 32768 (drop (q * 32768) (joined full ++ last)) ≡ (get_or full q d).items
+pub whole_block : (full : List (Vec ℕ Global)) (last : List ℕ) (q : ℕ) (d : Vec ℕ Global) → Each (λ b. length b.items ≡ 32768) full → q < length full → take 32768 (drop (q * 32768) (bytes_of_blocks full ++ last)) ≡ (get_or full q d).items
 whole_block [] last q d e h = absurd (omega arith)
-whole_block (b ∷ bs) last zero d e h = ap (take 32768) (append_assoc b.items (joined bs) last) ∙ take_at b.items (joined bs ++ last) 32768 e.0
+whole_block (b ∷ bs) last zero d e h = ap (take 32768) (append_assoc b.items (bytes_of_blocks bs) last) ∙ take_at b.items (bytes_of_blocks bs ++ last) 32768 e.0
 whole_block (b ∷ bs) last (suc q) d e h =
-    let past : drop (suc q * 32768) ((b.items ++ joined bs) ++ last) ≡ drop (q * 32768) (joined bs ++ last) =
-    ap (drop (suc q * 32768)) (append_assoc b.items (joined bs) last) ∙ drop_past b.items (joined bs ++ last) (q * 32768) (suc q * 32768) (omega (arith, e.0)) in
+    let past : drop (suc q * 32768) ((b.items ++ bytes_of_blocks bs) ++ last) ≡ drop (q * 32768) (bytes_of_blocks bs ++ last) =
+    ap (drop (suc q * 32768)) (append_assoc b.items (bytes_of_blocks bs) last) ∙ drop_past b.items (bytes_of_blocks bs ++ last) (q * 32768) (suc q * 32768) (omega (arith, e.0)) in
     ap (take 32768) past ∙ whole_block bs last q d e.1 (omega arith)
 
-pub last_block : (full : List (Vec ℕ Global)) (last : List ℕ) (q : ℕ) → AreBlocks full last → q ≡ length full → take 32768 (drop (q * 32768) (joined full ++ last)) ≡ last
+pub last_block : (full : List (Vec ℕ Global)) (last : List ℕ) (q : ℕ) → AreBlocks full last → q ≡ length full → take 32768 (drop (q * 32768) (bytes_of_blocks full ++ last)) ≡ last
 last_block full last q b e =
-    ap (take 32768) (drop_at (joined full) last (q * 32768) (length-joined full b.whole ∙ ap (λ n. n * 32768) (sym e))) ∙ take_all 32768 last b.rest
+    ap (take 32768) (drop_at (bytes_of_blocks full) last (q * 32768) (length-joined full b.whole ∙ ap (λ n. n * 32768) (sym e))) ∙ take_all 32768 last b.rest
 
-pub no_block : (full : List (Vec ℕ Global)) (last : List ℕ) (q : ℕ) → AreBlocks full last → length full < q → take 32768 (drop (q * 32768) (joined full ++ last)) ≡ []
-no_block full last q b h = ap (take 32768) (drop_all (q * 32768) (joined full ++ last) (omega (arith, length-blocks full last b, b.rest)))
+pub no_block : (full : List (Vec ℕ Global)) (last : List ℕ) (q : ℕ) → AreBlocks full last → length full < q → take 32768 (drop (q * 32768) (bytes_of_blocks full ++ last)) ≡ []
+no_block full last q b h = ap (take 32768) (drop_all (q * 32768) (bytes_of_blocks full ++ last) (omega (arith, length-blocks full last b, b.rest)))
 
 -- a place within a block
 pub length-block : (xs : List ℕ) (place : ℕ) → length (take 32768 (drop (place / 32768 * 32768) xs)) ≡ min 32768 (length xs - place / 32768 * 32768)

@@ -1,7 +1,7 @@
 //! Bytes in blocks of 32,768, so that an append moves no earlier byte and a piece is read without the rest.
 ghost use Rattle.std.specs.Prelude.{◌≡◌, ◌<◌, ◌≤◌, ◌+◌, ◌-◌, ◌*◌, ◌%◌, ◌^◌, ◌++◌, List, ℕ, [], ◌∷◌, length, vec_len, vec_capacity, take, drop, IfOk, OnOk, OnErr};
 ghost use Rattle.annex_base.specs.Lists.{Each};
-ghost use Rattle.object_store.specs.BlockLists.{joined, AreBlocks};
+ghost use Rattle.object_store.specs.BlockLists.{bytes_of_blocks, AreBlocks};
 ghost use Rattle.object_store.specs.Stores.{read_length, room_after_read};
 
 use annex_base::NoMemory;
@@ -22,11 +22,11 @@ pub struct Blocks {
 
 impl Model for Blocks {
     ghost use Rattle.std.specs.Prelude.{List, ℕ, ◌++◌};
-    ghost use Rattle.object_store.specs.BlockLists.{joined, AreBlocks};
+    ghost use Rattle.object_store.specs.BlockLists.{bytes_of_blocks, AreBlocks};
 
     ghost Value = { List ℕ };
 
-    ghost view = { λ b. joined b.full.items ++ b.last.items };
+    ghost view = { λ b. bytes_of_blocks b.full.items ++ b.last.items };
 
     ghost invariant = { λ b. AreBlocks b.full.items b.last.items };
 }
@@ -100,14 +100,14 @@ impl Blocks {
 
 fn length_of(full: &[Vec<u8>], last: &[u8]) -> usize
     requires { AreBlocks full.now last.now }
-    ensures { result ≡ length (joined full.now ++ last.now) }
+    ensures { result ≡ length (bytes_of_blocks full.now ++ last.now) }
 {
     full.len() * BLOCK + last.len()
 }
 
 fn block_at<'a>(full: &'a [Vec<u8>], last: &'a [u8], number: usize) -> &'a [u8]
     requires { AreBlocks full.now last.now }
-    ensures { result.now ≡ take 32768 (drop (number * 32768) (joined full.now ++ last.now)) }
+    ensures { result.now ≡ take 32768 (drop (number * 32768) (bytes_of_blocks full.now ++ last.now)) }
 {
     if number < full.len() {
         return &full[number];
@@ -138,7 +138,7 @@ fn fill(block: &mut Vec<u8>, bytes: &[u8]) -> Result<(), AllocError>
 
 // The bytes in blocks, of which the last is apart.
 fn cut(alloc: Global, bytes: &[u8]) -> Result<(Vec<Vec<u8>>, Vec<u8>), AllocError>
-    ensures value { IfOk result (λ r. joined r.0.items ++ r.1.items ≡ bytes.now) }
+    ensures value { IfOk result (λ r. bytes_of_blocks r.0.items ++ r.1.items ≡ bytes.now) }
     ensures whole { IfOk result (λ r. Each (λ b. length b.items ≡ 32768) r.0.items) }
     ensures last { IfOk result (λ r. length r.1.items ≤ 32768) }
 {
@@ -157,9 +157,9 @@ fn cut(alloc: Global, bytes: &[u8]) -> Result<(Vec<Vec<u8>>, Vec<u8>), AllocErro
 // What takes memory comes first.
 fn put(full: &mut Vec<Vec<u8>>, last: &mut Vec<u8>, piece: &[u8]) -> Result<(), NoMemory>
     requires blocks { AreBlocks full.old.items last.old.items }
-    requires small { length (joined full.old.items ++ last.old.items) + length piece.now < 2 ^ 62 }
-    ensures ok { OnOk result (joined full.new.items ++ last.new.items ≡ (joined full.old.items ++ last.old.items) ++ piece.now) }
-    ensures err { OnErr result (joined full.new.items ++ last.new.items ≡ joined full.old.items ++ last.old.items) }
+    requires small { length (bytes_of_blocks full.old.items ++ last.old.items) + length piece.now < 2 ^ 62 }
+    ensures ok { OnOk result (bytes_of_blocks full.new.items ++ last.new.items ≡ (bytes_of_blocks full.old.items ++ last.old.items) ++ piece.now) }
+    ensures err { OnErr result (bytes_of_blocks full.new.items ++ last.new.items ≡ bytes_of_blocks full.old.items ++ last.old.items) }
     ensures blocks { AreBlocks full.new.items last.new.items }
 {
     let room = BLOCK - last.len();

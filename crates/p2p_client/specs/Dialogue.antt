@@ -51,20 +51,20 @@ abbrev pub finally : Answer → Option (Answer × Awaited)
 finally answer = then_awaits answer awaits.Nothing
 
 -- the answers that are permitted where this is awaited; nothing else is
-abbrev pub permitted : Awaited → Message → Option (Answer × Awaited)
-permitted awaits.Auth (wire.AuthSuccess id) = finally (answers.Auth id)
-permitted (awaits.Version asked) (wire.Version n) = if nat_le n asked then finally (answers.Version n) else None
-permitted awaits.Word wire.Success = finally answers.Success
-permitted awaits.Word wire.Failure = finally answers.Failure
-permitted awaits.Timestamp (wire.Timestamp n) = finally (answers.Timestamp n)
-permitted awaits.Sending (wire.Data n) = then_awaits (answers.Sending n) awaits.Verdict
-permitted awaits.Verdict wire.Valid = finally answers.Valid
-permitted awaits.Verdict wire.Invalid = finally answers.Invalid
-permitted awaits.Offer (wire.PutFrom n) = then_awaits (answers.PutFrom n) awaits.Word
-permitted awaits.Offer wire.AlreadyHave = finally answers.AlreadyHave
-permitted awaits.Offer wire.Failure = finally answers.Failure
-permitted awaits.Offer (wire.Error text) = if bytes_eq text (codes "busy") then finally answers.Busy else None
-permitted awaited message = None
+abbrev pub permitted_answer : Awaited → Message → Option (Answer × Awaited)
+permitted_answer awaits.Auth (wire.AuthSuccess id) = finally (answers.Auth id)
+permitted_answer (awaits.Version asked) (wire.Version n) = if nat_le n asked then finally (answers.Version n) else None
+permitted_answer awaits.Word wire.Success = finally answers.Success
+permitted_answer awaits.Word wire.Failure = finally answers.Failure
+permitted_answer awaits.Timestamp (wire.Timestamp n) = finally (answers.Timestamp n)
+permitted_answer awaits.Sending (wire.Data n) = then_awaits (answers.Sending n) awaits.Verdict
+permitted_answer awaits.Verdict wire.Valid = finally answers.Valid
+permitted_answer awaits.Verdict wire.Invalid = finally answers.Invalid
+permitted_answer awaits.Offer (wire.PutFrom n) = then_awaits (answers.PutFrom n) awaits.Word
+permitted_answer awaits.Offer wire.AlreadyHave = finally answers.AlreadyHave
+permitted_answer awaits.Offer wire.Failure = finally answers.Failure
+permitted_answer awaits.Offer (wire.Error text) = if bytes_eq text (codes "busy") then finally answers.Busy else None
+permitted_answer awaited message = None
 
 abbrev pub took_by : Option (Answer × Awaited) → Took
 took_by None = took.Wrong

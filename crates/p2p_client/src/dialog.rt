@@ -2,7 +2,7 @@
 ghost use Rattle.std.specs.Prelude.{◌≡◌, ◌==◌, None, IfOk, IsOk, bytes_eq, codes};
 ghost use Rattle.annex_key.specs.View.{first_fault};
 ghost use Rattle.p2p_wire.specs.Streams.{IsLine};
-ghost use Rattle.p2p_client.specs.Dialogue.{HasNumber, awaited_after, awaited_then, message_for, permitted, took_by};
+ghost use Rattle.p2p_client.specs.Dialogue.{HasNumber, awaited_after, awaited_then, message_for, permitted_answer, took_by};
 
 use annex_base::{NoMemory, RepoId, Text};
 use annex_key::{Key, key_texts_have_no_fault};
@@ -164,7 +164,7 @@ fn message_for(alloc: Global, request: Request) -> Message
 
 // The answer to a PUT.
 fn offered(message: &Message) -> Option<(Answer, Awaited)>
-    ensures { result ≡ permitted Awaited.Offer message.now }
+    ensures { result ≡ permitted_answer Awaited.Offer message.now }
 {
     match message {
         Message::PutFrom(at) => Some((Answer::PutFrom(*at), Awaited::Word)),
@@ -177,7 +177,7 @@ fn offered(message: &Message) -> Option<(Answer, Awaited)>
 
 // The version that a server chose of those up to the asked one.
 fn chosen(asked: u8, version: u64) -> Option<(Answer, Awaited)>
-    ensures { result ≡ permitted (Awaited.Version asked) (Message.Version version) }
+    ensures { result ≡ permitted_answer (Awaited.Version asked) (Message.Version version) }
 {
     if version <= asked as u64 {
         Some((Answer::Version(version as u8), Awaited::Nothing))
@@ -188,7 +188,7 @@ fn chosen(asked: u8, version: u64) -> Option<(Answer, Awaited)>
 
 // The answer that the message is where this is awaited, and what is awaited then.
 fn permitted(awaited: Awaited, message: &Message) -> Option<(Answer, Awaited)>
-    ensures { result ≡ permitted awaited message.now }
+    ensures { result ≡ permitted_answer awaited message.now }
 {
     match (awaited, message) {
         (Awaited::Auth, Message::AuthSuccess(id)) => Some((Answer::Auth(*id), Awaited::Nothing)),
@@ -240,8 +240,8 @@ impl Dialog {
 
     /// Takes the server's next message. After Wrong the dialogue is as it was.
     pub fn take(&mut self, message: &Message) -> Took
-        ensures took { result ≡ took_by (permitted self.old message.now) }
-        ensures awaited { self.new ≡ awaited_then self.old (permitted self.old message.now) }
+        ensures took { result ≡ took_by (permitted_answer self.old message.now) }
+        ensures awaited { self.new ≡ awaited_then self.old (permitted_answer self.old message.now) }
     {
         match permitted(self.awaited, message) {
             Some((answer, next)) => {

@@ -4,7 +4,7 @@ use Rattle.std.specs.Prelude.{min, flat_map}
 use Rattle.std.proofs.lemmas.List.{append_assoc, length-append}
 use Rattle.annex_base.specs.Lists.{Each}
 use Rattle.p2p_wire.specs.declared.decoder.Why.{Why}
-use Rattle.p2p_wire.specs.Streams.{Accounts, Unread, Told, Says, Gives, Waits, Refuses, Event, Fed, Asked, IsToldLine, IsToldFault, start, told, after, after_told, after_all, answers, past, fed, fed_by, fed_bytes, given_in, unread_told, line_told, line_of, raw_after}
+use Rattle.p2p_wire.specs.Streams.{Accounts, Unread, Told, Says, Gives, Waits, Refuses, Event, Fed, Asked, IsToldLine, IsToldFault, start, next_answer, after, after_told, after_all, answers, past, after_piece, after_piece_by, fed_bytes, given_in, unread_told, line_told, line_of, raw_after}
 use Rattle.p2p_wire.proofs.StreamLemmas.{told_refuses, said_bytes, said_line, given_bytes}
 
 abbrev given : List Event → Unread → List ℕ
@@ -31,7 +31,7 @@ record Rests (u : Unread) (events : List Event) : Type 0 where
 rests : (events : List Event) (u : Unread) (why : Why) → u.fault ≡ Some why → Rests u events
 rests [] u why is = record { same = refl; none = refl; lines = tt; faults = tt }
 rests (Fed piece ∷ events) u why is =
-    let there : fed u piece ≡ u = ap (fed_by u piece) is in
+    let there : after_piece u piece ≡ u = ap (after_piece_by u piece) is in
     let r = rests events u why is in
     record {
       same = ap (after_all events) there ∙ r.same;
@@ -40,7 +40,7 @@ rests (Fed piece ∷ events) u why is =
       faults = subst (λ (v : Unread). Each (IsToldFault u) (answers events v)) (sym there) r.faults;
     }
 rests (Asked ∷ events) u why is =
-    let says : told u ≡ Refuses u.place why = ap (unread_told u) is in
+    let says : next_answer u ≡ Refuses u.place why = ap (unread_told u) is in
     let there : after u ≡ u = ap (after_told u) says ∙ ap (λ (f : Option Why). record { place = u.place; left = u.left; bytes = u.bytes; fault = f }) (sym is) in
     let r = rests events u why is in
     record {
@@ -74,16 +74,16 @@ at_fault events u why h is =
 
 -- one answer: what it gives stood before what is left, and the place counts it
 record Steps (u : Unread) : Type 0 where
-  bytes : given_in (told u) ++ (after u).bytes ≡ u.bytes
-  place : (after u).place ≡ min (u.place + length (given_in (told u))) (2 ^ 64 - 1)
+  bytes : given_in (next_answer u) ++ (after u).bytes ≡ u.bytes
+  place : (after u).place ≡ min (u.place + length (given_in (next_answer u))) (2 ^ 64 - 1)
   holds : Holds (after u)
-  line : IsToldLine (told u)
-  fault : (at : ℕ) (why : Why) → told u ≡ Refuses at why → ((after u).fault ≡ Some why) × ((after u).place ≡ at)
+  line : IsToldLine (next_answer u)
+  fault : (at : ℕ) (why : Why) → next_answer u ≡ Refuses at why → ((after u).fault ≡ Some why) × ((after u).place ≡ at)
 
 step : (u : Unread) → Holds u → u.fault ≡ None → Steps u
-step u h sound = go (told u) refl
+step u h sound = go (next_answer u) refl
   where
-    go : (t : Told) → told u ≡ t → Steps u
+    go : (t : Told) → next_answer u ≡ t → Steps u
     go (Says m) is =
         let there : after u ≡ past u (length (line_of m)) (raw_after m) = ap (after_told u) is in
         record {
@@ -106,7 +106,7 @@ step u h sound = go (told u) refl
         let there : after u ≡ u = ap (after_told u) is in
         record {
           bytes = ap (λ (t : Told). given_in t ++ (after_told u t).bytes) is;
-          place = ap (λ (v : Unread). v.place) there ∙ (let none : length (given_in (told u)) ≡ 0 = ap (λ (t : Told). length (given_in t)) is in let low = h.place in omega (arith, none, low));
+          place = ap (λ (v : Unread). v.place) there ∙ (let none : length (given_in (next_answer u)) ≡ 0 = ap (λ (t : Told). length (given_in t)) is in let low = h.place in omega (arith, none, low));
           holds = subst Holds (sym there) h;
           line = subst IsToldLine (sym is) tt;
           fault = λ at why other. absurd (let no' : Waits ≡ Refuses at why = sym is ∙ other in cc);
@@ -116,14 +116,14 @@ step u h sound = go (told u) refl
         let there : after u ≡ record { place = u.place; left = u.left; bytes = u.bytes; fault = Some why } = ap (after_told u) is in
         record {
           bytes = ap (λ (t : Told). given_in t ++ (after_told u t).bytes) is;
-          place = ap (λ (v : Unread). v.place) there ∙ (let none : length (given_in (told u)) ≡ 0 = ap (λ (t : Told). length (given_in t)) is in let low = h.place in omega (arith, none, low));
+          place = ap (λ (v : Unread). v.place) there ∙ (let none : length (given_in (next_answer u)) ≡ 0 = ap (λ (t : Told). length (given_in t)) is in let low = h.place in omega (arith, none, low));
           holds = subst Holds (sym there) (record { place = h.place; fault = λ w same. bad.1 ∙ ap (Refuses u.place) (let e : Some why ≡ Some w = same in cc) });
           line = subst IsToldLine (sym is) tt;
           fault = λ a w other. let e : Refuses at why ≡ Refuses a w = sym is ∙ other in (ap (λ (v : Unread). v.fault) there ∙ ap Some (let f : why ≡ w = cc in f), ap (λ (v : Unread). v.place) there ∙ sym bad.0 ∙ (let f : at ≡ a = cc in f));
         }
 
 -- where an answer is a refusal, the decoder rests at it
-told_fault : (u : Unread) (events : List Event) (a : Told) → told u ≡ a → Steps u → IsToldFault (after_all events (after u)) a
+told_fault : (u : Unread) (events : List Event) (a : Told) → next_answer u ≡ a → Steps u → IsToldFault (after_all events (after u)) a
 told_fault u events (Says m) is s = tt
 told_fault u events (Gives raw) is s = tt
 told_fault u events Waits is s = tt
@@ -139,14 +139,14 @@ tells (Fed piece ∷ events) u h = go (λ v k. tells events v k) u.fault refl
     go : ((v : Unread) → Holds v → Tells v events) → (f : Option Why) → u.fault ≡ f → Tells u (Fed piece ∷ events)
     go more (Some why) is = at_fault (Fed piece ∷ events) u why h is
     go more None is =
-        let there : fed u piece ≡ fed_by u piece None = ap (fed_by u piece) is in
-        let now : Holds (fed u piece) = subst Holds (sym there) (record { place = h.place; fault = λ why bad. absurd cc }) in
-        let t = more (fed u piece) now in
+        let there : after_piece u piece ≡ after_piece_by u piece None = ap (after_piece_by u piece) is in
+        let now : Holds (after_piece u piece) = subst Holds (sym there) (record { place = h.place; fault = λ why bad. absurd cc }) in
+        let t = more (after_piece u piece) now in
         record {
           ignored = t.ignored;
           bytes = sym (append_assoc u.bytes piece (fed_bytes events)) ∙ ap (λ (v : Unread). v.bytes ++ fed_bytes events) (sym there) ∙ t.bytes;
           kept = t.kept;
-          place = t.place ∙ ap (λ (v : Unread). min (v.place + length (given events (fed u piece))) (2 ^ 64 - 1)) there;
+          place = t.place ∙ ap (λ (v : Unread). min (v.place + length (given events (after_piece u piece))) (2 ^ 64 - 1)) there;
           lines = t.lines;
           faults = t.faults;
           fault = t.fault;
@@ -158,15 +158,15 @@ tells (Asked ∷ events) u h = go (λ v k. tells events v k) u.fault refl
     go more None is =
         let s = step u h is in
         let t = more (after u) s.holds in
-        let both : length (given_in (told u) ++ given events (after u)) ≡ length (given_in (told u)) + length (given events (after u)) = length-append (given_in (told u)) (given events (after u)) in
+        let both : length (given_in (next_answer u) ++ given events (after u)) ≡ length (given_in (next_answer u)) + length (given events (after u)) = length-append (given_in (next_answer u)) (given events (after u)) in
         record {
           ignored = t.ignored;
-          bytes = ap (λ (xs : List ℕ). xs ++ fed_bytes events) (sym s.bytes) ∙ append_assoc (given_in (told u)) (after u).bytes (fed_bytes events)
-              ∙ ap (λ (xs : List ℕ). given_in (told u) ++ xs) t.bytes ∙ sym (append_assoc (given_in (told u)) (given events (after u)) ((after_all events (after u)).bytes ++ t.ignored));
+          bytes = ap (λ (xs : List ℕ). xs ++ fed_bytes events) (sym s.bytes) ∙ append_assoc (given_in (next_answer u)) (after u).bytes (fed_bytes events)
+              ∙ ap (λ (xs : List ℕ). given_in (next_answer u) ++ xs) t.bytes ∙ sym (append_assoc (given_in (next_answer u)) (given events (after u)) ((after_all events (after u)).bytes ++ t.ignored));
           kept = t.kept;
           place = let p = t.place in let q = s.place in rw both (omega (arith, p, q));
           lines = (s.line, t.lines);
-          faults = (told_fault u events (told u) refl s, t.faults);
+          faults = (told_fault u events (next_answer u) refl s, t.faults);
           fault = t.fault;
         }
 

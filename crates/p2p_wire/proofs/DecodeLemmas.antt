@@ -11,7 +11,7 @@ use Rattle.annex_base.proofs.Conditions.{if_is}
 use Rattle.annex_base.proofs.Lists.{Each-from_members, Contains-from_Member, two_cuts}
 use Rattle.p2p_wire.specs.declared.message.Message.{Message}
 use Rattle.p2p_wire.specs.Messages.{message_of, text_of}
-use Rattle.p2p_wire.specs.Streams.{Decodes, Unread, Says, Gives, Waits, Item, IsItem, Sign, Raw, Event, Fed, Asked, start, told, after, after_told, after_all, answers, past, fed, fed_by, fed_bytes, unread_told, line_told, raw_told, whole_line, line_len, line_of, raw_after, stream_of, signs_of, signs_in}
+use Rattle.p2p_wire.specs.Streams.{Decodes, Unread, Says, Gives, Waits, Item, IsItem, Sign, Raw, Event, Fed, Asked, start, next_answer, after, after_told, after_all, answers, past, after_piece, after_piece_by, fed_bytes, unread_told, line_told, raw_told, whole_line, line_len, line_of, raw_after, stream_of, signs_of, signs_in}
 
 -- ---- the next line
 
@@ -76,19 +76,19 @@ record Goes (u : Unread) (raw : List ℕ) (items : List Item) (ys : List ℕ) : 
   raw_after : List ℕ
   items_after : List Item
   stands : Stands (after u) raw_after items_after ys
-  signs : signs_left raw items ≡ signs_in (told u) ++ signs_left raw_after items_after
-  done : ys ≡ [] → told u ≡ Waits → signs_left raw items ≡ []
+  signs : signs_left raw items ≡ signs_in (next_answer u) ++ signs_left raw_after items_after
+  done : ys ≡ [] → next_answer u ≡ Waits → signs_left raw items ≡ []
 
 -- ---- the answer where a line comes next
 
-pub told_at_line : (u : Unread) → u.fault ≡ None → u.left ≡ 0 → told u ≡ line_told u.place u.bytes
+pub told_at_line : (u : Unread) → u.fault ≡ None → u.left ≡ 0 → next_answer u ≡ line_told u.place u.bytes
 told_at_line u sound none = ap (unread_told u) sound ∙ (let is : (u.left == 0) ≡ true = rw none refl in rw is refl)
 
-pub told_at_raw : (u : Unread) → u.fault ≡ None → (u.left == 0) ≡ false → told u ≡ raw_told (take u.left u.bytes)
+pub told_at_raw : (u : Unread) → u.fault ≡ None → (u.left == 0) ≡ false → next_answer u ≡ raw_told (take u.left u.bytes)
 told_at_raw u sound some = ap (unread_told u) sound ∙ rw some refl
 
 -- nothing happens
-stays : (u : Unread) (raw : List ℕ) (items : List Item) (ys : List ℕ) → Stands u raw items ys → told u ≡ Waits
+stays : (u : Unread) (raw : List ℕ) (items : List Item) (ys : List ℕ) → Stands u raw items ys → next_answer u ≡ Waits
     → (ys ≡ [] → signs_left raw items ≡ []) → Goes u raw items ys
 stays u raw items ys st waits end = record {
   raw_after = raw;
@@ -109,7 +109,7 @@ regroup i rest = append_assoc (line_of i.message) i.raw (stream_of rest) ∙ app
 at_end : (u : Unread) (ys : List ℕ) → Stands u [] [] ys → Goes u [] [] ys
 at_end u ys st =
     let none : u.bytes ≡ [] = nil_left u.bytes ys st.bytes in
-    let waits : told u ≡ Waits = told_at_line u st.sound st.left ∙ ap (line_told u.place) none ∙ line_waits u.place [] tt (omega arith) in
+    let waits : next_answer u ≡ Waits = told_at_line u st.sound st.left ∙ ap (line_told u.place) none ∙ line_waits u.place [] tt (omega arith) in
     stays u [] [] ys st waits (λ _. refl)
 
 -- its line is unfinished
@@ -119,7 +119,7 @@ at_open u i rest ys f st is more =
     let short : length (text_of i.message) ≤ 8192 = read_short (text_of i.message) i.message st.each.0.0.0 in
     let both : length (u.bytes ++ f) ≡ length u.bytes + length f = length-append u.bytes f in
     let same : length (text_of i.message) ≡ length (u.bytes ++ f) = ap length is in
-    let waits : told u ≡ Waits = told_at_line u st.sound st.left ∙ line_waits u.place u.bytes clear (omega (arith, short, both, same)) in
+    let waits : next_answer u ≡ Waits = told_at_line u st.sound st.left ∙ line_waits u.place u.bytes clear (omega (arith, short, both, same)) in
     stays u [] (i ∷ rest) ys st waits (λ none. absurd (more none))
 
 -- it is whole
@@ -127,7 +127,7 @@ at_line : (u : Unread) (i : Item) (rest : List Item) (ys b : List ℕ) → Stand
 at_line u i rest ys b st is more =
     let clear = clear_text (text_of i.message) st.each.0.0.1 in
     let short = read_short (text_of i.message) i.message st.each.0.0.0 in
-    let says : told u ≡ Says i.message = told_at_line u st.sound st.left ∙ ap (line_told u.place) is ∙ line_comes u.place (text_of i.message) b i.message clear short st.each.0.0.0 in
+    let says : next_answer u ≡ Says i.message = told_at_line u st.sound st.left ∙ ap (line_told u.place) is ∙ line_comes u.place (text_of i.message) b i.message clear short st.each.0.0.0 in
     let gone : drop (length (line_of i.message)) u.bytes ≡ b =
     ap (drop (length (line_of i.message))) (is ∙ sym (append_assoc (text_of i.message) (newline ∷ []) b)) ∙ drop_at (line_of i.message) b (length (line_of i.message)) refl in
     let there : after u ≡ past u (length (line_of i.message)) (raw_after i.message) = ap (after_told u) says in
@@ -168,7 +168,7 @@ at_item u i rest ys st =
 
 -- ---- the answer where raw bytes come next
 
-gives : (u : Unread) (raw : List ℕ) (items : List Item) (ys taken later : List ℕ) → Stands u raw items ys → raw ≡ taken ++ later → told u ≡ Gives taken
+gives : (u : Unread) (raw : List ℕ) (items : List Item) (ys taken later : List ℕ) → Stands u raw items ys → raw ≡ taken ++ later → next_answer u ≡ Gives taken
     → drop (length taken) u.bytes ++ ys ≡ later ++ stream_of items → Goes u raw items ys
 gives u raw items ys taken later st parts is more =
     let both : length (taken ++ later) ≡ length taken + length later = length-append taken later in
@@ -196,7 +196,7 @@ raw_gives [] some = absurd (some refl)
 raw_gives (x ∷ xs) some = refl
 
 -- some are at hand, and all of these belong to it
-at_some : (u : Unread) (r : ℕ) (raw : List ℕ) (items : List Item) (ys f : List ℕ) → Stands u (r ∷ raw) items ys → told u ≡ raw_told u.bytes
+at_some : (u : Unread) (r : ℕ) (raw : List ℕ) (items : List Item) (ys f : List ℕ) → Stands u (r ∷ raw) items ys → next_answer u ≡ raw_told u.bytes
     → r ∷ raw ≡ u.bytes ++ f → ys ≡ f ++ stream_of items → Goes u (r ∷ raw) items ys
 at_some u r raw items ys f st is parts more = go u.bytes refl
   where
@@ -209,7 +209,7 @@ at_some u r raw items ys f st is parts more = go u.bytes refl
         gives u (r ∷ raw) items ys u.bytes f st parts (is ∙ raw_gives u.bytes (λ none. absurd (let other : x ∷ xs ≡ [] = sym some ∙ none in cc))) (ap (λ (zs : List ℕ). zs ++ ys) gone ∙ more)
 
 -- all are at hand
-at_all : (u : Unread) (r : ℕ) (raw : List ℕ) (items : List Item) (ys b : List ℕ) → Stands u (r ∷ raw) items ys → told u ≡ raw_told (take u.left u.bytes)
+at_all : (u : Unread) (r : ℕ) (raw : List ℕ) (items : List Item) (ys b : List ℕ) → Stands u (r ∷ raw) items ys → next_answer u ≡ raw_told (take u.left u.bytes)
     → u.bytes ≡ (r ∷ raw) ++ b → b ++ ys ≡ stream_of items → Goes u (r ∷ raw) items ys
 at_all u r raw items ys b st is parts more =
     let taken : take u.left u.bytes ≡ r ∷ raw = ap (take u.left) parts ∙ take_at (r ∷ raw) b u.left (sym st.left) in
@@ -240,26 +240,26 @@ goes u (r ∷ raw) items ys st = at_raw u r raw items ys st
 record Runs (u : Unread) (raw : List ℕ) (items : List Item) (more : List ℕ) (events : List Event) : Type 0 where
   later : List Sign
   in_order : signs_left raw items ≡ flat_map signs_in (answers events u) ++ later
-  whole : more ≡ [] → told (after_all events u) ≡ Waits → later ≡ []
+  whole : more ≡ [] → next_answer (after_all events u) ≡ Waits → later ≡ []
 
 runs : (events : List Event) (u : Unread) (raw : List ℕ) (items : List Item) (more : List ℕ) → Stands u raw items (fed_bytes events ++ more) → Runs u raw items more events
 runs [] u raw items more st = record { later = signs_left raw items; in_order = refl; whole = (goes u raw items more st).done }
 runs (Fed piece ∷ events) u raw items more st =
-    let is : fed u piece ≡ fed_by u piece None = ap (fed_by u piece) st.sound in
-    let now : Stands (fed u piece) raw items (fed_bytes events ++ more) = subst (λ (v : Unread). Stands v raw items (fed_bytes events ++ more)) (sym is) (record {
+    let is : after_piece u piece ≡ after_piece_by u piece None = ap (after_piece_by u piece) st.sound in
+    let now : Stands (after_piece u piece) raw items (fed_bytes events ++ more) = subst (λ (v : Unread). Stands v raw items (fed_bytes events ++ more)) (sym is) (record {
       sound = refl;
       left = st.left;
       bytes = append_assoc u.bytes piece (fed_bytes events ++ more) ∙ ap (λ (xs : List ℕ). u.bytes ++ xs) (sym (append_assoc piece (fed_bytes events) more)) ∙ st.bytes;
       each = st.each;
     }) in
-    let r = runs events (fed u piece) raw items more now in
+    let r = runs events (after_piece u piece) raw items more now in
     record { later = r.later; in_order = r.in_order; whole = r.whole }
 runs (Asked ∷ events) u raw items more st =
     let g = goes u raw items (fed_bytes events ++ more) st in
     let r = runs events (after u) g.raw_after g.items_after more g.stands in
     record {
       later = r.later;
-      in_order = g.signs ∙ ap (λ zs. signs_in (told u) ++ zs) r.in_order ∙ sym (append_assoc (signs_in (told u)) (flat_map signs_in (answers events (after u))) r.later);
+      in_order = g.signs ∙ ap (λ zs. signs_in (next_answer u) ++ zs) r.in_order ∙ sym (append_assoc (signs_in (next_answer u)) (flat_map signs_in (answers events (after u))) r.later);
       whole = r.whole;
     }
 

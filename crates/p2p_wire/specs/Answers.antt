@@ -6,7 +6,7 @@ use Rattle.p2p_wire.specs.declared.message.Message.{Message}
 use Rattle.p2p_wire.specs.declared.decoder.Why.{Why}
 use Rattle.p2p_wire.specs.declared.decoder.Why.TheVariants.{NotAMessage, TooLong}
 use Rattle.p2p_wire.specs.Messages.{message_of, text_of}
-use Rattle.p2p_wire.specs.Streams.{Unread, Says, Gives, Waits, Refuses, after, told}
+use Rattle.p2p_wire.specs.Streams.{Unread, Says, Gives, Waits, Refuses, after, next_answer}
 
 -- an unfinished line of at most 8,192 bytes, or raw bytes to come of which none is at hand
 abbrev pub NeedsMore : Unread → Type 0
@@ -29,9 +29,9 @@ HasLongLine u = (u.left ≡ 0) × (8192 < length u.bytes) × IsOneLine (take 819
 
 -- the answers of a decoder that met no fault; a fault is told again for ever
 pub record Answers (u : Unread) : Type 0 where
-  pub more : u.fault ≡ None → (told u ≡ Waits) ↔ NeedsMore u
-  pub raw : u.fault ≡ None → (raw : List ℕ) → (told u ≡ Gives raw) ↔ HasRaw u raw
-  pub line : u.fault ≡ None → (m : Message) → (told u ≡ Says m) ↔ (HasLine u (text_of m) × (message_of (text_of m) ≡ Some m))
-  pub bad : u.fault ≡ None → (at : ℕ) → (told u ≡ Refuses at NotAMessage) ↔ ((at ≡ u.place) × ((text : List ℕ) × HasLine u text × (length text ≤ 8192) × (message_of text ≡ None)))
-  pub long : u.fault ≡ None → (at : ℕ) → (told u ≡ Refuses at TooLong) ↔ ((at ≡ u.place) × HasLongLine u)
-  pub again : (why : Why) → u.fault ≡ Some why → (told u ≡ Refuses u.place why) × (after u ≡ u)
+  pub more : u.fault ≡ None → (next_answer u ≡ Waits) ↔ NeedsMore u
+  pub raw : u.fault ≡ None → (raw : List ℕ) → (next_answer u ≡ Gives raw) ↔ HasRaw u raw
+  pub line : u.fault ≡ None → (m : Message) → (next_answer u ≡ Says m) ↔ (HasLine u (text_of m) × (message_of (text_of m) ≡ Some m))
+  pub bad : u.fault ≡ None → (at : ℕ) → (next_answer u ≡ Refuses at NotAMessage) ↔ ((at ≡ u.place) × ((text : List ℕ) × HasLine u text × (length text ≤ 8192) × (message_of text ≡ None)))
+  pub long : u.fault ≡ None → (at : ℕ) → (next_answer u ≡ Refuses at TooLong) ↔ ((at ≡ u.place) × HasLongLine u)
+  pub again : (why : Why) → u.fault ≡ Some why → (next_answer u ≡ Refuses u.place why) × (after u ≡ u)

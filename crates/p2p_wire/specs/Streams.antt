@@ -98,8 +98,8 @@ abbrev pub unread_told : Unread → Option Why → Told
 unread_told u (Some why) = Refuses u.place why
 unread_told u None = if u.left == 0 then line_told u.place u.bytes else raw_told (take u.left u.bytes)
 
-abbrev pub told : Unread → Told
-told u = unread_told u u.fault
+abbrev pub next_answer : Unread → Told
+next_answer u = unread_told u u.fault
 
 -- ---- what is left after an answer, and after a piece
 
@@ -114,15 +114,15 @@ after_told u Waits = u
 after_told u (Refuses at why) = record { place = u.place; left = u.left; bytes = u.bytes; fault = Some why }
 
 abbrev pub after : Unread → Unread
-after u = after_told u (told u)
+after u = after_told u (next_answer u)
 
 -- nothing is kept after a fault
-abbrev pub fed_by : Unread → List ℕ → Option Why → Unread
-fed_by u piece (Some why) = u
-fed_by u piece None = record { place = u.place; left = u.left; bytes = u.bytes ++ piece; fault = None }
+abbrev pub after_piece_by : Unread → List ℕ → Option Why → Unread
+after_piece_by u piece (Some why) = u
+after_piece_by u piece None = record { place = u.place; left = u.left; bytes = u.bytes ++ piece; fault = None }
 
-abbrev pub fed : Unread → List ℕ → Unread
-fed u piece = fed_by u piece u.fault
+abbrev pub after_piece : Unread → List ℕ → Unread
+after_piece u piece = after_piece_by u piece u.fault
 
 -- ---- runs of a decoder
 
@@ -142,13 +142,13 @@ fed_bytes events = flat_map fed_in events
 -- its answers in order
 abbrev pub answers : List Event → Unread → List Told
 answers [] u = []
-answers (Fed piece ∷ events) u = answers events (fed u piece)
-answers (Asked ∷ events) u = told u ∷ answers events (after u)
+answers (Fed piece ∷ events) u = answers events (after_piece u piece)
+answers (Asked ∷ events) u = next_answer u ∷ answers events (after u)
 
 -- what it has not given in the end
 abbrev pub after_all : List Event → Unread → Unread
 after_all [] u = u
-after_all (Fed piece ∷ events) u = after_all events (fed u piece)
+after_all (Fed piece ∷ events) u = after_all events (after_piece u piece)
 after_all (Asked ∷ events) u = after_all events (after u)
 
 -- ---- what answers tell, however raw bytes were cut
@@ -178,7 +178,7 @@ given_in (Refuses at why) = []
 pub record Decodes (items : List Item) (more : List ℕ) (events : List Event) : Type 0 where
   pub later : List Sign
   pub in_order : flat_map signs_of items ≡ flat_map signs_in (answers events start) ++ later
-  pub whole : more ≡ [] → told (after_all events start) ≡ Waits → later ≡ []
+  pub whole : more ≡ [] → next_answer (after_all events start) ≡ Waits → later ≡ []
 
 -- a message that is given is one of the protocol
 abbrev pub IsToldLine : Told → Type 0

@@ -1,6 +1,6 @@
 //! The messages and raw bytes of a stream that comes in pieces.
 ghost use Rattle.std.specs.Prelude.{◌≡◌, ◌≤◌, [], length, take, drop, IfOk, IsOk, OnOk, OnErr, Ok, Some, None};
-ghost use Rattle.p2p_wire.specs.Streams.{Unread, start, told, told_by, after, after_told, past, fed, line_len, line_told, raw_after, raw_told};
+ghost use Rattle.p2p_wire.specs.Streams.{Unread, start, next_answer, told_by, after, after_told, past, after_piece, line_len, line_told, raw_after, raw_told};
 
 use crate::buffer::Buffer;
 use crate::message::Message;
@@ -118,7 +118,7 @@ impl Decoder {
 
     /// Takes the next piece of the stream, of any length. After a `Bad` it is not kept.
     pub fn feed(&mut self, piece: &[u8]) -> Result<(), NoMemory>
-        ensures ok { OnOk result (self.new ≡ fed self.old piece.now) }
+        ensures ok { OnOk result (self.new ≡ after_piece self.old piece.now) }
         ensures err { OnErr result (self.new ≡ self.old) }
     {
         if self.fault.is_none() {
@@ -129,7 +129,7 @@ impl Decoder {
 
     /// What comes next. After a `Bad` every later call answers the same.
     pub fn next(&mut self) -> Result<Next, NoMemory>
-        ensures told { IfOk result (λ next. told_by next ≡ told self.old) }
+        ensures told { IfOk result (λ next. told_by next ≡ next_answer self.old) }
         ensures ok { OnOk result (self.new ≡ after self.old) }
         ensures err { OnErr result (self.new ≡ self.old) }
     {
@@ -139,7 +139,7 @@ impl Decoder {
     }
 
     fn look(&mut self) -> Result<Next, NoMemory>
-        ensures told { IfOk result (λ next. told_by next ≡ told self.old) }
+        ensures told { IfOk result (λ next. told_by next ≡ next_answer self.old) }
         ensures same { self.new ≡ self.old }
     {
         if let Some(why) = self.fault {
@@ -157,7 +157,7 @@ impl Decoder {
 
     // Goes past what an answer gives.
     fn pass(&mut self, next: &Next)
-        requires { told_by next.now ≡ told self.old }
+        requires { told_by next.now ≡ next_answer self.old }
         ensures { self.new ≡ after_told self.old (told_by next.now) }
     {
         match next {

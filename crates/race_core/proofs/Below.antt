@@ -3,7 +3,7 @@ use Rattle.std.proofs.Common.{◌≡◌, ◌≢◌, ◌⊎◌, ◌↔◌, ℕ, L
 use Rattle.annex_base.specs.Lists.{Member}
 use Rattle.log_lines.specs.declared.entry.LogKind.{LogKind}
 use Rattle.log_lines.specs.Keeping.{SameLines}
-use Rattle.log_lines.specs.Newest.{ReadAlike, compacted}
+use Rattle.log_lines.specs.Newest.{ReadAlike, current_lines}
 use Rattle.union_merge.specs.LineSet.{union}
 use Rattle.union_merge.specs.Branch.{Files, lines_at, with_file}
 use Rattle.trust_groups.specs.Alike.{SameReading}
@@ -20,7 +20,7 @@ SentAreRead = (m : Message) → IsWire m → IsShort m → message_of (text_of m
 -- how the files of a branch are changed, and what their lines say
 pub record LogLaws : Type 0 where
   pub by_set : (kind : LogKind) (xs ys : List (List ℕ)) → SameLines xs ys → ReadAlike kind xs ys
-  pub compaction : (kind : LogKind) (lines : List (List ℕ)) → ReadAlike kind (compacted kind lines) lines
+  pub compaction : (kind : LogKind) (lines : List (List ℕ)) → ReadAlike kind (current_lines kind lines) lines
   pub joined : (kind : LogKind) (xs ys others all : List (List ℕ)) → ReadAlike kind xs ys → ReadAlike kind others all → ReadAlike kind (xs ++ others) (ys ++ all)
   pub of_both : (xs ys : List (List ℕ)) (line : List ℕ) → Member line (union xs ys) ↔ (Member line xs ⊎ Member line ys)
   pub set : (files : Files) (path : List ℕ) (lines : List (List ℕ)) → lines_at (with_file files path lines) path ≡ lines

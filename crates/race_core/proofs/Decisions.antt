@@ -13,9 +13,9 @@ use Rattle.run_data.specs.declared.entry.EntryKind.{EntryKind}
 use Rattle.run_data.specs.declared.entry.EntryKind.TheVariants.{Begin, Bar, Order}
 use Rattle.run_data.specs.declared.entry.FrameText.TheVariants.{Line}
 use Rattle.run_data.specs.declared.job.Job.{Job}
-use Rattle.run_model.specs.Past.{begun, begun_job, begun_job_after, decision, is_of}
+use Rattle.run_model.specs.Past.{begun_count, begun_job, begun_job_after, decision, is_of}
 use Rattle.p2p_wire.specs.Messages.{order_of, text_of}
-use Rattle.run_model.specs.Drops.{done, key_in}
+use Rattle.run_model.specs.Drops.{is_done, key_in}
 use Rattle.run_model.specs.Logs.{in_drop, is_step, need_read}
 use Rattle.node_model.specs.SetUp.{SetUp}
 use Rattle.run_model.specs.States.{state_of, end_at, rows_at, works}
@@ -64,9 +64,9 @@ runs_begun s past run w m =
         rw is (subst (λ n. begun_job_after n (begun_job p s.number n) e.kind ≡ Some x.what) (sym number) (made ∙ ap Some (sym what)))
     own p e r is was x (inr (inl b)) =
         let mine = r.0 is in
-        let below : x.number ≤ begun p s.number = number_begun s p r.1 x b.ran in
+        let below : x.number ≤ begun_count p s.number = number_begun s p r.1 x b.ran in
         rw is (begun_off x.number (begun_job p s.number x.number) e.kind
-        (λ job what k. let next : job ≡ begun p s.number + 1 = begins_next s p mine.0 e mine.1 job what k in more_off job x.number (omega arith)) ∙ was x b.ran)
+        (λ job what k. let next : job ≡ begun_count p s.number + 1 = begins_next s p mine.0 e mine.1 job what k in more_off job x.number (omega arith)) ∙ was x b.ran)
     own p e r is was x (inr (inr b)) =
         let v = b.by.w in
         let same : running x ≡ running v = ap running b.work_is ∙ kind_kept (rows_at p s.number) s.number v e e.kind in
@@ -97,7 +97,7 @@ talk_of s past e x run kind is =
 -- what a bar stands on, beside its row
 pub record BarStands (s : SetUp) (past : List Entry) (j : ℕ) (need : Need) (key : List ℕ) : Type 0 where
   pub first : decision past s.number j ≡ None
-  pub open' : done past s.number j ≡ false
+  pub open' : is_done past s.number j ≡ false
   pub nothing_asked : has_asked past s.number j ≡ false
   pub dropping : in_drop past s.number j ≡ true
   pub key_is : key ≡ key_in (begun_job past s.number j)
@@ -131,7 +131,7 @@ pub record OrderStandsOn (s : SetUp) (past : List Entry) (e : Entry) (j peer : �
   pub part_is : by.w.part ≡ Drops
   pub side : side_of by.w ≡ Remote
   pub target_is : peer ≡ target_of s.number by.w
-  pub open' : done past s.number j ≡ false
+  pub open' : is_done past s.number j ≡ false
   pub enough : knows_enough s (state_of s past) by.w ≡ true
   pub dropping : in_drop past s.number j ≡ true
   pub key_is : key ≡ key_in (begun_job past s.number j)
@@ -156,7 +156,7 @@ order_stands_on reads_back s past words e h own j peer deadline need key is =
       part_is = f.part_is;
       side = f.side;
       target_is = f.target_is;
-      open' = subst (λ n. done past s.number n ≡ false) (sym f.number_is) (runs_open s past run w runs);
+      open' = subst (λ n. is_done past s.number n ≡ false) (sym f.number_is) (runs_open s past run w runs);
       enough = enough_by x (order_stands (turn_at s past e x) f.side apart (talk_of s past e x run (Order j peer deadline need key) is)) (λ here. at.2 f.part_is f.side apart here);
       dropping = subst (λ n. in_drop past s.number n ≡ true) (sym f.number_is) (at.0 f.part_is);
       key_is = f.key_is ∙ ap key_in (sym (subst (λ n. begun_job past s.number n ≡ Some w.what) (sym f.number_is) (runs_begun s past run w runs)));

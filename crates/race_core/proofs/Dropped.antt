@@ -15,7 +15,7 @@ use Rattle.run_data.specs.declared.run.Run.{Run}
 use Rattle.run_model.specs.Past.{is_of}
 use Rattle.run_model.specs.Frames.{Sent, sender, sent_of}
 use Rattle.run_model.specs.Logs.{need_read}
-use Rattle.run_model.specs.Drops.{Vouch, done, evidence, key_of, reply, vouches}
+use Rattle.run_model.specs.Drops.{Vouch, is_done, evidence, key_of, reply, vouches}
 use Rattle.run_model.specs.Safety.{Removal, local_removal, past_at, removal, remote_removal}
 use Rattle.run_model.specs.Run.{IsRun}
 use Rattle.race_core.specs.Lawful.{Lawful, LawfulPast}
@@ -70,7 +70,7 @@ pub record Dropped (repos : List RepoView) (past : List Entry) (key : List ℕ) 
   pub told : (c : ℕ) (v : Vouch) → reply judge.past judge.repo judge.job c ≡ Some v → key_of v ≡ key
   pub later : (c : ℕ) (v : Vouch) → Member v (vouches judge.past c judge.repo judge.job) → Member v (vouches past c judge.repo judge.job)
   pub one_clock : OneClock repos judge.repo judge.past judge.job
-  pub open' : done past judge.repo judge.job ≡ false
+  pub open' : is_done past judge.repo judge.job ≡ false
 
 -- who judged, where the content goes by an order
 pub order_judge : (past : List Entry) (e : Entry) (r a slot j target : ℕ) (deadline : Option ℕ) (need : Need) (key k : List ℕ) (s : Sent) → is_of r e ≡ true → e.kind ≡ Gone (Peer a slot) key

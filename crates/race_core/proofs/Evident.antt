@@ -21,7 +21,7 @@ use Rattle.run_data.specs.declared.job.Outcome.{Outcome}
 use Rattle.run_data.specs.declared.run.RepoView.{RepoView}
 use Rattle.run_model.specs.Past.{Decision, bar, clock, clock_set, decision, is_of}
 use Rattle.node_model.specs.Rows.{is_lost_ordered}
-use Rattle.run_model.specs.Drops.{Vouch, Lock, Look, offer_from, done, done_kind, evidence, key_of, reply, standing}
+use Rattle.run_model.specs.Drops.{Vouch, Lock, Look, offer_from, is_done, done_kind, evidence, key_of, reply, standing}
 use Rattle.node_model.specs.Evidence.{Gives, candidates}
 use Rattle.race_core.specs.Lawful.{IsFresh}
 use Rattle.race_core.proofs.Heard.{heard_key}
@@ -38,7 +38,7 @@ pub record Standing' (past : List Entry) (r j : ℕ) (key : List ℕ) : Type 0 w
   pub d : Decision
   pub decided_is : decision past r j ≡ Some d
   pub key_is : d.key ≡ key
-  pub open' : done past r j ≡ false
+  pub open' : is_done past r j ≡ false
 
 pub done_end : (j : ℕ) (kind : EntryKind) → done_kind j kind ≡ true → (outcome : Outcome) × (kind ≡ End j outcome)
 done_end j (End job outcome) h = let w = and_parts (job == j) (not (is_lost_ordered outcome)) h in (outcome, ap (λ x. End x outcome) (eqb-true job j w.0))
@@ -55,7 +55,7 @@ barred repos (e ∷ past) r j key run h = go (λ k. barred repos past r j key ru
     Barred = bar past r key ≡ Some j
 
     old : Barred → Standing' past r j key → Standing' (e ∷ past) r j key
-    old b s = record { d = s.d; decided_is = keeps (decided_keeps e past r j s.d s.decided_is); key_is = s.key_is; open' = or_from (is_of r e && done_kind j e.kind) (done past r j) (not_now (is_of r e) refl (done_kind j e.kind) refl) s.open' }
+    old b s = record { d = s.d; decided_is = keeps (decided_keeps e past r j s.d s.decided_is); key_is = s.key_is; open' = or_from (is_of r e && done_kind j e.kind) (is_done past r j) (not_now (is_of r e) refl (done_kind j e.kind) refl) s.open' }
       where
         keeps : (decision (e ∷ past) r j ≡ Some s.d) ⊎ BarOf e r j → decision (e ∷ past) r j ≡ Some s.d
         keeps (inl k) = k
@@ -74,7 +74,7 @@ barred repos (e ∷ past) r j key run h = go (λ k. barred repos past r j key ru
       d = record { place = length past; key = key; need = p.need };
       decided_is = decided_new e past r j p.need key p.repo_is p.kind_is;
       key_is = refl;
-      open' = or_from (is_of r e && done_kind j e.kind) (done past r j) (rw (p.repo_is, p.kind_is) refl) ((run.0.own r p.repo_is).bar_put j p.need key p.kind_is).open';
+      open' = or_from (is_of r e && done_kind j e.kind) (is_done past r j) (rw (p.repo_is, p.kind_is) refl) ((run.0.own r p.repo_is).bar_put j p.need key p.kind_is).open';
     }
 
     go : (Barred → Standing' past r j key) → Barred ⊎ PutsBar e r key j → Standing' (e ∷ past) r j key

@@ -21,7 +21,7 @@ use Rattle.run_data.specs.declared.entry.EntryKind.{EntryKind}
 use Rattle.run_data.specs.declared.entry.EntryKind.TheVariants.{Share, Check, Bar, Crash, Gone, End}
 use Rattle.run_model.specs.Past.{present, bar, holds, decision, Decision, is_of, now, clock, clock_set}
 use Rattle.node_model.specs.Rows.{is_blocked, is_lost_ordered}
-use Rattle.run_model.specs.Drops.{Vouch, Lock, Look, key_of, vouch, vouches, reply, standing, offer_from, evidence, done, done_kind}
+use Rattle.run_model.specs.Drops.{Vouch, Lock, Look, key_of, vouch, vouches, reply, standing, offer_from, evidence, is_done, done_kind}
 use Rattle.node_model.specs.Evidence.{Gives, is_trusted, candidates}
 use Rattle.drop_proof.specs.Judging.{is_enough, counts}
 use Rattle.run_model.specs.Safety.{Removal, removal, removals, add_removal, local_removal, remote_removal}
@@ -61,10 +61,10 @@ pub record Facts (repos : List RepoView) (past : List Entry) : Type 0 where
   pub asked_by_now : (r a j : ℕ) (v : Vouch) → Member v (vouches past r a j) → since_of v ≤ now past
   pub bar_there : (r j : ℕ) (key : List ℕ) → bar past r key ≡ Some j → present past r key ≡ true
   pub bar_free : (r j t : ℕ) (key : List ℕ) → now past ≤ t → bar past r key ≡ Some j → is_blocked (holds past r) key (clock repos past r t) ≡ false
-  pub guarded : (r a j hold since : ℕ) (owner : By) (key : List ℕ) → Member (Lock hold since owner key) (vouches past r a j) → done past a j ≡ false → now past < since + hold_time → present past r key ≡ true
+  pub guarded : (r a j hold since : ℕ) (owner : By) (key : List ℕ) → Member (Lock hold since owner key) (vouches past r a j) → is_done past a j ≡ false → now past < since + hold_time → present past r key ≡ true
   pub placed : (a j : ℕ) (d : Decision) → decision past a j ≡ Some d → d.place < length past
   pub vouched : (r a j : ℕ) (v : Vouch) (d : Decision) → Member v (vouches past r a j) → decision past a j ≡ Some d → LaterOnly repos past r d.place (key_of v)
-  pub lasting : (r a j : ℕ) (v : Vouch) → Member v (vouches past r a j) → Lasts repos past r v ⊎ (done past a j ≡ true)
+  pub lasting : (r a j : ℕ) (v : Vouch) → Member v (vouches past r a j) → Lasts repos past r v ⊎ (is_done past a j ≡ true)
   pub removed : (key : List ℕ) → Each (RemovalOk repos past key) (removals repos past key)
 
 -- ---- each fact is kept
@@ -137,7 +137,7 @@ vouched_kept repos past e f law r a j v d m h = elim (Member-append_cases (vouch
   ]
 ]
 
-end_done : (past : List Entry) (e : Entry) (a j : ℕ) (outcome : Outcome) → is_of a e ≡ true → e.kind ≡ End j outcome → is_lost_ordered outcome ≡ false → done (e ∷ past) a j ≡ true
+end_done : (past : List Entry) (e : Entry) (a j : ℕ) (outcome : Outcome) → is_of a e ≡ true → e.kind ≡ End j outcome → is_lost_ordered outcome ≡ false → is_done (e ∷ past) a j ≡ true
 end_done past e a j outcome is kind lost = rw (is, kind, eqb_refl j, lost) refl
 
 new_lasts : (past : List Entry) (e : Entry) (r hold end until : ℕ) (owner : By) (key : List ℕ) → is_of r e ≡ true → e.kind ≡ Share hold end owner key → until ≤ end
@@ -148,7 +148,7 @@ new_lasts past e r hold end until owner key is kind le = rw (is, kind, eqb_refl 
     le' = grind (arith, nat_tests)
 
 lasting_kept : (repos : List RepoView) (past : List Entry) (e : Entry) → Facts repos past → Lawful repos past e
-    → (r a j : ℕ) (v : Vouch) → Member v (vouches (e ∷ past) r a j) → Lasts repos (e ∷ past) r v ⊎ (done (e ∷ past) a j ≡ true)
+    → (r a j : ℕ) (v : Vouch) → Member v (vouches (e ∷ past) r a j) → Lasts repos (e ∷ past) r v ⊎ (is_done (e ∷ past) a j ≡ true)
 lasting_kept repos past e f law r a j (Look key) m = inl tt
 lasting_kept repos past e f law r a j (Lock hold since owner key) m = elim (Member-append_cases (vouch past e r a j) (vouches past r a j) v m) [ inl k ↦ inl (fresh k) | inr k ↦ old k (f.lasting r a j v k) ]
   where
@@ -169,9 +169,9 @@ lasting_kept repos past e f law r a j (Lock hold since owner key) m = elim (Memb
           | inr t ↦ t.1
         ]
 
-    old : Member (Lock hold since owner key) (vouches past r a j) → Lasts repos past r (Lock hold since owner key) ⊎ (done past a j ≡ true)
-        → (lasts (holds (e ∷ past) r) hold (clock repos (e ∷ past) r (since + hold_time)) owner key ≡ true) ⊎ (done (e ∷ past) a j ≡ true)
-    old k (inr d) = inr (or_right (is_of a e && done_kind j e.kind) (done past a j) d)
+    old : Member (Lock hold since owner key) (vouches past r a j) → Lasts repos past r (Lock hold since owner key) ⊎ (is_done past a j ≡ true)
+        → (lasts (holds (e ∷ past) r) hold (clock repos (e ∷ past) r (since + hold_time)) owner key ≡ true) ⊎ (is_done (e ∷ past) a j ≡ true)
+    old k (inr d) = inr (or_right (is_of a e && done_kind j e.kind) (is_done past a j) d)
     old k (inl l) = elim (crash_or repos e past r) [ inl t ↦ inl (crashed t) | inr t ↦ same_clock t.1 (goes_on t.0) ]
       where
         -- it was asked for before the crash, and so ends, by the new clock, no later than ten minutes from it
@@ -182,16 +182,16 @@ lasting_kept repos past e f law r a j (Lock hold since owner key) m = elim (Memb
             subst (λ (c : ClockSet). lasts (holds (e ∷ past) r) hold (runs_on c (since + hold_time)) owner key ≡ true) (sym (crash_sets repos e past r t))
             (lasts_crash e past r hold (clock repos past r (since + hold_time)) ((since + hold_time - e.time) + t.clock) owner key t le l)
 
-        same_clock : clock_set repos (e ∷ past) r ≡ clock_set repos past r → (lasts (holds (e ∷ past) r) hold (clock repos past r (since + hold_time)) owner key ≡ true) ⊎ (done (e ∷ past) a j ≡ true)
-            → (lasts (holds (e ∷ past) r) hold (clock repos (e ∷ past) r (since + hold_time)) owner key ≡ true) ⊎ (done (e ∷ past) a j ≡ true)
+        same_clock : clock_set repos (e ∷ past) r ≡ clock_set repos past r → (lasts (holds (e ∷ past) r) hold (clock repos past r (since + hold_time)) owner key ≡ true) ⊎ (is_done (e ∷ past) a j ≡ true)
+            → (lasts (holds (e ∷ past) r) hold (clock repos (e ∷ past) r (since + hold_time)) owner key ≡ true) ⊎ (is_done (e ∷ past) a j ≡ true)
         same_clock same (inl s) = inl (subst (λ (c : ClockSet). lasts (holds (e ∷ past) r) hold (runs_on c (since + hold_time)) owner key ≡ true) (sym same) s)
         same_clock same (inr d) = inr d
 
-        goes_on : (Crashes e r → ⊥) → (lasts (holds (e ∷ past) r) hold (clock repos past r (since + hold_time)) owner key ≡ true) ⊎ (done (e ∷ past) a j ≡ true)
+        goes_on : (Crashes e r → ⊥) → (lasts (holds (e ∷ past) r) hold (clock repos past r (since + hold_time)) owner key ≡ true) ⊎ (is_done (e ∷ past) a j ≡ true)
         goes_on stands = elim (lasts_stays e past r hold (clock repos past r (since + hold_time)) owner key l stands) [
           | inl s ↦ inl s
           | inr s ↦ elim s [
-            | inl t ↦ inr (or_right (is_of a e && done_kind j e.kind) (done past a j) (law.releases r hold t.key t.repo_is t.kind_is a j since owner key k))
+            | inl t ↦ inr (or_right (is_of a e && done_kind j e.kind) (is_done past a j) (law.releases r hold t.key t.repo_is t.kind_is a j since owner key k))
             | inr t ↦ let o = own_lock past r a j hold since t.job owner key k t.owner_is in
                 inr (end_done past e a j t.outcome (subst (λ x. is_of x e ≡ true) o.0 t.repo_is) (subst (λ x. e.kind ≡ End x t.outcome) o.1 t.kind_is) t.kept_not)
           ]
@@ -201,15 +201,15 @@ lasting_kept repos past e f law r a j (Lock hold since owner key) m = elim (Memb
 
 -- while a vouched lock lasts, its hold blocks
 lock_blocks : (repos : List RepoView) (past : List Entry) (t : ℕ) → Facts repos past → now past ≤ t → (c a j hold since : ℕ) (owner : By) (key : List ℕ)
-    → Member (Lock hold since owner key) (vouches past c a j) → done past a j ≡ false → t < since + hold_time → is_blocked (holds past c) key (clock repos past c t) ≡ true
+    → Member (Lock hold since owner key) (vouches past c a j) → is_done past a j ≡ false → t < since + hold_time → is_blocked (holds past c) key (clock repos past c t) ≡ true
 lock_blocks repos past t f le c a j hold since owner key m open' lt = go (f.lasting c a j (Lock hold since owner key) m)
   where
-    go : Lasts repos past c (Lock hold since owner key) ⊎ (done past a j ≡ true) → is_blocked (holds past c) key (clock repos past c t) ≡ true
+    go : Lasts repos past c (Lock hold since owner key) ⊎ (is_done past a j ≡ true) → is_blocked (holds past c) key (clock repos past c t) ≡ true
     go (inr d) = absurd (true≢false (sym d ∙ open'))
     go (inl l) = lasts-blocks (holds past c) hold (clock repos past c (since + hold_time)) owner key (clock repos past c t) (omega (arith, le, lt, f.clocks c)) l
 
 pub lock_there : (repos : List RepoView) (past : List Entry) (e : Entry) → Facts repos past → Lawful repos past e → (c a j hold since : ℕ) (owner : By) (key : List ℕ)
-    → Member (Lock hold since owner key) (vouches past c a j) → done past a j ≡ false → e.time < since + hold_time → Free past c key
+    → Member (Lock hold since owner key) (vouches past c a j) → is_done past a j ≡ false → e.time < since + hold_time → Free past c key
 lock_there repos past e f law c a j hold since owner key m open' lt =
     record { there = f.guarded c a j hold since owner key m open' (omega (arith, law.time)); free = free (bar past c key) refl }
   where
@@ -238,7 +238,7 @@ pub record LocalDrop (repos : List RepoView) (past : List Entry) (r j time : ℕ
   pub key_is : d.key ≡ key
   pub enough : is_enough Local d.need (evidence Local repos past r j r d.need) ≡ true
   pub in_time : InTime past r j time key (evidence Local repos past r j r d.need)
-  pub open' : done past r j ≡ false
+  pub open' : is_done past r j ≡ false
 
 pub local_drop : (repos : List RepoView) (past : List Entry) (e : Entry) → Lawful repos past e → (r j : ℕ) (key : List ℕ) (d : Decision) → is_of r e ≡ true → e.kind ≡ Gone (by_job j) key
     → decision past r j ≡ Some d → LocalDrop repos past r j e.time key d
@@ -398,14 +398,14 @@ facts_kept repos past e f law = record {
       ]
     ]
 
-    guarded : (r a j hold since : ℕ) (owner : By) (key : List ℕ) → done (e ∷ past) a j ≡ false → e.time < since + hold_time
+    guarded : (r a j hold since : ℕ) (owner : By) (key : List ℕ) → is_done (e ∷ past) a j ≡ false → e.time < since + hold_time
         → Member (Lock hold since owner key) (vouch past e r a j) ⊎ Member (Lock hold since owner key) (vouches past r a j) → present (e ∷ past) r key ≡ true
     guarded r a j hold since owner key o lt (inl k) = elim (present_stays e past r key (law.copies r a j (Lock hold since owner key) k).0.there) [
       | inl s ↦ s
       | inr g ↦ absurd (vouched_no_gone r a j e.kind (Lock hold since owner key) (vouch_was past e r a j (Lock hold since owner key) k).1 g.by key g.kind_is)
     ]
     guarded r a j hold since owner key o lt (inr k) =
-        let open' : done past a j ≡ false = (or_parts (is_of a e && done_kind j e.kind) (done past a j) o).1 in
+        let open' : is_done past a j ≡ false = (or_parts (is_of a e && done_kind j e.kind) (is_done past a j) o).1 in
         elim (present_stays e past r key (f.guarded r a j hold since owner key k open' (omega (arith, law.time)))) [
           | inl s ↦ s
           | inr g ↦ absurd (true≢false (sym (lock_blocks repos past e.time f law.time r a j hold since owner key k open' lt) ∙ unheld_gone repos past e f law r e.time g.by key (omega arith) g.repo_is g.kind_is))

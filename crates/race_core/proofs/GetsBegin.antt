@@ -18,7 +18,7 @@ use Rattle.run_data.specs.declared.job.Outcome.{Outcome}
 use Rattle.run_data.specs.declared.job.Outcome.TheVariants as outcomes
 use Rattle.run_data.specs.declared.job.TransferRefusal.TheVariants as failures
 use Rattle.run_data.specs.declared.row.Hold.{Hold}
-use Rattle.run_model.specs.Past.{begun, holds, is_of}
+use Rattle.run_model.specs.Past.{begun_count, holds, is_of}
 use Rattle.node_model.specs.Rows.{holds_after, is_lost_ordered, keep_of, option_is, same_owner, restart}
 use Rattle.run_model.specs.Frames
 use Rattle.run_model.specs.Frames.{is_job}
@@ -48,7 +48,7 @@ use Rattle.race_core.proofs.ClientSteps.{attempts_even}
 
 -- ---- a job that hasn't begun has made no step
 
-pub unstepped : (s : SetUp) (past : List Entry) → OwnRun s past → (j : ℕ) → begun past s.number < j → has_stepped past s.number j ≡ false
+pub unstepped : (s : SetUp) (past : List Entry) → OwnRun s past → (j : ℕ) → begun_count past s.number < j → has_stepped past s.number j ≡ false
 unstepped s [] run j later = refl
 unstepped s (e ∷ past) run j later = go (unstepped s past run.1 j (begun_before past e s.number j later)) (is_of s.number e) refl
   where

@@ -18,7 +18,7 @@ use Rattle.run_data.specs.declared.job.Cause.TheVariants as causes
 use Rattle.p2p_wire.specs.declared.message.Message.{Message}
 use Rattle.p2p_wire.specs.declared.message.Message.TheVariants.{Failure, Success}
 use Rattle.node_model.specs.Slots.{Running}
-use Rattle.run_model.specs.Past.{begun, is_of}
+use Rattle.run_model.specs.Past.{begun_count, is_of}
 use Rattle.run_model.specs.Logs.{is_step}
 use Rattle.node_model.specs.Evidence.{Standing, Claimed, Ignored, Asked}
 use Rattle.race_core.proofs.Heard.{Heard, Locked_at, Seen_there, heard, heard_kind, hears, newer_heard}
@@ -376,13 +376,13 @@ module _ (reads_back : SentAreRead) (s : SetUp) where
       still_tells reads_back s past own.0 e own.1 (works_fit s past before.run) before j still c
 
   -- nothing was told to a job that hasn't begun
-  future_heard : (past : List Entry) → OwnPast s past → (j : ℕ) → begun past s.number < j → (c : ℕ) → heard past s.number j c ≡ None
+  future_heard : (past : List Entry) → OwnPast s past → (j : ℕ) → begun_count past s.number < j → (c : ℕ) → heard past s.number j c ≡ None
   future_heard [] h j later c = refl
   future_heard (e ∷ past) h j later c =
       let before = begun_before past e s.number j later in
       ap (λ ts. newer_heard ts (heard past s.number j c)) (tells (is_of s.number e) refl before) ∙ future_heard past (earlier s past e h) j before c
     where
-      tells : (b : Bool) → is_of s.number e ≡ b → begun past s.number < j → hears past e c s.number j ≡ []
+      tells : (b : Bool) → is_of s.number e ≡ b → begun_count past s.number < j → hears past e c s.number j ≡ []
       tells false is before = other_tells s.number c j past e is
       tells true is before = let own = h.run.0 is in own_still past e h is j (not_yet s past own.0 e h.run.1 own.1 j before) c
 

@@ -9,7 +9,7 @@ use Rattle.run_data.specs.declared.entry.EntryKind.{EntryKind}
 use Rattle.run_data.specs.declared.entry.EntryKind.TheVariants.{Begin, Gain, Log, Compact, Close, Crash, Fault}
 use Rattle.run_data.specs.declared.entry.FrameView.{FrameView}
 use Rattle.run_data.specs.declared.job.JobKind.{JobKind}
-use Rattle.run_model.specs.Past.{begun, is_of}
+use Rattle.run_model.specs.Past.{begun_count, is_of}
 use Rattle.node_model.specs.Slots.{is_begin, job_of}
 use Rattle.node_model.specs.Rows.{option_is}
 use Rattle.run_model.specs.Frames.{Way, taken_count, way_of}
@@ -26,7 +26,7 @@ use Rattle.race_core.proofs.WorkNumbers.{number_begun}
 
 -- the paths are the same for the jobs that have begun
 abbrev pub SamePaths : SetUp → (ℕ → List (List ℕ)) → List Entry → Type 0
-SamePaths s p past = (j : ℕ) → j ≤ begun past s.number → p j ≡ s.paths j
+SamePaths s p past = (j : ℕ) → j ≤ begun_count past s.number → p j ≡ s.paths j
 
 module _ (s : SetUp) (p : ℕ → List (List ℕ)) where
   peer_paths : (kind : JobKind) (peer : Option ℕ) → IsPeer s kind peer → IsPeer (with_paths s p) kind peer
@@ -60,7 +60,7 @@ module _ (s : SetUp) (p : ℕ → List (List ℕ)) where
   pub same_before : (e : Entry) (past : List Entry) → SamePaths s p (e ∷ past) → SamePaths s p past
   same_before e past same j l = same j (more (is_of s.number e && is_begin e.kind))
     where
-      more : (b : Bool) → j ≤ (if b then begun past s.number + 1 else begun past s.number)
+      more : (b : Bool) → j ≤ (if b then begun_count past s.number + 1 else begun_count past s.number)
       more true = omega (arith, l)
       more false = l
 

@@ -18,7 +18,7 @@ use Rattle.run_data.specs.declared.job.Job.{Job}
 use Rattle.run_data.specs.declared.job.JobKind.{JobKind}
 use Rattle.run_data.specs.declared.job.JobKind.TheVariants as kinds
 use Rattle.run_data.specs.declared.run.Run.{Run}
-use Rattle.run_model.specs.Past.{Occurs, begun, begun_job, begun_job_after, is_of}
+use Rattle.run_model.specs.Past.{Occurs, begun_count, begun_job, begun_job_after, is_of}
 use Rattle.node_model.specs.Slots.{is_begin}
 use Rattle.run_model.specs.Logs.{is_drop, read_at}
 use Rattle.run_model.specs.Drops.{key_in}
@@ -76,18 +76,18 @@ begun_by (e ∷ past) r j what h = go (λ k. begun_by past r j what k) (if_is (i
     go ih (inr t) = older (ih t.1)
 
 -- an entry that begins a job counts from then on
-pub begun_more : (e : Entry) (past : List Entry) (r : ℕ) → begun past r ≤ begun (e ∷ past) r
+pub begun_more : (e : Entry) (past : List Entry) (r : ℕ) → begun_count past r ≤ begun_count (e ∷ past) r
 begun_more e past r = go (is_of r e && is_begin e.kind)
   where
-    go : (b : Bool) → begun past r ≤ (if b then begun past r + 1 else begun past r)
+    go : (b : Bool) → begun_count past r ≤ (if b then begun_count past r + 1 else begun_count past r)
     go true = omega arith
     go false = omega arith
 
-begun_later : (past : List Entry) (x : Entry) (p : List Entry) (r j : ℕ) (what : Job) → Occurs past x p → is_of r x ≡ true → x.kind ≡ Begin j what → begun p r + 1 ≤ begun past r
+begun_later : (past : List Entry) (x : Entry) (p : List Entry) (r j : ℕ) (what : Job) → Occurs past x p → is_of r x ≡ true → x.kind ≡ Begin j what → begun_count p r + 1 ≤ begun_count past r
 begun_later [] x p r j what o is kind = absurd o
-begun_later (e ∷ past) x p r j what (inl o) is kind = subst (λ (y : Entry). begun p r + 1 ≤ begun (y ∷ past) r) o.0 (subst (λ (q : List Entry). begun p r + 1 ≤ begun (x ∷ q) r) o.1 here)
+begun_later (e ∷ past) x p r j what (inl o) is kind = subst (λ (y : Entry). begun_count p r + 1 ≤ begun_count (y ∷ past) r) o.0 (subst (λ (q : List Entry). begun_count p r + 1 ≤ begun_count (x ∷ q) r) o.1 here)
   where
-    here : begun p r + 1 ≤ begun (x ∷ p) r
+    here : begun_count p r + 1 ≤ begun_count (x ∷ p) r
     here = rw (is, kind) (omega arith)
 begun_later (e ∷ past) x p r j what (inr o) is kind = omega (arith, begun_later past x p r j what o is kind, begun_more e past r)
 

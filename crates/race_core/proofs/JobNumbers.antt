@@ -7,7 +7,7 @@ use Rattle.run_data.specs.declared.entry.EntryKind.{EntryKind}
 use Rattle.run_data.specs.declared.entry.EntryKind.TheVariants.{Begin, Crash, End as ends_job}
 use Rattle.run_data.specs.declared.job.Job.{Job}
 use Rattle.node_model.specs.Slots.{Running, is_begin}
-use Rattle.run_model.specs.Past.{begun, is_of, jobs, jobs_after}
+use Rattle.run_model.specs.Past.{begun_count, is_of, jobs, jobs_after}
 use Rattle.node_model.specs.SetUp.{SetUp}
 use Rattle.run_model.specs.States.{state_of}
 use Rattle.node_model.specs.AnyTime.{MayCome}
@@ -52,7 +52,7 @@ after_numbered n js (Crash clock) next x = record { bounded = tt; falling = tt }
 after_numbered n js kind next x = x
 
 -- a job that begins has the next number
-pub begins_next : (s : SetUp) (past : List Entry) (words : ℕ → Option Word) (e : Entry) → OwnPart s past words e → (job : ℕ) (what : Job) → e.kind ≡ Begin job what → job ≡ begun past s.number + 1
+pub begins_next : (s : SetUp) (past : List Entry) (words : ℕ → Option Word) (e : Entry) → OwnPart s past words e → (job : ℕ) (what : Job) → e.kind ≡ Begin job what → job ≡ begun_count past s.number + 1
 begins_next s past words e own job what is = elim (own.does) [
   | inl x ↦ absurd (steps x)
   | inr x ↦ (subst (MayCome s (state_of s past) e.lines e.sent) is x.may).0.number_is
@@ -64,13 +64,13 @@ begins_next s past words e own job what is = elim (own.does) [
       | inr y ↦ y.found
     ]
 
-pub jobs_numbered : (s : SetUp) (past : List Entry) → OwnRun s past → Numbered (begun past s.number) (jobs past s.number)
+pub jobs_numbered : (s : SetUp) (past : List Entry) → OwnRun s past → Numbered (begun_count past s.number) (jobs past s.number)
 jobs_numbered s [] run = record { bounded = tt; falling = tt }
 jobs_numbered s (e ∷ past) run = go (jobs_numbered s past run.1) (is_of s.number e) refl
   where
-    go : Numbered (begun past s.number) (jobs past s.number) → (b : Bool) → is_of s.number e ≡ b → Numbered (begun (e ∷ past) s.number) (jobs (e ∷ past) s.number)
+    go : Numbered (begun_count past s.number) (jobs past s.number) → (b : Bool) → is_of s.number e ≡ b → Numbered (begun_count (e ∷ past) s.number) (jobs (e ∷ past) s.number)
     go x false is = rw is x
-    go x true is = let own = run.0 is in rw is (after_numbered (begun past s.number) (jobs past s.number) e.kind (begins_next s past own.0 e own.1) x)
+    go x true is = let own = run.0 is in rw is (after_numbered (begun_count past s.number) (jobs past s.number) e.kind (begins_next s past own.0 e own.1) x)
 
 -- a job is known by its number
 pub same_job : (js : List Running) → Falling js → (x y : Running) → Member x js → Member y js → x.number ≡ y.number → x ≡ y

@@ -12,13 +12,13 @@ use Rattle.run_data.specs.declared.entry.EntryKind.{EntryKind}
 use Rattle.run_data.specs.declared.entry.EntryKind.TheVariants.{Begin}
 use Rattle.run_data.specs.declared.job.Job.{Job}
 use Rattle.run_data.specs.declared.run.Run.{Run}
-use Rattle.run_model.specs.Past.{Always, begun, is_of, now}
+use Rattle.run_model.specs.Past.{Always, begun_count, is_of, now}
 use Rattle.node_model.specs.Slots.{is_begin}
 use Rattle.run_model.specs.Frames.{Way, sender_of, taker_of}
 use Rattle.race_core.proofs.OwnPasts.{mine}
 use Rattle.node_model.specs.SetUp.{SetUp}
 use Rattle.run_model.specs.Run.{ComesAfter, IsRun, Ordered, paths_at, paths_begun, set_up, tree_at}
-use Rattle.race_core.specs.Merged.{Came, Follow, GivenIn, IsNext, Kept, Letter, MayMerge, NodeKeeps, earlier, history, last_count, merged, new_of, paths_with, set_up_with}
+use Rattle.race_core.specs.Merged.{Came, Follow, GivenIn, IsNext, Kept, Letter, MayMerge, NodeKeeps, earlier, history, last_count, merged_run, new_of, paths_with, set_up_with}
 use Rattle.race_core.proofs.HistoriesGrow.{kept_paths}
 use Rattle.race_core.proofs.JobNumbers.{begins_next}
 use Rattle.race_core.proofs.OwnParts.{begun_own}
@@ -71,9 +71,9 @@ ends_in_time (e ∷ past) h = h.0.in_time
 -- ---- the paths
 
 -- each begun job has its paths
-paths_same : (run : Run) (r : ℕ) (paths : ℕ → List (List ℕ)) (got : Way → List Letter) (old : List Entry) (was : ℕ → List (List ℕ)) → ((j : ℕ) → j ≤ begun old r → was j ≡ paths j)
+paths_same : (run : Run) (r : ℕ) (paths : ℕ → List (List ℕ)) (got : Way → List Letter) (old : List Entry) (was : ℕ → List (List ℕ)) → ((j : ℕ) → j ≤ begun_count old r → was j ≡ paths j)
     → (es : List Entry) → Each (GivenIn (tree_at run.tree (length run.entries)) paths) es → Kept (record { number = r; repos = run.repos; paths = paths }) got (es ++ old)
-    → (j : ℕ) → j ≤ begun (es ++ old) r → paths_with run.tree (length run.entries) was es j ≡ paths j
+    → (j : ℕ) → j ≤ begun_count (es ++ old) r → paths_with run.tree (length run.entries) was es j ≡ paths j
 paths_same run r paths got old was before [] h k j l = before j l
 paths_same run r paths got old was before (e ∷ es) h k j l = go e.kind refl l (λ m. paths_same run r paths got old was before es h.1 k.1 j m)
   where
@@ -83,7 +83,7 @@ paths_same run r paths got old was before (e ∷ es) h k j l = go e.kind refl l 
     rest : List (List ℕ)
     rest = paths_with run.tree (length run.entries) was es j
 
-    begins : (job : ℕ) (what : Job) → e.kind ≡ Begin job what → job ≡ begun (es ++ old) r + 1
+    begins : (job : ℕ) (what : Job) → e.kind ≡ Begin job what → job ≡ begun_count (es ++ old) r + 1
     begins job what is = let x = k.0 in begins_next s (es ++ old) x.words e x.does job what is
 
     one_more : (b : Bool) (n : ℕ) → j ≤ (if b then n + 1 else n) → j ≤ n + 1
@@ -98,12 +98,12 @@ paths_same run r paths got old was before (e ∷ es) h k j l = go e.kind refl l 
     and_no true = refl
     and_no false = refl
 
-    go : (kind : EntryKind) → e.kind ≡ kind → j ≤ (if is_of r e && is_begin kind then begun (es ++ old) r + 1 else begun (es ++ old) r) → (j ≤ begun (es ++ old) r → rest ≡ paths j)
+    go : (kind : EntryKind) → e.kind ≡ kind → j ≤ (if is_of r e && is_begin kind then begun_count (es ++ old) r + 1 else begun_count (es ++ old) r) → (j ≤ begun_count (es ++ old) r → rest ≡ paths j)
         → paths_begun run.tree (length run.entries) j rest kind ≡ paths j
     go (Begin job what) is l ih = if_either (λ x. x ≡ paths j) (job == j) (paths_of (tree_at run.tree (length run.entries)) what.key) rest
         (λ at. sym (h.0 job what is) ∙ ap paths (eqb-true job j at))
-        (λ other. ih (let n = begins job what is in let m = one_more (is_of r e && true) (begun (es ++ old) r) l in grind arith))
-    go kind is l ih = ih (same (is_of r e && false) (begun (es ++ old) r) (and_no (is_of r e)) l)
+        (λ other. ih (let n = begins job what is in let m = one_more (is_of r e && true) (begun_count (es ++ old) r) l in grind arith))
+    go kind is l ih = ih (same (is_of r e && false) (begun_count (es ++ old) r) (and_no (is_of r e)) l)
 
 -- ---- the nodes
 
@@ -128,7 +128,7 @@ nodes_may_merge run news c paths got old marked number past_count keeps came = r
     kept r x = kept_paths (record { number = r; repos = run.repos; paths = paths r }) (set_up_with run news r).paths (got r) (history run news r)
         (λ j l. paths_same run r (paths r) (got r) (mine r (reverse run.entries)) (paths_at run.tree (reverse run.entries) r) (λ i m. x.before i (subst (λ n. i ≤ n) (sym (begun_own r (reverse run.entries))) m))
         (reverse (new_of news r)) x.given (subst (λ es. Kept (record { number = r; repos = run.repos; paths = paths r }) (got r) es) (history_is r) x.kept)
-        j (subst (λ es. j ≤ begun es r) (history_is r) l))
+        j (subst (λ es. j ≤ begun_count es r) (history_is r) l))
         x.kept
 
 -- and merged they are a run
@@ -136,6 +136,6 @@ pub nodes_merge : (run : Run) (news : List (List Entry)) (c : ℕ) (paths : ℕ 
     → Each (λ m. m.place ≤ length run.entries) run.tree → length news ≤ length run.repos → last_count 0 (reverse run.entries) ≤ c
     → ((r : ℕ) → r < length run.repos → NodeKeeps run news r c (paths r) (got r))
     → ((r q : ℕ) (w : Way) → r < length run.repos → taker_of w ≡ r → sender_of w ≡ q → Came (got r w) (history run news q) w)
-    → IsRun (merged run news)
+    → IsRun (merged_run run news)
 nodes_merge run news c paths got old marked number past_count keeps came =
     merged_runs_are_runs run news got old (nodes_may_merge run news c paths got old marked number past_count keeps came)

@@ -25,7 +25,7 @@ use Rattle.node_model.specs.SetUp.{SetUp}
 use Rattle.run_model.specs.States.{works}
 use Rattle.run_model.specs.Words.{awaits_of, word_of, word_of_kind, word_taken, word_told}
 use Rattle.run_model.specs.Run.{FramesPart, IsRun, MayBe, OnlyWaits, Ordered, OwnPart, RunPast, RunStep, paths_at, paths_begun, set_up, tree_at}
-use Rattle.race_core.specs.Merged.{Came, IsMerge, KeptStep, Letter, MayMerge, Rising, TakesNext, earlier, history, letter_of, letters, merge_all, merged, new_of, paths_with, set_up_with, stamp_of, stands_before, word_got, word_in, word_read}
+use Rattle.race_core.specs.Merged.{Came, IsMerge, KeptStep, Letter, MayMerge, Rising, TakesNext, earlier, history, letter_of, letters, merge_all, merged_run, new_of, paths_with, set_up_with, stamp_of, stands_before, word_got, word_in, word_read}
 use Rattle.race_core.proofs.OwnState.{state_own}
 use Rattle.race_core.proofs.OwnParts.{part_whole}
 use Rattle.race_core.proofs.Flights.{always_before, get_append, get_none, map_member, occurs_always}
@@ -326,11 +326,11 @@ each_news run news got may n (es ∷ ess) same l =
     )
 
 -- merged by time, count and number behind the run that they extend
-pub merged_runs_are_runs : (run : Run) (news : List (List Entry)) (got : ℕ → Way → List Letter) → IsRun run → MayMerge run news got → IsRun (merged run news)
+pub merged_runs_are_runs : (run : Run) (news : List (List Entry)) (got : ℕ → Way → List Letter) → IsRun run → MayMerge run news got → IsRun (merged_run run news)
 merged_runs_are_runs run news got old may =
     merge_is_run run news got (merge_all news) old may (is_merge (now (reverse run.entries)) news (each_news run news got may 0 news (λ r k is. ap (new_of news) (omega (arith, is))) (omega arith)))
 
 -- and the merged run has of each repository its history
-pub merged_histories : (run : Run) (news : List (List Entry)) (got : ℕ → Way → List Letter) → IsRun run → MayMerge run news got → (r : ℕ) → mine r (reverse (merged run news).entries) ≡ history run news r
+pub merged_histories : (run : Run) (news : List (List Entry)) (got : ℕ → Way → List Letter) → IsRun run → MayMerge run news got → (r : ℕ) → mine r (reverse (merged_run run news).entries) ≡ history run news r
 merged_histories run news got old may r = ap (mine r) (reverse-append run.entries (merge_all news))
     ∙ mine_is run news got (merge_all news) old may (is_merge (now (reverse run.entries)) news (each_news run news got may 0 news (λ r k is. ap (new_of news) (omega (arith, is))) (omega arith))) r

@@ -17,7 +17,7 @@ use Rattle.run_data.specs.declared.job.JobKind.{JobKind as KindOfJob}
 use Rattle.run_data.specs.declared.job.JobKind.TheVariants as kinds
 use Rattle.run_data.specs.declared.job.Outcome.{Outcome}
 use Rattle.run_data.specs.declared.job.Outcome.TheVariants.{Copied}
-use Rattle.run_model.specs.Past.{begun, is_of}
+use Rattle.run_model.specs.Past.{begun_count, is_of}
 use Rattle.node_model.specs.Rows.{option_is}
 use Rattle.p2p_wire.specs.declared.message.Message.{Message}
 use Rattle.p2p_wire.specs.declared.message.Message.TheVariants.{AlreadyHave, Success}
@@ -145,7 +145,7 @@ less_off : (a b : ℕ) → a < b → (a == b) ≡ false
 less_off a b h = grind (arith, nat_tests)
 
 -- no drop of a job that hasn't begun
-unbegun_in : (s : SetUp) (p : List Entry) → OwnRun s p → (j : ℕ) → begun p s.number < j → in_drop p s.number j ≡ false
+unbegun_in : (s : SetUp) (p : List Entry) → OwnRun s p → (j : ℕ) → begun_count p s.number < j → in_drop p s.number j ≡ false
 unbegun_in s [] run j later = refl
 unbegun_in s (e ∷ p) run j later = go (unbegun_in s p run.1 j (begun_before p e s.number j later)) (is_of s.number e) refl
   where
@@ -154,9 +154,9 @@ unbegun_in s (e ∷ p) run j later = go (unbegun_in s p run.1 j (begun_before p 
     go was true is =
         let own = run.0 is in
         in_more p s.number j e was (still_starts p s.number j e e.kind (not_yet s p own.0 e run.1 own.1 j (begun_before p e s.number j later))
-        (λ job what kind. let next : job ≡ begun p s.number + 1 = begins_next s p own.0 e own.1 job what kind in
-        let count : begun (e ∷ p) s.number ≡ begun p s.number + 1 = rw (is, kind) refl in
-        let now : begun p s.number + 1 < j = subst (λ n. n < j) count later in
+        (λ job what kind. let next : job ≡ begun_count p s.number + 1 = begins_next s p own.0 e own.1 job what kind in
+        let count : begun_count (e ∷ p) s.number ≡ begun_count p s.number + 1 = rw (is, kind) refl in
+        let now : begun_count p s.number + 1 < j = subst (λ n. n < j) count later in
         less_off job j (omega arith)))
 
 begins_none : (kind : KindOfJob) → first_part kind ≡ Puts → is_drop kind ≡ false
@@ -274,9 +274,9 @@ puts_under reads_back s past h w m = invariant s (λ p x. OwnPast s p → Under 
         (subst (λ k. starts_drop p s.number x.number e k ≡ false) (sym b.kind_is) (and_right (b.job == x.number) (is_drop b.what.kind) (begins_none b.what.kind first)))
     own p e r is was x (inr (inl b)) h part live =
         let mine = r.0 is in
-        let below : x.number ≤ begun p s.number = number_begun s p r.1 x b.ran in
+        let below : x.number ≤ begun_count p s.number = number_begun s p r.1 x b.ran in
         in_more p s.number x.number e (was x b.ran (earlier s p e h) part live) (still_starts p s.number x.number e e.kind b.still
-        (λ job what kind. let next : job ≡ begun p s.number + 1 = begins_next s p mine.0 e mine.1 job what kind in more_off job x.number (omega arith)))
+        (λ job what kind. let next : job ≡ begun_count p s.number + 1 = begins_next s p mine.0 e mine.1 job what kind in more_off job x.number (omega arith)))
     own p e r is was x (inr (inr b)) h part live =
         let v = b.by.w in
         let v_part = puts_was v.part v.phase x.phase (subst (λ q. GoodTo v.part v.phase q x.phase) part (steps_good s p e x b (works_fit s p r.1 v (step_runs s p e x b)))) in

@@ -12,7 +12,7 @@ use Rattle.run_data.specs.declared.job.JobKind.{JobKind}
 use Rattle.run_data.specs.declared.job.JobKind.TheVariants as kinds
 use Rattle.run_data.specs.declared.job.Outcome.{Outcome}
 use Rattle.node_model.specs.Slots.{Running, is_begin}
-use Rattle.run_model.specs.Past.{begun, is_of}
+use Rattle.run_model.specs.Past.{begun_count, is_of}
 use Rattle.run_model.specs.Logs.{before_step, in_drop, is_drop, is_step, starts_drop}
 use Rattle.node_model.specs.SetUp.{SetUp}
 use Rattle.node_model.specs.Jobs
@@ -52,17 +52,17 @@ not_started past r j e none = go (is_of r e) refl (in_drop past r j)
     go true is was = rw (none is) (off was)
     go false is was = off was
 
-begin_apart : (s : SetUp) (past : List Entry) (e : Entry) → OwnRun s (e ∷ past) → is_of s.number e ≡ true → (j : ℕ) → begun (e ∷ past) s.number < j → (job : ℕ) (what : Job) → e.kind ≡ Begin job what → job ≢ j
+begin_apart : (s : SetUp) (past : List Entry) (e : Entry) → OwnRun s (e ∷ past) → is_of s.number e ≡ true → (j : ℕ) → begun_count (e ∷ past) s.number < j → (job : ℕ) (what : Job) → e.kind ≡ Begin job what → job ≢ j
 begin_apart s past e run is j later job what kind same =
     let own = run.0 is in
-    let next : job ≡ begun past s.number + 1 = begins_next s past own.0 e own.1 job what kind in
+    let next : job ≡ begun_count past s.number + 1 = begins_next s past own.0 e own.1 job what kind in
     let begins : is_begin e.kind ≡ true = ap is_begin kind in
-    let now' : begun (e ∷ past) s.number ≡ begun past s.number + 1 = rw (is, begins) refl in
-    let below : begun past s.number + 1 < j = subst (λ n. n < j) now' later in
+    let now' : begun_count (e ∷ past) s.number ≡ begun_count past s.number + 1 = rw (is, begins) refl in
+    let below : begun_count past s.number + 1 < j = subst (λ n. n < j) now' later in
     absurd (omega arith)
 
 -- a job that hasn't begun isn't in its drop
-future_undropped : (s : SetUp) (past : List Entry) → OwnRun s past → (j : ℕ) → begun past s.number < j → in_drop past s.number j ≡ false
+future_undropped : (s : SetUp) (past : List Entry) → OwnRun s past → (j : ℕ) → begun_count past s.number < j → in_drop past s.number j ≡ false
 future_undropped s [] run j later = refl
 future_undropped s (e ∷ past) run j later =
     let before = begun_before past e s.number j later in
@@ -93,7 +93,7 @@ still_unread past e r j still none = rw none (go (is_of r e) refl)
     go true is = rw (still is) refl
     go false is = refl
 
-pub future_reads : (s : SetUp) (past : List Entry) → OwnRun s past → (j : ℕ) → begun past s.number < j → before_step past s.number j ≡ None
+pub future_reads : (s : SetUp) (past : List Entry) → OwnRun s past → (j : ℕ) → begun_count past s.number < j → before_step past s.number j ≡ None
 future_reads s past run j later = undropped_unread past s.number j (future_undropped s past run j later)
 
 -- ---- moves at their transfer
@@ -167,9 +167,9 @@ transfers_stuck s past run w m = invariant s (λ p x. Transfers s p x)
         off false b h = refl
     own p e r is was x (inr (inl b)) move apart drops =
         let mine = r.0 is in
-        let below : x.number ≤ begun p s.number = number_begun s p r.1 x b.ran in
+        let below : x.number ≤ begun_count p s.number = number_begun s p r.1 x b.ran in
         was x b.ran move apart (sym (not_started p s.number x.number e (λ own. still_starts p s.number x.number e e.kind
-        (λ job what kind same. let next : job ≡ begun p s.number + 1 = begins_next s p mine.0 e mine.1 job what kind in absurd (omega arith)) b.still)) ∙ drops)
+        (λ job what kind same. let next : job ≡ begun_count p s.number + 1 = begins_next s p mine.0 e mine.1 job what kind in absurd (omega arith)) b.still)) ∙ drops)
     own p e r is was x (inr (inr b)) move apart drops =
         let v = b.by.w in
         let runs = step_runs s p e x b in

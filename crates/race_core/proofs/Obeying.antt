@@ -18,7 +18,7 @@ use Rattle.p2p_wire.specs.Messages.{order_of}
 use Rattle.run_model.specs.Said.{Says, is_request, message_in}
 use Rattle.race_core.proofs.Ways.{is_answer, answers, down_of, way_from}
 use Rattle.run_model.specs.Frames.{Flying, MayTake, Way, is_job, on_way, requests, says, sender_of, frames_sent, sent_of, taken_count, taken_if, taker_of, up_of, way_of}
-use Rattle.run_model.specs.Drops.{done, evidence}
+use Rattle.run_model.specs.Drops.{is_done, evidence}
 use Rattle.race_core.specs.Lawful.{FoundRemote, IsFresh}
 use Rattle.race_core.proofs.Own.{MayObey, MayOrder, Meets, MessagePast, SaidByClock}
 use Rattle.race_core.proofs.Flights.{always_before, occurs_always, occurs_earlier, sending}
@@ -172,8 +172,8 @@ answers_taken : (repos : List RepoView) (past : List Entry) (w : Way) → Messag
 answers_taken repos past w run = let t = taken_of is_answer past w (prefixes repos past w run) in
     subst (λ n. n ≤ length (answers past w)) (sym t.count) (filter_take (of_flying is_answer) (taken_count past w) (frames_sent past w))
 
-pub ordered_open : (repos : List RepoView) (past : List Entry) (e : Entry) (r a : ℕ) (key : List ℕ) (k : Takes repos past e r a key) → (t : MayTake past (way_of r k.f) k.f) → (o : Ordered repos past r a key k.f k.deadline t.it) → done past a o.j ≡ false
-ordered_open repos past e r a key k t o = elim (cases_Bool (done past a o.j)) [ inl h ↦ absurd (ended (done_occurs past a o.j h)) | inr h ↦ h ]
+pub ordered_open : (repos : List RepoView) (past : List Entry) (e : Entry) (r a : ℕ) (key : List ℕ) (k : Takes repos past e r a key) → (t : MayTake past (way_of r k.f) k.f) → (o : Ordered repos past r a key k.f k.deadline t.it) → is_done past a o.j ≡ false
+ordered_open repos past e r a key k t o = elim (cases_Bool (is_done past a o.j)) [ inl h ↦ absurd (ended (done_occurs past a o.j h)) | inr h ↦ h ]
   where
     w : Way
     w = way_of r k.f

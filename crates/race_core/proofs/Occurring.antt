@@ -17,7 +17,7 @@ use Rattle.run_model.specs.Said.{Said, is_request}
 use Rattle.run_model.specs.Frames.{Way, flying, on_way, says, sender_of, sent_if, taken_if, taker_of, takes_if, up_of}
 use Rattle.race_core.proofs.Ways.{answers, down_of}
 use Rattle.node_model.specs.Slots.{job_of}
-use Rattle.run_model.specs.Drops.{Vouch, done, done_kind, vouch, vouches}
+use Rattle.run_model.specs.Drops.{Vouch, is_done, done_kind, vouch, vouches}
 use Rattle.race_core.proofs.Own.{MessagePast, uses}
 use Rattle.race_core.proofs.Turns.{sent_if-prefix, sent_if-step}
 use Rattle.race_core.proofs.Evident.{done_end}
@@ -67,11 +67,11 @@ same_job repos past w x y p q a i j run client o u is js xi yj ux uy = elim (occ
   | inr (inr s) ↦ sym ((own_at repos past x p a run o is).one_job w client ux i j y q xi s js yj uy)
 ]
 
-pub occurs_done : (past : List Entry) (x : Entry) (p : List Entry) (a j : ℕ) (outcome : Outcome) → Occurs past x p → is_of a x ≡ true → x.kind ≡ End j outcome → is_lost_ordered outcome ≡ false → done past a j ≡ true
+pub occurs_done : (past : List Entry) (x : Entry) (p : List Entry) (a j : ℕ) (outcome : Outcome) → Occurs past x p → is_of a x ≡ true → x.kind ≡ End j outcome → is_lost_ordered outcome ≡ false → is_done past a j ≡ true
 occurs_done [] x p a j outcome o is kind lost = absurd o
 occurs_done (e ∷ past) x p a j outcome (inl o) is kind lost =
-    or_left (is_of a e && done_kind j e.kind) (done past a j) (subst (λ (y : Entry). (is_of a y && done_kind j y.kind) ≡ true) o.0 (rw (is, kind, eqb_refl j, lost) refl))
-occurs_done (e ∷ past) x p a j outcome (inr o) is kind lost = or_right (is_of a e && done_kind j e.kind) (done past a j) (occurs_done past x p a j outcome o is kind lost)
+    or_left (is_of a e && done_kind j e.kind) (is_done past a j) (subst (λ (y : Entry). (is_of a y && done_kind j y.kind) ≡ true) o.0 (rw (is, kind, eqb_refl j, lost) refl))
+occurs_done (e ∷ past) x p a j outcome (inr o) is kind lost = or_right (is_of a e && done_kind j e.kind) (is_done past a j) (occurs_done past x p a j outcome o is kind lost)
 
 -- the end of a done job
 pub record Ended (past : List Entry) (a j : ℕ) : Type 0 where
@@ -86,11 +86,11 @@ pub record Ended (past : List Entry) (a j : ℕ) : Type 0 where
 end_kind : (j : ℕ) (outcome : Outcome) → done_kind j (End j outcome) ≡ true → is_lost_ordered outcome ≡ false
 end_kind j outcome h = not-true (is_lost_ordered outcome) (and_parts (j == j) (not (is_lost_ordered outcome)) h).1
 
-pub done_occurs : (past : List Entry) (a j : ℕ) → done past a j ≡ true → Ended past a j
+pub done_occurs : (past : List Entry) (a j : ℕ) → is_done past a j ≡ true → Ended past a j
 done_occurs [] a j h = cc
-done_occurs (e ∷ past) a j h = go (λ k. done_occurs past a j k) (or_cases (is_of a e && done_kind j e.kind) (done past a j) h)
+done_occurs (e ∷ past) a j h = go (λ k. done_occurs past a j k) (or_cases (is_of a e && done_kind j e.kind) (is_done past a j) h)
   where
-    go : (done past a j ≡ true → Ended past a j) → ((is_of a e && done_kind j e.kind) ≡ true) ⊎ (done past a j ≡ true) → Ended (e ∷ past) a j
+    go : (is_done past a j ≡ true → Ended past a j) → ((is_of a e && done_kind j e.kind) ≡ true) ⊎ (is_done past a j ≡ true) → Ended (e ∷ past) a j
     go ih (inl s) =
         let w = and_parts (is_of a e) (done_kind j e.kind) s in
         let t = done_end j e.kind w.1 in

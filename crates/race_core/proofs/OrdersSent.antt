@@ -11,7 +11,7 @@ use Rattle.run_data.specs.declared.entry.EntryKind.TheVariants.{Order}
 use Rattle.run_data.specs.declared.entry.FrameView.{FrameView}
 use Rattle.run_data.specs.declared.entry.FrameText.{FrameText}
 use Rattle.run_data.specs.declared.entry.FrameText.TheVariants.{Closing}
-use Rattle.run_model.specs.Past.{Occurs, begun, is_of}
+use Rattle.run_model.specs.Past.{Occurs, begun_count, is_of}
 use Rattle.node_model.specs.Rows.{option_is}
 use Rattle.run_model.specs.Frames.{is_job}
 use Rattle.node_model.specs.Slots.{job_of}
@@ -123,21 +123,21 @@ orderer s past words e j g own now =
     record { order = o.1; by = x; number_is = eqb-true x.w.number j (subst (λ (q : Option ℕ). option_is q j ≡ true) (stepped_job s past e x) mine) }
 
 -- a job that hasn't begun has ordered nothing
-pub unordered : (s : SetUp) (past : List Entry) → OwnRun s past → (j : ℕ) (g : FrameView) → begun past s.number < j → SentOrder past s.number j g → ⊥
+pub unordered : (s : SetUp) (past : List Entry) → OwnRun s past → (j : ℕ) (g : FrameView) → begun_count past s.number < j → SentOrder past s.number j g → ⊥
 unordered s [] run j g later o = o.stands
 unordered s (e ∷ past) run j g later o = elim (order_when past e s.number j g o) [
   | inl old ↦ unordered s past run.1 j g before old
   | inr now ↦ new now
 ]
   where
-    before : begun past s.number < j
+    before : begun_count past s.number < j
     before = begun_before past e s.number j later
 
     new : NowOrders e s.number j g → ⊥
     new now =
         let own = run.0 (and_left (is_of s.number e) (option_is (job_of e.kind) j) now.mine) in
         let x = orderer s past own.0 e j g own.1 now in
-        let below : x.by.w.number ≤ begun past s.number = number_begun s past run.1 x.by.w (stepped_runs s past e x.by) in
+        let below : x.by.w.number ≤ begun_count past s.number = number_begun s past run.1 x.by.w (stepped_runs s past e x.by) in
         let is : x.by.w.number ≡ j = x.number_is in
         let b = before in
         omega arith

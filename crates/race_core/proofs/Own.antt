@@ -33,7 +33,7 @@ use Rattle.race_core.proofs.Ways.{is_answer, answers, down_of, way_from}
 use Rattle.run_model.specs.Frames.{MayTake, Way, is_job, is_on, on_way, requests, says, taken_if, takes, up_of, way_of}
 use Rattle.node_model.specs.Slots.{job_of}
 use Rattle.run_model.specs.Logs.{in_drop, need_read}
-use Rattle.run_model.specs.Drops.{done, key_in}
+use Rattle.run_model.specs.Drops.{is_done, key_in}
 use Rattle.race_core.specs.Lawful.{Free}
 use Rattle.race_core.proofs.Heard.{Heard, heard, heard_key, known_evidence}
 
@@ -156,7 +156,7 @@ pub record MayBar (repos : List RepoView) (r : ℕ) (past : List Entry) (e : Ent
   pub row : Free past r key
   pub unheld : is_blocked (holds past r) key (clock repos past r e.time) ≡ false
   pub first : decision past r j ≡ None
-  pub open' : done past r j ≡ false
+  pub open' : is_done past r j ≡ false
   pub nothing_asked : has_asked past r j ≡ false
   pub dropping : in_drop past r j ≡ true
   pub key_is : key ≡ key_in (begun_job past r j)
@@ -193,7 +193,7 @@ pub record HasDeadline (repos : List RepoView) (r : ℕ) (past : List Entry) (e 
 
 -- a remote drop orders the removal where what it knows is enough; where it has locked items, the order has a deadline
 pub record MayOrder (repos : List RepoView) (r : ℕ) (past : List Entry) (e : Entry) (j target : ℕ) (deadline : Option ℕ) (need : Need) (key : List ℕ) : Type 0 where
-  pub open' : done past r j ≡ false
+  pub open' : is_done past r j ≡ false
   pub one_clock : OneClock repos r past j
   pub heard_of : HeardOf past r j key
   pub enough : is_enough Remote need (known_evidence Remote repos past r j target need) ≡ true

@@ -7,14 +7,14 @@ use Rattle.node_model.specs.Slots.{is_begin}
 use Rattle.node_model.specs.SetUp.{SetUp}
 use Rattle.node_model.specs.Step.{step}
 use Rattle.node_model.specs.AnyTime.{MayCome}
-use Rattle.run_model.specs.Past.{begun}
+use Rattle.run_model.specs.Past.{begun_count}
 use Rattle.run_model.specs.States.{state_of}
 use Rattle.run_model.specs.Run.{ComesAnyTime, IsStep, OwnPart}
 use Rattle.race_core.proofs.OwnPasts.{mine, own_by}
 use Rattle.race_core.proofs.OwnState.{state_own}
 
-pub begun_own : (r : ℕ) (past : List Entry) → begun past r ≡ begun (mine r past) r
-begun_own r past = own_by r (λ p. begun p r) (λ e p is. rw is refl) (λ e p is ih. rw is (ap (λ n. if is_begin e.kind then n + 1 else n) ih)) past
+pub begun_own : (r : ℕ) (past : List Entry) → begun_count past r ≡ begun_count (mine r past) r
+begun_own r past = own_by r (λ p. begun_count p r) (λ e p is. rw is refl) (λ e p is ih. rw is (ap (λ n. if is_begin e.kind then n + 1 else n) ih)) past
 
 -- two pasts that leave a repository in one state: a step, and what may come at any point, are facts of the state
 part_same : (s : SetUp) (p q : List Entry) → state_of s p ≡ state_of s q → (words : ℕ → Option Word) (e : Entry) → OwnPart s p words e → OwnPart s q words e

@@ -18,7 +18,7 @@ use Rattle.run_model.specs.Frames.{Flying, Way, flying, last_of, last_request, s
 use Rattle.trust_groups.specs.Settings.{settings}
 use Rattle.run_model.specs.Logs.{added_by, before_step, ends_transfer, ever, has_it, has_stepped, hears_has_it, in_drop, is_quiet, is_step, need_read, read_at, settings_of, starts_drop}
 use Rattle.node_model.specs.Look.{first_of}
-use Rattle.run_model.specs.Drops.{done, done_kind, key_in, standing}
+use Rattle.run_model.specs.Drops.{is_done, done_kind, key_in, standing}
 use Rattle.node_model.specs.Evidence.{standing_by}
 
 -- the entries of r
@@ -64,8 +64,8 @@ if_or : (a b c : Bool) → (a && b) || c ≡ (if a then b || c else c)
 if_or true b c = refl
 if_or false b c = refl
 
-pub own_done : (r j : ℕ) (past : List Entry) → done past r j ≡ done (mine r past) r j
-own_done r j past = own_fold r (λ p. done p r j) (λ x e. done_kind j e.kind || x) (λ e p. if_or (is_of r e) (done_kind j e.kind) (done p r j)) past
+pub own_done : (r j : ℕ) (past : List Entry) → is_done past r j ≡ is_done (mine r past) r j
+own_done r j past = own_fold r (λ p. is_done p r j) (λ x e. done_kind j e.kind || x) (λ e p. if_or (is_of r e) (done_kind j e.kind) (is_done p r j)) past
 
 -- a decision but for its place
 abbrev pub stated : Option Decision → Option (List ℕ × Need)

@@ -4,7 +4,7 @@ use Rattle.std.specs.Prelude.{filter, if◌then◌else◌, ◌&&◌}
 use Rattle.annex_base.proofs.Functions.{funext}
 use Rattle.run_data.specs.declared.entry.Entry.{Entry}
 use Rattle.run_data.specs.declared.run.RepoView.{RepoView}
-use Rattle.run_model.specs.Past.{bar, begun, holds, is_of, entry_count, present, clock_set, set_after}
+use Rattle.run_model.specs.Past.{bar, begun_count, holds, is_of, entry_count, present, clock_set, set_after}
 use Rattle.node_model.specs.Rows.{bar_after, holds_after, present_after, content_after}
 use Rattle.node_model.specs.Slots.{is_begin}
 use Rattle.node_model.specs.Clocks.{runs_on, wall}
@@ -50,8 +50,8 @@ module _ (r : ℕ) where
   own_made : (past : List Entry) → entry_count past r ≡ entry_count (own r past) r
   own_made past = by_own r (λ p. entry_count p r) (λ p was e. was + 1) (λ e p. refl) (λ p was e. refl) past
 
-  own_begun : (past : List Entry) → begun past r ≡ begun (own r past) r
-  own_begun past = by_own r (λ p. begun p r) (λ p was e. if is_begin e.kind then was + 1 else was) (λ e p. both (is_of r e) (is_begin e.kind) (begun p r)) (λ p was e. refl) past
+  own_begun : (past : List Entry) → begun_count past r ≡ begun_count (own r past) r
+  own_begun past = by_own r (λ p. begun_count p r) (λ p was e. if is_begin e.kind then was + 1 else was) (λ e p. both (is_of r e) (is_begin e.kind) (begun_count p r)) (λ p was e. refl) past
     where
       both : (b c : Bool) (n : ℕ) → (if b && c then n + 1 else n) ≡ (if b then (if c then n + 1 else n) else n)
       both true c n = refl

@@ -11,7 +11,7 @@ use Rattle.drop_proof.specs.declared.rule.Need.{Need}
 use Rattle.run_data.specs.declared.entry.Entry.{Entry}
 use Rattle.run_data.specs.declared.entry.EntryKind.{EntryKind}
 use Rattle.run_data.specs.declared.entry.EntryKind.TheVariants.{Bar}
-use Rattle.run_model.specs.Past.{Decision, begun, begun_job, decision, decided_after, is_of}
+use Rattle.run_model.specs.Past.{Decision, begun_count, begun_job, decision, decided_after, is_of}
 use Rattle.node_model.specs.Slots.{Running}
 use Rattle.run_model.specs.Logs.{before_step, in_drop, is_step, need_read, read_at, settings_of}
 use Rattle.run_model.specs.Drops.{key_in}
@@ -47,7 +47,7 @@ read_was past e r j b h = elim (first_was (before_step past r j) (if is_of r e &
     go false q d k = absurd (cc)
 
 -- a job that hasn't begun has read nothing
-future_unread : (s : SetUp) (past : List Entry) → OwnRun s past → (j : ℕ) → begun past s.number < j → (b : List Entry) → before_step past s.number j ≡ Some b → ⊥
+future_unread : (s : SetUp) (past : List Entry) → OwnRun s past → (j : ℕ) → begun_count past s.number < j → (b : List Entry) → before_step past s.number j ≡ Some b → ⊥
 future_unread s [] run j later b h = let bad : None ≡ Some b = h in cc
 future_unread s (e ∷ past) run j later b h =
     let before = begun_before past e s.number j later in

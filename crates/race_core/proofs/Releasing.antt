@@ -15,7 +15,7 @@ use Rattle.run_model.specs.Past.{Occurs, is_of}
 use Rattle.node_model.specs.Rows.{option_is}
 use Rattle.run_model.specs.Frames.{Way, on_way, sender_of, taken_count, way_of}
 use Rattle.node_model.specs.Slots.{job_of}
-use Rattle.run_model.specs.Drops.{Lock, done, vouch, vouches}
+use Rattle.run_model.specs.Drops.{Lock, is_done, vouch, vouches}
 use Rattle.race_core.proofs.Own.{MayRelease, Meets, MessagePast, uses}
 use Rattle.race_core.proofs.Flights.{occurs_always, occurs_earlier, sending}
 use Rattle.race_core.proofs.OwnFacts.{AskedBy, VouchesBy, asked_by, vouches_by}
@@ -35,7 +35,7 @@ end_job_of : (kind : EntryKind) (j : ℕ) (outcome : Outcome) → kind ≡ End j
 end_job_of kind j outcome h = ap job_of h
 
 pub released : (repos : List RepoView) (past : List Entry) (e : Entry) (r hold : ℕ) (key : List ℕ) → MessagePast repos past → Meets repos past e → is_of r e ≡ true → MayRelease r past e hold key
-    → (a j since : ℕ) (owner : By) (k : List ℕ) → Member (Lock hold since owner k) (vouches past r a j) → done past a j ≡ true
+    → (a j since : ℕ) (owner : By) (k : List ℕ) → Member (Lock hold since owner k) (vouches past r a j) → is_done past a j ≡ true
 released repos past e r hold key run m is rel a j since owner k member = finish found.0 found.1 found.2 found.3
   where
     w : Way
@@ -45,13 +45,13 @@ released repos past e r hold key run m is rel a j since owner k member = finish 
     found = vouches_occur past r a j (Lock hold since owner k) member
 
     -- the share that took the job's request
-    by_share : (p : List Entry) → Occurs past rel.share p → VouchesBy p rel.share r a j (Lock hold since owner k) → done past a j ≡ true
+    by_share : (p : List Entry) → Occurs past rel.share p → VouchesBy p rel.share r a j (Lock hold since owner k) → is_done past a j ≡ true
     by_share p o (end, kind, inl own) =
         let parts = share_parts hold hold rel.end end (Peer rel.f.peer rel.f.slot) owner key k (sym rel.share_is ∙ kind) in
         absurd (peer_not_job rel.f.peer rel.f.slot j (parts.1 ∙ own.1))
     by_share p o (end, kind, inr (peer, slot, owner_is, yes', at)) = by_asker (asked_by repos p rel.share r a j rel.taken_then (occurs_always (Meets repos) past rel.share p run o) rel.own rel.took yes').0
       where
-        by_asker : AskedBy p r a j rel.taken_then → done past a j ≡ true
+        by_asker : AskedBy p r a j rel.taken_then → is_done past a j ≡ true
         by_asker t =
             let w' = way_of r rel.taken_then in
             let parts = and_parts (is_of a t.it.entry) (option_is (job_of t.it.entry.kind) j) t.is_asked in
@@ -62,7 +62,7 @@ released repos past e r hold key run m is rel a j since owner k member = finish 
             let uses_first : uses w t.it.entry ≡ true = uses_sent w t.it.entry t.it.frame (subst (λ v. Member t.it.frame (on_way v t.it.entry)) (rel.same_epoch ∙ sym (up_is r rel.f rel.from_client)) t.sending.sends) in
             by_unlock parts.0 (some_option (job_of t.it.entry.kind) j parts.1) earlier (client ∙ a_is) a_is uses_first
           where
-            by_unlock : is_of a t.it.entry ≡ true → job_of t.it.entry.kind ≡ Some j → Occurs past t.it.entry t.it.before → w.client ≡ a → rel.f.peer ≡ a → uses w t.it.entry ≡ true → done past a j ≡ true
+            by_unlock : is_of a t.it.entry ≡ true → job_of t.it.entry.kind ≡ Some j → Occurs past t.it.entry t.it.before → w.client ≡ a → rel.f.peer ≡ a → uses w t.it.entry ≡ true → is_done past a j ≡ true
             by_unlock is_a job earlier client a_is uses_first =
                 let u = m.frames r rel.f is rel.takes_it in
                 let s = sending past w (taken_count past w) u.it u.next in
@@ -74,7 +74,7 @@ released repos past e r hold key run m is rel a j since owner k member = finish 
                 let same : end.0 ≡ j = same_job repos past w u.it.entry t.it.entry u.it.before t.it.before a end.0 j run client s.occurs earlier is_u is_a end_job job uses_last uses_first in
                 occurs_done past u.it.entry u.it.before a j end.1 s.occurs is_u (subst (λ i. u.it.entry.kind ≡ End i end.1) same end.2.0) end.2.1
 
-    finish : (x : Entry) (p : List Entry) → Occurs past x p → Member (Lock hold since owner k) (vouch p x r a j) → done past a j ≡ true
+    finish : (x : Entry) (p : List Entry) → Occurs past x p → Member (Lock hold since owner k) (vouch p x r a j) → is_done past a j ≡ true
     finish x p o v =
         let t = vouches_by p x r a j (Lock hold since owner k) v in
         let own_x = own_at repos past x p r run o t.0 in

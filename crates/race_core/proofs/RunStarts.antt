@@ -7,7 +7,7 @@ use Rattle.run_data.specs.declared.entry.Entry.{Entry}
 use Rattle.run_data.specs.declared.entry.EntryKind.{EntryKind}
 use Rattle.run_data.specs.declared.entry.EntryKind.TheVariants.{Begin}
 use Rattle.run_data.specs.declared.run.Run.{Run}
-use Rattle.run_model.specs.Past.{begun, is_of}
+use Rattle.run_model.specs.Past.{begun_count, is_of}
 use Rattle.run_model.specs.Safety.{past_at}
 use Rattle.run_data.specs.Repos.{IsSetUp}
 use Rattle.run_model.specs.Run.{IsRun, RunPast, paths_at, paths_begun, set_up}
@@ -26,13 +26,13 @@ begins run repos none = record { repos = repos; steps = subst (λ (es : List Ent
 -- ---- the start of a run
 
 -- an entry gives no other paths to a job that has begun
-paths_step : (run : Run) (place r j : ℕ) (e : Entry) → IsRun run → slice_get run.entries place ≡ Some e → j ≤ begun (past_at run place) r → paths_at run.tree (e ∷ past_at run place) r j ≡ paths_at run.tree (past_at run place) r j
+paths_step : (run : Run) (place r j : ℕ) (e : Entry) → IsRun run → slice_get run.entries place ≡ Some e → j ≤ begun_count (past_at run place) r → paths_at run.tree (e ∷ past_at run place) r j ≡ paths_at run.tree (past_at run place) r j
 paths_step run place r j e h at l = go (is_of r e) refl
   where
     not_begun : is_of r e ≡ true → (was : List (List ℕ)) (kind : EntryKind) → e.kind ≡ kind → paths_begun run.tree (length (past_at run place)) j was kind ≡ was
     not_begun is was (Begin job what) k =
         let p = part_at run place r e h at is in
-        let next : job ≡ begun (past_at run place) r + 1 = begins_next (set_up run r) (past_at run place) p.words e p.own job what k in
+        let next : job ≡ begun_count (past_at run place) r + 1 = begins_next (set_up run r) (past_at run place) p.words e p.own job what k in
         let other : (job == j) ≡ false = grind arith in
         rw other refl
     not_begun is was kind k = refl
@@ -41,13 +41,13 @@ paths_step run place r j e h at l = go (is_of r e) refl
     go true is = rw is (not_begun is (paths_at run.tree (past_at run place) r j) e.kind refl)
     go false is = rw is refl
 
-paths_later : (run : Run) (a b r j : ℕ) → IsRun run → a ≤ b → j ≤ begun (past_at run a) r → paths_at run.tree (past_at run b) r j ≡ paths_at run.tree (past_at run a) r j
+paths_later : (run : Run) (a b r j : ℕ) → IsRun run → a ≤ b → j ≤ begun_count (past_at run a) r → paths_at run.tree (past_at run b) r j ≡ paths_at run.tree (past_at run a) r j
 paths_later run a zero r j h le l = let same : a ≡ zero = omega (arith, le) in ap (λ n. paths_at run.tree (past_at run n) r j) (sym same)
 paths_later run a (suc b) r j h le l = go (λ k. paths_later run a b r j h k l) (below_or_last a b le)
   where
     step : a ≤ b → paths_at run.tree (past_at run (b + 1)) r j ≡ paths_at run.tree (past_at run b) r j
     step k = elim (there_or_end run.entries b) [
-      | inl t ↦ ap (λ past. paths_at run.tree past r j) (past_next run b t.0 t.1) ∙ paths_step run b r j t.0 h t.1 (omega (arith, l, grows (λ past. begun past r) (λ e past. begun_more e past r) run a b k))
+      | inl t ↦ ap (λ past. paths_at run.tree past r j) (past_next run b t.0 t.1) ∙ paths_step run b r j t.0 h t.1 (omega (arith, l, grows (λ past. begun_count past r) (λ e past. begun_more e past r) run a b k))
       | inr t ↦ ap (λ past. paths_at run.tree past r j) (past_end run.entries b t)
     ]
 

@@ -13,7 +13,7 @@ use Rattle.run_data.specs.declared.entry.EntryKind.TheVariants.{Begin}
 use Rattle.run_data.specs.declared.entry.FrameView.{FrameView}
 use Rattle.run_data.specs.declared.run.Run.{Run}
 use Rattle.run_data.specs.declared.run.TreeMark.{TreeMark}
-use Rattle.run_model.specs.Past.{Always, begun, is_of}
+use Rattle.run_model.specs.Past.{Always, begun_count, is_of}
 use Rattle.run_model.specs.Frames.{MayTake, Way, flying, on_way, sender_of, frames_sent, taken_count, way_of}
 use Rattle.race_core.proofs.OwnPasts.{mine, map_append}
 use Rattle.run_model.specs.Run.{FramesPart, IsRun, OnlyWaits, MayBe, Ordered, OwnPart, RunPast, RunStep, paths_at, paths_begun, set_up, tree_at}
@@ -55,7 +55,7 @@ next_paths run e step r j l = go (is_of r e) refl
     not_begun : is_of r e ≡ true → (was : List (List ℕ)) (kind : EntryKind) → e.kind ≡ kind → paths_begun run.tree (length past) j was kind ≡ was
     not_begun is was (Begin job what) k =
         let x = part (some_option e.repo r is) in
-        let next : job ≡ begun past r + 1 = begins_next (set_up run r) past x.0 e x.1 job what k in
+        let next : job ≡ begun_count past r + 1 = begins_next (set_up run r) past x.0 e x.1 job what k in
         let other : (job == j) ≡ false = grind arith in
         rw other refl
     not_begun is was kind k = refl

@@ -13,7 +13,7 @@ use Rattle.run_data.specs.declared.entry.EntryKind.{EntryKind}
 use Rattle.run_data.specs.declared.entry.EntryKind.TheVariants.{Crash, Log, Compact}
 use Rattle.run_data.specs.declared.entry.LogFile.{LogFile}
 use Rattle.node_model.specs.Clocks.{ClockSet, runs_on}
-use Rattle.run_model.specs.Past.{bar, begun, clock_set, holds, is_of, entry_count, present, set_after}
+use Rattle.run_model.specs.Past.{bar, begun_count, clock_set, holds, is_of, entry_count, present, set_after}
 use Rattle.node_model.specs.Slots.{is_begin}
 use Rattle.run_model.specs.Logs.{branch, branch_after, compact_file, lines_of_file}
 use Rattle.node_model.specs.Files.{compact_lines, lines_after}
@@ -98,7 +98,7 @@ after_is log_laws s past e is i =
     clocks (Crash clock) time was = refl
     clocks kind time was = refl
 
-    begins : (b c : Bool) → b ≡ true → (if b && c then begun past s.number + 1 else begun past s.number) ≡ (if c then begun past s.number + 1 else begun past s.number)
+    begins : (b c : Bool) → b ≡ true → (if b && c then begun_count past s.number + 1 else begun_count past s.number) ≡ (if c then begun_count past s.number + 1 else begun_count past s.number)
     begins true c is = refl
     begins false c is = absurd (cc)
 

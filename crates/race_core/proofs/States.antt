@@ -13,7 +13,7 @@ use Rattle.trust_groups.specs.Settings.{settings}
 use Rattle.run_data.specs.declared.entry.Entry.{Entry}
 use Rattle.run_data.specs.declared.entry.EntryKind.{EntryKind}
 use Rattle.run_data.specs.declared.entry.EntryKind.TheVariants.{Log, Compact}
-use Rattle.run_model.specs.Past.{begun, is_of}
+use Rattle.run_model.specs.Past.{begun_count, is_of}
 use Rattle.run_model.specs.Logs.{before_step, is_step, lines_of_file, read_at, settings_of}
 use Rattle.race_core.proofs.LogLemmas.{kept_reads_as_ever}
 use Rattle.node_model.specs.SetUp.{SetUp}
@@ -59,14 +59,14 @@ found_is s past h w m j is = go (find (λ x. x.number == j) (works past s.number
         let was = find_member (λ x. x.number == j) (works past s.number) v at in
         ap Some (same_number_same_work s past h.run v w was.0 m (eqb-true v.number j was.1 ∙ sym is))
 
-none_found : (s : SetUp) (past : List Entry) → OwnPast s past → (j : ℕ) → begun past s.number < j → find (λ x. x.number == j) (works past s.number) ≡ None
+none_found : (s : SetUp) (past : List Entry) → OwnPast s past → (j : ℕ) → begun_count past s.number < j → find (λ x. x.number == j) (works past s.number) ≡ None
 none_found s past h j later = go (find (λ x. x.number == j) (works past s.number)) refl
   where
     go : (o : Option Work) → find (λ x. x.number == j) (works past s.number) ≡ o → o ≡ None
     go None none = refl
     go (Some v) at =
         let was = find_member (λ x. x.number == j) (works past s.number) v at in
-        let below : v.number ≤ begun past s.number = number_begun s past h.run v was.0 in
+        let below : v.number ≤ begun_count past s.number = number_begun s past h.run v was.0 in
         let same : v.number ≡ j = eqb-true v.number j was.1 in
         absurd (omega arith)
 

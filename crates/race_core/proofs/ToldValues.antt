@@ -23,7 +23,7 @@ use Rattle.p2p_wire.specs.declared.message.Message.{Message}
 use Rattle.p2p_wire.specs.declared.message.Message.TheVariants.{CheckPresent, Failure}
 use Rattle.p2p_wire.specs.Messages.{message_of}
 use Rattle.run_model.specs.Said.{Said, CloseIt, Says, is_close, message_in}
-use Rattle.run_model.specs.Past.{Always, begun, begun_job, is_of, jobs, present}
+use Rattle.run_model.specs.Past.{Always, begun_count, begun_job, is_of, jobs, present}
 use Rattle.node_model.specs.Slots.{Running, job_of}
 use Rattle.node_model.specs.Rows.{option_is}
 use Rattle.run_model.specs.Frames.{Flying, Sent, is_job, last_request, said_of, sender, frames_sent, sent_of, taken_count, up_of, way_of}
@@ -615,11 +615,11 @@ LooksFit s past = Always (λ p e. is_of s.number e ≡ true → LookFit s p e) p
 
 module _ (reads_back : SentAreRead) (s : SetUp) where
   -- nothing was told to a job that hasn't begun, but that a connection was closed
-  future_lean : (past : List Entry) → OwnPast s past → (j : ℕ) → begun past s.number < j → (c : ℕ) → (c == s.number) ≡ false → Lean (told_cause past s.number j c)
+  future_lean : (past : List Entry) → OwnPast s past → (j : ℕ) → begun_count past s.number < j → (c : ℕ) → (c == s.number) ≡ false → Lean (told_cause past s.number j c)
   future_lean [] h j later c other = tt
   future_lean (e ∷ past) h j later c other = go (begun_before past e s.number j later) (future_lean past (earlier s past e h) j (begun_before past e s.number j later) c other) (is_of s.number e) refl
     where
-      go : begun past s.number < j → Lean (told_cause past s.number j c) → (b : Bool) → is_of s.number e ≡ b → Lean (told_cause (e ∷ past) s.number j c)
+      go : begun_count past s.number < j → Lean (told_cause past s.number j c) → (b : Bool) → is_of s.number e ≡ b → Lean (told_cause (e ∷ past) s.number j c)
       go before old false is = lean_more past e s.number j c (lean_none (_) (other_cause past e s.number j c (sender past s.number e.taken) is)) old
       go before old true is =
           let own = h.run.0 is in

@@ -14,10 +14,10 @@ use Rattle.run_data.specs.declared.entry.FrameView.{FrameView}
 use Rattle.run_data.specs.declared.entry.FrameText.{FrameText}
 use Rattle.run_data.specs.declared.entry.FrameText.TheVariants.{Opening, Closing, Bytes, Line}
 use Rattle.run_data.specs.declared.job.Outcome.{Outcome}
-use Rattle.run_model.specs.Past.{Decision, begun, decision, decided_after, is_of}
+use Rattle.run_model.specs.Past.{Decision, begun_count, decision, decided_after, is_of}
 use Rattle.node_model.specs.Slots.{is_begin, job_of}
 use Rattle.node_model.specs.Rows.{is_lost_ordered, option_is}
-use Rattle.run_model.specs.Drops.{done, done_kind}
+use Rattle.run_model.specs.Drops.{is_done, done_kind}
 use Rattle.run_model.specs.Logs.{is_step}
 use Rattle.run_model.specs.Frames
 use Rattle.run_model.specs.Frames.{is_job}
@@ -164,18 +164,18 @@ unasked_after past r e j is no_bar no_ask x = record {
 pub unasked_other : (past : List Entry) (r : ℕ) (e : Entry) (j : ℕ) → is_of r e ≡ false → Unasked past r j → Unasked (e ∷ past) r j
 unasked_other past r e j is x = record { undecided = rw is x.undecided; unasked = rw is x.unasked }
 
-pub done_other : (past : List Entry) (r : ℕ) (e : Entry) (j : ℕ) → is_of r e ≡ false → done past r j ≡ false → done (e ∷ past) r j ≡ false
+pub done_other : (past : List Entry) (r : ℕ) (e : Entry) (j : ℕ) → is_of r e ≡ false → is_done past r j ≡ false → is_done (e ∷ past) r j ≡ false
 done_other past r e j is x = rw is x
 
-pub done_after : (past : List Entry) (r : ℕ) (e : Entry) (j : ℕ) → done_kind j e.kind ≡ false → done past r j ≡ false → done (e ∷ past) r j ≡ false
-done_after past r e j no_end x = or_from (is_of r e && done_kind j e.kind) (done past r j) (both (is_of r e) (done_kind j e.kind) no_end) x
+pub done_after : (past : List Entry) (r : ℕ) (e : Entry) (j : ℕ) → done_kind j e.kind ≡ false → is_done past r j ≡ false → is_done (e ∷ past) r j ≡ false
+done_after past r e j no_end x = or_from (is_of r e && done_kind j e.kind) (is_done past r j) (both (is_of r e) (done_kind j e.kind) no_end) x
   where
     both : (a b : Bool) → b ≡ false → (a && b) ≡ false
     both true b h = h
     both false b h = refl
 
 -- an entry is no step of a job that hasn't begun
-pub not_yet : (s : SetUp) (past : List Entry) (words : ℕ → Option Word) (e : Entry) → OwnRun s past → OwnPart s past words e → (j : ℕ) → begun past s.number < j → is_step j e.kind ≡ false
+pub not_yet : (s : SetUp) (past : List Entry) (words : ℕ → Option Word) (e : Entry) → OwnRun s past → OwnPart s past words e → (j : ℕ) → begun_count past s.number < j → is_step j e.kind ≡ false
 not_yet s past words e run own j later = elim (made_by s past words e own) [
   | inl none ↦ none j
   | inr x ↦ go x (is_step j e.kind) refl
@@ -185,22 +185,22 @@ not_yet s past words e run own j later = elim (made_by s past words e own) [
     go x false is = refl
     go x true is =
         let same : x.w.number ≡ j = eqb-true x.w.number j (subst (λ o. option_is o j ≡ true) (stepped_job s past e x) (step_is_job j e.kind is)) in
-        let below : x.w.number ≤ begun past s.number = number_begun s past run x.w (stepped_runs s past e x) in
+        let below : x.w.number ≤ begun_count past s.number = number_begun s past run x.w (stepped_runs s past e x) in
         absurd (omega arith)
 
 -- nothing is said of a job that hasn't begun
 pub record Future (past : List Entry) (r j : ℕ) : Type 0 where
   pub nothing : Unasked past r j
-  pub open' : done past r j ≡ false
+  pub open' : is_done past r j ≡ false
 
-pub begun_before : (past : List Entry) (e : Entry) (r j : ℕ) → begun (e ∷ past) r < j → begun past r < j
+pub begun_before : (past : List Entry) (e : Entry) (r j : ℕ) → begun_count (e ∷ past) r < j → begun_count past r < j
 begun_before past e r j = go (is_of r e && is_begin e.kind)
   where
-    go : (b : Bool) → (if b then begun past r + 1 else begun past r) < j → begun past r < j
+    go : (b : Bool) → (if b then begun_count past r + 1 else begun_count past r) < j → begun_count past r < j
     go true h = omega arith
     go false h = h
 
-pub future : (s : SetUp) (past : List Entry) → OwnRun s past → (j : ℕ) → begun past s.number < j → Future past s.number j
+pub future : (s : SetUp) (past : List Entry) → OwnRun s past → (j : ℕ) → begun_count past s.number < j → Future past s.number j
 future s [] run j later = record { nothing = record { undecided = refl; unasked = refl }; open' = refl }
 future s (e ∷ past) run j later = go (future s past run.1 j (begun_before past e s.number j later)) (is_of s.number e) refl
   where
@@ -216,10 +216,10 @@ future s (e ∷ past) run j later = go (future s past run.1 j (begun_before past
 
 -- ---- running jobs
 
-pub begins_later : (s : SetUp) (past : List Entry) (e : Entry) → OwnRun s (e ∷ past) → is_of s.number e ≡ true → (w : Work) → Begins s past e w → begun past s.number < w.number
+pub begins_later : (s : SetUp) (past : List Entry) (e : Entry) → OwnRun s (e ∷ past) → is_of s.number e ≡ true → (w : Work) → Begins s past e w → begun_count past s.number < w.number
 begins_later s past e run is w b =
     let own = run.0 is in
-    let next : b.job ≡ begun past s.number + 1 = begins_next s past own.0 e own.1 b.job b.what b.kind_is in
+    let next : b.job ≡ begun_count past s.number + 1 = begins_next s past own.0 e own.1 b.job b.what b.kind_is in
     let number : w.number ≡ b.job = ap (λ (x : Work). x.number) b.work_is in
     omega arith
 
@@ -231,18 +231,18 @@ end_off j (ends_job i outcome) goes_on = absurd (goes_on i outcome refl)
 end_off j kind goes_on = refl
 
 -- a running job is not done
-pub runs_open : (s : SetUp) (past : List Entry) → OwnRun s past → (w : Work) → Member w (works past s.number) → done past s.number w.number ≡ false
+pub runs_open : (s : SetUp) (past : List Entry) → OwnRun s past → (w : Work) → Member w (works past s.number) → is_done past s.number w.number ≡ false
 runs_open s past run w m =
-    invariant s (λ p x. done p s.number x.number ≡ false) (λ p e is x n was. done_other p s.number e x.number is was) own past run w m
+    invariant s (λ p x. is_done p s.number x.number ≡ false) (λ p e is x n was. done_other p s.number e x.number is was) own past run w m
   where
-    own : (p : List Entry) (e : Entry) → OwnRun s (e ∷ p) → is_of s.number e ≡ true → ((x : Work) → Member x (works p s.number) → done p s.number x.number ≡ false)
-        → (x : Work) → Origin s p e x → done (e ∷ p) s.number x.number ≡ false
+    own : (p : List Entry) (e : Entry) → OwnRun s (e ∷ p) → is_of s.number e ≡ true → ((x : Work) → Member x (works p s.number) → is_done p s.number x.number ≡ false)
+        → (x : Work) → Origin s p e x → is_done (e ∷ p) s.number x.number ≡ false
     own p e r is was x (inl b) =
         done_after p s.number e x.number (still_done x.number e.kind (begin_still s p e x b)) (future s p r.1 x.number (begins_later s p e r is x b)).open'
     own p e r is was x (inr (inl b)) = done_after p s.number e x.number (still_done x.number e.kind b.still) (was x b.ran)
     own p e r is was x (inr (inr b)) =
         done_after p s.number e x.number (end_off x.number e.kind b.goes_on)
-        (subst (λ n. done p s.number n ≡ false) (sym (step_number s p e x b)) (was b.by.w (step_runs s p e x b)))
+        (subst (λ n. is_done p s.number n ≡ false) (sym (step_number s p e x b)) (was b.by.w (step_runs s p e x b)))
 
 -- ---- what a step at the first steps asks
 

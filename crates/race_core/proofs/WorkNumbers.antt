@@ -9,7 +9,7 @@ use Rattle.run_data.specs.declared.entry.EntryKind.{EntryKind}
 use Rattle.run_data.specs.declared.entry.EntryKind.TheVariants.{Begin, Crash, End as ends_job}
 use Rattle.run_data.specs.declared.job.Job.{Job}
 use Rattle.node_model.specs.Slots.{Running, free_slot, uses}
-use Rattle.run_model.specs.Past.{begun, is_of, jobs, jobs_after}
+use Rattle.run_model.specs.Past.{begun_count, is_of, jobs, jobs_after}
 use Rattle.annex_base.specs.declared.kinds.Word.{Word}
 use Rattle.node_model.specs.SetUp.{SetUp}
 use Rattle.run_model.specs.States.{state_of, works}
@@ -42,15 +42,15 @@ same_work (w ∷ ws) a x y (inr m) (inl n) e =
     absurd (omega arith)
 same_work (w ∷ ws) a x y (inr m) (inr n) e = same_work ws a.1 x y m n e
 
-pub works_numbered : (s : SetUp) (past : List Entry) → OwnRun s past → Numbered (begun past s.number) (map running (works past s.number))
-works_numbered s past run = subst (Numbered (begun past s.number)) (sym (jobs_are past s.number)) (jobs_numbered s past run)
+pub works_numbered : (s : SetUp) (past : List Entry) → OwnRun s past → Numbered (begun_count past s.number) (map running (works past s.number))
+works_numbered s past run = subst (Numbered (begun_count past s.number)) (sym (jobs_are past s.number)) (jobs_numbered s past run)
 
 pub same_number_same_work : (s : SetUp) (past : List Entry) → OwnRun s past → (x y : Work) → Member x (works past s.number) → Member y (works past s.number) → x.number ≡ y.number → x ≡ y
 same_number_same_work s past run x y m n e = same_work (works past s.number) (works_numbered s past run).falling x y m n e
 
-pub number_begun : (s : SetUp) (past : List Entry) → OwnRun s past → (w : Work) → Member w (works past s.number) → w.number ≤ begun past s.number
+pub number_begun : (s : SetUp) (past : List Entry) → OwnRun s past → (w : Work) → Member w (works past s.number) → w.number ≤ begun_count past s.number
 number_begun s past run w m =
-    each_map (λ (j : Running). j.number ≤ begun past s.number) running (works past s.number) w (works_numbered s past run).bounded m
+    each_map (λ (j : Running). j.number ≤ begun_count past s.number) running (works past s.number) w (works_numbered s past run).bounded m
 
 -- ---- slots
 

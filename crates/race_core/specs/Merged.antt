@@ -12,7 +12,7 @@ use Rattle.run_data.specs.declared.job.Job.{Job}
 use Rattle.run_data.specs.declared.job.Outcome.{Outcome}
 use Rattle.run_data.specs.declared.run.Run.{Run}
 use Rattle.run_data.specs.declared.run.TreeMark.{TreeMark}
-use Rattle.run_model.specs.Past.{Always, begun, is_of, now}
+use Rattle.run_model.specs.Past.{Always, begun_count, is_of, now}
 use Rattle.node_model.specs.Rows.{option_is}
 use Rattle.run_model.specs.Frames.{Flying, Way, sender_of, frames_sent, taken_count, taker_of, way_of}
 use Rattle.node_model.specs.Slots.{job_of}
@@ -46,8 +46,8 @@ merge_all [] = []
 merge_all (es ∷ ess) = merge es (merge_all ess)
 
 -- the run, and then what its repositories added, given in order of number
-abbrev pub merged : Run → List (List Entry) → Run
-merged run news = record run { entries = run.entries ++ merge_all news }
+abbrev pub merged_run : Run → List (List Entry) → Run
+merged_run run news = record run { entries = run.entries ++ merge_all news }
 
 -- ---- one repository's history
 
@@ -173,6 +173,6 @@ GivenIn tree paths e = (job : ℕ) (what : Job) → e.kind ≡ Begin job what �
 -- newest first, that their counts rise from this one on, and that their jobs have their paths in the tree at the end of the run
 pub record NodeKeeps (run : Run) (news : List (List Entry)) (r c : ℕ) (paths : ℕ → List (List ℕ)) (got : Way → List Letter) : Type 0 where
   pub kept : Kept (record { number = r; repos = run.repos; paths = paths }) got (history run news r)
-  pub before : (j : ℕ) → j ≤ begun (reverse run.entries) r → paths_at run.tree (reverse run.entries) r j ≡ paths j
+  pub before : (j : ℕ) → j ≤ begun_count (reverse run.entries) r → paths_at run.tree (reverse run.entries) r j ≡ paths j
   pub given : Each (GivenIn (tree_at run.tree (length run.entries)) paths) (reverse (new_of news r))
   pub next : Always (λ older e. IsNext r (now (reverse run.entries)) (last_count c older) e) (reverse (new_of news r))

@@ -9,7 +9,7 @@ ghost use Rattle.run_data.specs.declared.run.TreeMark.{TreeMark};
 ghost use Rattle.run_model.specs.Frames.{Way, sender_of, taker_of};
 ghost use Rattle.run_model.specs.Past.{is_of};
 ghost use Rattle.run_data.specs.Repos.{IsSetUp};
-ghost use Rattle.race_core.specs.Merged.{Came, IsMerge, Kept, Letter, MayMerge, NodeKeeps, history, last_count, letters, merged};
+ghost use Rattle.race_core.specs.Merged.{Came, IsMerge, Kept, Letter, MayMerge, NodeKeeps, history, last_count, letters, merged_run};
 ghost use Rattle.run_model.specs.Run.{FramesPart, IsRun, OnlyWaits, Ordered, OwnPart, RunStep, set_up};
 
 /// A run begins without entries, its repositories set up within their bounds. It stays a run by each entry that may come next:
@@ -36,7 +36,7 @@ pub fn runs_grow()
 /// any other list with the same entries in this order.
 pub fn merged_histories_are_runs()
     ensures merged { (run : Run) (news : List (List Entry)) (got : ℕ → Way → List Letter)
-        → IsRun run → MayMerge run news got → IsRun (merged run news) }
+        → IsRun run → MayMerge run news got → IsRun (merged_run run news) }
     ensures in_order { (run : Run) (news : List (List Entry)) (got : ℕ → Way → List Letter) (all : List Entry)
         → IsRun run → MayMerge run news got → IsMerge news all → IsRun (record run { entries = run.entries ++ all }) }
 {}
@@ -49,7 +49,7 @@ pub fn histories_of_nodes_are_runs()
         → Each (λ m. m.place ≤ length run.entries) run.tree → length news ≤ length run.repos → last_count 0 (reverse run.entries) ≤ c
         → ((r : ℕ) → r < length run.repos → NodeKeeps run news r c (paths r) (got r))
         → ((r q : ℕ) (w : Way) → r < length run.repos → taker_of w ≡ r → sender_of w ≡ q → Came (got r w) (history run news q) w)
-        → IsRun (merged run news) }
+        → IsRun (merged_run run news) }
     ensures block { (run : Run) → IsRun run → Each (λ m. m.place ≤ length run.entries) run.tree
         → MayMerge run [] (λ r. letters (reverse run.entries)) }
     ensures kept { (run : Run) → IsRun run → (r : ℕ)

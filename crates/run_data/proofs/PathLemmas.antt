@@ -10,7 +10,7 @@ use Rattle.hex.specs.Hex.{lower_digits, encode_with, encode_lower}
 use Rattle.md5.specs.Md5.{md5}
 use Rattle.annex_base.specs.Lists.{Member}
 use Rattle.annex_key.specs.KeyText.{is_backend, is_backend_byte, is_upper, field_text, chunk_text, size_letter, mtime_letter, chunk_size_letter, chunk_letter, dash, IsKeyText}
-use Rattle.annex_key.specs.KeyFile.{ampersand, percent, colon, slash, escaped, file_text}
+use Rattle.annex_key.specs.KeyFile.{ampersand, percent, colon, slash, escape_of, file_text}
 use Rattle.annex_key.specs.View.{unchunked_text}
 use Rattle.annex_base.specs.Lines.{newline, is_not_newline, is_one_line}
 use Rattle.annex_base.proofs.Lists.{list_all_append, list_all_parts, list_all_weaker}
@@ -87,7 +87,7 @@ key_one_line text is =
 
 -- ---- its file
 
-escaped_one_line : (b : ℕ) → is_not_newline b ≡ true → IsSingle (escaped b)
+escaped_one_line : (b : ℕ) → is_not_newline b ≡ true → IsSingle (escape_of b)
 escaped_one_line b is =
     elim (cases_Bool (b == ampersand)) [
       | inl one ↦ rw one refl
@@ -107,7 +107,7 @@ file_one_line : (text : List ℕ) → IsSingle text → IsSingle (file_text text
 file_one_line [] all = refl
 file_one_line (b ∷ bs) all =
     let both = and_parts (is_not_newline b) (list_all is_not_newline bs) all in
-    list_all_append is_not_newline (escaped b) (file_text bs) (escaped_one_line b both.0) (file_one_line bs both.1)
+    list_all_append is_not_newline (escape_of b) (file_text bs) (escaped_one_line b both.0) (file_one_line bs both.1)
 
 -- ---- its location log
 

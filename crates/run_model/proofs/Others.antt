@@ -10,7 +10,7 @@ use Rattle.run_data.specs.declared.run.RepoView.{RepoView}
 use Rattle.node_model.specs.Clocks.{runs_on}
 use Rattle.node_model.specs.Look.{first_of}
 use Rattle.node_model.specs.SetUp.{SetUp}
-use Rattle.run_model.specs.Past.{begun, clock_set, holds, is_of, entry_count}
+use Rattle.run_model.specs.Past.{begun_count, clock_set, holds, is_of, entry_count}
 use Rattle.run_model.specs.Logs.{before_step, branch, ever, in_drop, is_step, read_at, settings_of}
 use Rattle.run_model.specs.States.{owes, state_of, works}
 
@@ -25,7 +25,7 @@ module _ (past : List Entry) (e : Entry) (r : ℕ) (is : is_of r e ≡ false) wh
   made_other : entry_count (e ∷ past) r ≡ entry_count past r
   made_other = rw is refl
 
-  begun_other : begun (e ∷ past) r ≡ begun past r
+  begun_other : begun_count (e ∷ past) r ≡ begun_count past r
   begun_other = rw is refl
 
   holds_other : holds (e ∷ past) r ≡ holds past r

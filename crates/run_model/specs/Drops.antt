@@ -245,6 +245,6 @@ abbrev pub done_kind : ℕ → EntryKind → Bool
 done_kind j (End job outcome) = (job == j) && not (is_lost_ordered outcome)
 done_kind j _ = false
 
-abbrev pub done : List Entry → ℕ → ℕ → Bool
-done [] a j = false
-done (e ∷ past) a j = (is_of a e && done_kind j e.kind) || done past a j
+abbrev pub is_done : List Entry → ℕ → ℕ → Bool
+is_done [] a j = false
+is_done (e ∷ past) a j = (is_of a e && done_kind j e.kind) || is_done past a j

@@ -102,9 +102,9 @@ decision [] r j = None
 decision (e ∷ past) r j = if is_of r e then decided_after (length past) j (decision past r j) e.kind else decision past r j
 
 -- how many jobs the repository has begun
-abbrev pub begun : List Entry → ℕ → ℕ
-begun [] r = 0
-begun (e ∷ past) r = if is_of r e && is_begin e.kind then begun past r + 1 else begun past r
+abbrev pub begun_count : List Entry → ℕ → ℕ
+begun_count [] r = 0
+begun_count (e ∷ past) r = if is_of r e && is_begin e.kind then begun_count past r + 1 else begun_count past r
 
 -- how many entries the repository has made
 abbrev pub entry_count : List Entry → ℕ → ℕ

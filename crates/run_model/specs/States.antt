@@ -2,7 +2,7 @@
 -- that it makes next.
 use Rattle.std.specs.Prelude.{ℕ, if◌then◌else◌, List, [], ◌∷◌, Option, None}
 use Rattle.run_data.specs.declared.entry.Entry.{Entry}
-use Rattle.run_model.specs.Past.{is_of, bar, present, begun, clock, holds, entry_count}
+use Rattle.run_model.specs.Past.{is_of, bar, present, begun_count, clock, holds, entry_count}
 use Rattle.node_model.specs.Ends.{EndName, taken_at, sent_at, End, end_after, never}
 use Rattle.node_model.specs.Rows.{content_after}
 use Rattle.node_model.specs.Sessions.{Session, new_session, session_after}
@@ -52,7 +52,7 @@ state_of s past =
       clock = clock s.repos past r;
       wall = wall s.repos r;
       made = entry_count past r;
-      begun = begun past r;
+      begun = begun_count past r;
       present = present past r;
       bar = bar past r;
       content = content past r;

@@ -2,7 +2,7 @@
 
 ghost use Rattle.std.specs.Prelude.{◌≡◌, ◌<◌, List, [], length, nat_lt, IfOk, OnOk};
 ghost use Rattle.std.specs.Map.{keys_of};
-ghost use Rattle.log_lines.specs.Newest.{compacted};
+ghost use Rattle.log_lines.specs.Newest.{current_lines};
 ghost use Rattle.run_data.specs.declared.entry.Entry.{Entry};
 ghost use Rattle.run_data.specs.Files.{file_path, kind_of};
 ghost use Rattle.thin_model.specs.Logs.{branch, compact_lines, kept};

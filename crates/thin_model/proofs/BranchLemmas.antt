@@ -7,7 +7,7 @@ use Rattle.annex_base.proofs.TextOrder.{order_nil, order_cons, order_head, order
 use Rattle.annex_base.proofs.Lists.{Each-member, Each-from_members, Member-filter_parts}
 use Rattle.annex_base.proofs.Conditions.{by_test}
 use Rattle.log_lines.specs.declared.entry.LogKind.{LogKind}
-use Rattle.log_lines.specs.Newest.{compacted}
+use Rattle.log_lines.specs.Newest.{current_lines}
 use Rattle.log_lines.proofs.CompactLemmas.{compacted_among}
 use Rattle.union_merge.specs.LineSet.{IsLine, IsLineSet, union}
 use Rattle.union_merge.specs.Branch.{Files, IsBranch, file_at, lines_at, with_file, merged_file}
@@ -44,11 +44,11 @@ filter_in_order p (x ∷ xs) sorted =
     (λ t. rw t (order_cons x (filter p xs) (BeforeAll-from_members x (filter p xs) (λ y among. BeforeAll-member x y xs (order_head x xs sorted) (Member-filter_parts p xs y among).0)) rest))
     (λ t. rw t rest)
 
-pub compacted_lines : (kind : LogKind) (lines : Lines) → IsLineSet lines → Each IsLine (compacted kind lines)
-compacted_lines kind lines is = Each-from_members IsLine (compacted kind lines) (λ line among. Each-member IsLine lines line is.each (compacted_among kind lines line among).0)
+pub compacted_lines : (kind : LogKind) (lines : Lines) → IsLineSet lines → Each IsLine (current_lines kind lines)
+compacted_lines kind lines is = Each-from_members IsLine (current_lines kind lines) (λ line among. Each-member IsLine lines line is.each (compacted_among kind lines line among).0)
 
-pub compacted_set : (kind : LogKind) (lines : Lines) → IsLineSet lines → union [] (compacted kind lines) ≡ compacted kind lines
-compacted_set kind lines is = union-nil (compacted kind lines) (filter_in_order _ lines is.sorted)
+pub compacted_set : (kind : LogKind) (lines : Lines) → IsLineSet lines → union [] (current_lines kind lines) ≡ current_lines kind lines
+compacted_set kind lines is = union-nil (current_lines kind lines) (filter_in_order _ lines is.sorted)
 
 paths_are_lines : (files : Files) (path : List ℕ) → Each IsFile files → Member path (Paths files) → IsLine path
 paths_are_lines [] path all among = absurd among

@@ -4,7 +4,7 @@ use Rattle.std.specs.Prelude.{ℕ, Bool, false, ◌&&◌, if◌then◌else◌, L
 use Rattle.std.specs.Option.{unwrap_or}
 use Rattle.annex_base.specs.Settings.{Settings}
 use Rattle.drop_proof.specs.declared.rule.Need.{Need}
-use Rattle.log_lines.specs.Newest.{compacted}
+use Rattle.log_lines.specs.Newest.{current_lines}
 use Rattle.log_lines.specs.declared.entry.LogKind.{LogKind}
 use Rattle.union_merge.specs.Branch.{Files, file_at, lines_at, with_file, merged_file}
 use Rattle.trust_groups.specs.Settings.{settings}
@@ -31,7 +31,7 @@ ever (e ∷ past) r path = if is_of r e then added_by path e.kind e.lines ++ eve
 
 abbrev pub compact_lines : Option LogKind → List (List ℕ) → List (List ℕ)
 compact_lines None lines = lines
-compact_lines (Some kind) lines = compacted kind lines
+compact_lines (Some kind) lines = current_lines kind lines
 
 abbrev pub compact_file : LogFile → Files → Option (List (List ℕ)) → Files
 compact_file file files None = files

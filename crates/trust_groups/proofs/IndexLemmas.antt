@@ -18,7 +18,7 @@ use Rattle.annex_base.specs.ByteOrder.{path_cmp}
 use Rattle.annex_base.proofs.Conditions.{by_test}
 use Rattle.annex_base.proofs.TextOrder.{by_order}
 use Rattle.trust_groups.specs.Adding.{indices_with}
-use Rattle.trust_groups.specs.Reads.{Indices, index_at, seen}
+use Rattle.trust_groups.specs.Reads.{Indices, index_at, view_of}
 
 abbrev Row : Type 0
 Row = Vec ℕ Global × Index
@@ -65,7 +65,7 @@ put_other (e ∷ es) path other index apart_from =
     (λ o. by_test (is_eq (text_cmp other e.0)) (λ s. rw (o, s) refl) (λ s. rw (o, s) (put_other es path other index apart_from)))
 
 -- what the map is where the index that was lent is as it was
-pub lent_same : {T E : Type 0} (r : Result T E) (old new : List Row) (path : List ℕ) (was is : Index) → new ≡ set_value (λ k. is_eq (text_cmp path k.items)) old is → Some was ≡ lookup (λ k. is_eq (text_cmp path k.items)) old → is ≡ was → OnErr r (seen new ≡ seen old)
+pub lent_same : {T E : Type 0} (r : Result T E) (old new : List Row) (path : List ℕ) (was is : Index) → new ≡ set_value (λ k. is_eq (text_cmp path k.items)) old is → Some was ≡ lookup (λ k. is_eq (text_cmp path k.items)) old → is ≡ was → OnErr r (view_of new ≡ view_of old)
 lent_same (Ok v) old new path was is set found same = tt
 lent_same (Err e) old new path was is set found same =
-    ap seen (set ∙ ap (set_value (λ k. is_eq (text_cmp path k.items)) old) same ∙ set_value_same (λ k. is_eq (text_cmp path k.items)) old was (sym found))
+    ap view_of (set ∙ ap (set_value (λ k. is_eq (text_cmp path k.items)) old) same ∙ set_value_same (λ k. is_eq (text_cmp path k.items)) old was (sym found))

@@ -16,7 +16,7 @@ use Rattle.std.proofs.lemmas.Bool.{false_from_ne_true, false≢true}
 use Rattle.annex_base.specs.ByteOrder.{text_cmp}
 use Rattle.log_lines.specs.declared.entry.Entry.{Entry}
 use Rattle.log_lines.specs.declared.entry.LogKind.{LogKind}
-use Rattle.log_lines.specs.Newest.{newest, put_if}
+use Rattle.log_lines.specs.Newest.{newest, with_entry_if}
 use Rattle.log_lines.specs.Reading.{entry_of}
 use Rattle.log_lines.specs.Index.{Index, empty_index, index_with, index_of}
 use Rattle.annex_base.specs.ByteOrder.{path_cmp}
@@ -26,7 +26,7 @@ use Rattle.union_merge.specs.FileView as view
 use Rattle.union_merge.specs.Branch.{Files, IsBranch, lines_at}
 use Rattle.trust_groups.specs.Settings.{Lines}
 use Rattle.trust_groups.specs.Adding.{indices_and, indices_with, is_nil, lines_and}
-use Rattle.trust_groups.specs.Reads.{Indices, IsIndexOf, Reads, index_at, kind_at, lines_with, seen}
+use Rattle.trust_groups.specs.Reads.{Indices, IsIndexOf, Reads, index_at, kind_at, lines_with, view_of}
 use Rattle.trust_groups.proofs.IndexLemmas.{put_other, put_own, set_other, set_own}
 
 -- ---- the index of one file
@@ -35,7 +35,7 @@ abbrev indexed : LogKind → List Entry → Index
 indexed kind es = record { kind = kind; entries = es }
 
 index_more : (kind : LogKind) (lines : List (List ℕ)) (line : List ℕ) → index_with (index_of kind lines) line ≡ index_of kind (lines ++ line ∷ [])
-index_more kind lines line = ap (indexed kind) (sym (fold-append (λ es l. put_if es (entry_of kind l)) [] lines (line ∷ [])))
+index_more kind lines line = ap (indexed kind) (sym (fold-append (λ es l. with_entry_if es (entry_of kind l)) [] lines (line ∷ [])))
 
 nil_is : (es : List Entry) → is_nil es ≡ true → es ≡ []
 nil_is [] h = refl
@@ -82,15 +82,15 @@ first_reads es path line lines absent reads =
     (λ q apart. subst (λ (o : Option Index). IsIndexOf o (kind_at q) (lines q)) (sym (put_other es path q index apart)) (reads q))))
 
 -- the map with the index of a file that isn't there
-pub first_added : (old new : List (Vec ℕ Global × Index)) (key : Vec ℕ Global) (path : List ℕ) (was is : Index) → new ≡ insert_entry path_cmp old key was → key.items ≡ path → (was.entries ≡ [] → ⊥) → was ≡ is → seen new ≡ indices_and (seen old) path is
+pub first_added : (old new : List (Vec ℕ Global × Index)) (key : Vec ℕ Global) (path : List ℕ) (was is : Index) → new ≡ insert_entry path_cmp old key was → key.items ≡ path → (was.entries ≡ [] → ⊥) → was ≡ is → view_of new ≡ indices_and (view_of old) path is
 first_added old new key path was is put named some same =
-    ap seen put
+    ap view_of put
     ∙ shown-insert_entry old key was
-    ∙ ap (λ (p : List ℕ). insert_entry text_cmp (seen old) p was) named
+    ∙ ap (λ (p : List ℕ). insert_entry text_cmp (view_of old) p was) named
     ∙ sym (added (some_entries was.entries some))
-    ∙ ap (indices_and (seen old) path) same
+    ∙ ap (indices_and (view_of old) path) same
   where
-    added : is_nil was.entries ≡ false → indices_and (seen old) path was ≡ insert_entry text_cmp (seen old) path was
+    added : is_nil was.entries ≡ false → indices_and (view_of old) path was ≡ insert_entry text_cmp (view_of old) path was
     added h = rw h refl
 
 -- ---- more lines of one file
@@ -137,8 +137,8 @@ from_sorted lines (f ∷ fs) sorted path = from_sorted (lines_and lines f.0 f.1)
 from_branch : (files : Files) → IsBranch files → (path : List ℕ) → lines_from (λ path. []) files path ≡ lines_at files path
 from_branch files is path = from_sorted (λ path. []) files is.sorted path
 
-pub reads_none : (es : List (Vec ℕ Global × Index)) → es ≡ [] → Reads (seen es) (λ path. [])
-reads_none es none path = subst (λ (e : List (Vec ℕ Global × Index)). IsIndexOf (index_at (seen e) path) (kind_at path) []) (sym none) refl
+pub reads_none : (es : List (Vec ℕ Global × Index)) → es ≡ [] → Reads (view_of es) (λ path. [])
+reads_none es none path = subst (λ (e : List (Vec ℕ Global × Index)). IsIndexOf (index_at (view_of e) path) (kind_at path) []) (sym none) refl
 
 abbrev pub BranchRow : Type 0
 BranchRow = Vec ℕ Global × List (List ℕ)

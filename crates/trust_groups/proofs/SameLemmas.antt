@@ -4,7 +4,7 @@ use Rattle.log_lines.specs.declared.entry.LogKind.{LogKind}
 use Rattle.log_lines.specs.declared.entry.LogKind.TheVariants as kinds
 use Rattle.log_lines.specs.declared.entry.Topic.{Topic}
 use Rattle.log_lines.specs.declared.entry.Topic.TheVariants as topics
-use Rattle.log_lines.specs.Newest.{newest, entry_at, ReadAlike, compacted}
+use Rattle.log_lines.specs.Newest.{newest, entry_at, ReadAlike, current_lines}
 use Rattle.log_lines.specs.Keeping.{Keeps, SameLines}
 use Rattle.log_lines.specs.Files.{file_name}
 use Rattle.hash_dirs.specs.LogPath.{location_path}
@@ -59,7 +59,7 @@ abbrev pub ReadBySet : Type 0
 ReadBySet = (kind : LogKind) (xs ys : List (List ℕ)) → SameLines xs ys → ReadAlike kind xs ys
 
 abbrev pub ReadCompacted : Type 0
-ReadCompacted = (kind : LogKind) (lines : List (List ℕ)) → ReadAlike kind (compacted kind lines) lines
+ReadCompacted = (kind : LogKind) (lines : List (List ℕ)) → ReadAlike kind (current_lines kind lines) lines
 
 abbrev pub ReadKept : Type 0
 ReadKept = (kind : LogKind) (kept ever : List (List ℕ)) → Keeps kind kept ever → ReadAlike kind kept ever

@@ -2,7 +2,7 @@
 use Rattle.std.specs.Prelude.{◌≡◌, ◌≢◌, ◌⊎◌, ℕ, List}
 use Rattle.log_lines.specs.declared.entry.LogKind.{LogKind}
 use Rattle.log_lines.specs.declared.entry.LogKind.TheVariants as kinds
-use Rattle.log_lines.specs.Newest.{ReadAlike, compacted}
+use Rattle.log_lines.specs.Newest.{ReadAlike, current_lines}
 use Rattle.log_lines.specs.Keeping.{SameLines, Keeps}
 use Rattle.log_lines.specs.Files.{file_name}
 use Rattle.hash_dirs.specs.LogPath.{location_path}
@@ -24,7 +24,7 @@ pub record KeepsFiles (kept ever : Lines) : Type 0 where
 
 -- the file is as it was, or compacted
 abbrev pub MayCompact : LogKind → List (List ℕ) → List (List ℕ) → Type 0
-MayCompact kind old new = (new ≡ old) ⊎ (new ≡ compacted kind old)
+MayCompact kind old new = (new ≡ old) ⊎ (new ≡ current_lines kind old)
 
 -- some of the log files were compacted, each by its kind
 pub record CompactsFiles (old new : Lines) : Type 0 where

@@ -48,5 +48,5 @@ abbrev pub lines_with : Lines → List ℕ → List ℕ → Lines
 lines_with lines path line = λ other. if bytes_eq path other then (lines other ++ line ∷ []) else lines other
 
 -- a map's entries without where their paths lie in memory
-abbrev pub seen : List (Vec ℕ Global × Index) → Indices
-seen files = map (λ f. (f.0.items, f.1)) files
+abbrev pub view_of : List (Vec ℕ Global × Index) → Indices
+view_of files = map (λ f. (f.0.items, f.1)) files

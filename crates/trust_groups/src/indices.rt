@@ -4,7 +4,7 @@ ghost use Rattle.std.specs.Prelude.{◌≡◌, ◌++◌, ◌∷◌, [], ℕ, Lis
 ghost use Rattle.log_lines.specs.Index.{Index, empty_index, index_with};
 ghost use Rattle.trust_groups.specs.Settings.{Lines};
 ghost use Rattle.trust_groups.specs.Adding.{indices_and, indices_with, lines_and};
-ghost use Rattle.trust_groups.specs.Reads.{Reads, kind_at, index_at, lines_with, seen};
+ghost use Rattle.trust_groups.specs.Reads.{Reads, kind_at, index_at, lines_with, view_of};
 
 use annex_base::{Line, NoMemory};
 use log_lines::{LogKind, Newest};
@@ -24,9 +24,9 @@ fn add_known(
     path: &[u8],
     line: &Line,
 ) -> Result<bool, NoMemory>
-    ensures unknown { IfOk result (λ known. known ≡ false → (index_at (seen files.old.entries) path.now ≡ None) × (seen files.new.entries ≡ seen files.old.entries)) }
-    ensures known { IfOk result (λ known. known ≡ true → (index : Index) × (index_at (seen files.old.entries) path.now ≡ Some index) × (seen files.new.entries ≡ indices_with (seen files.old.entries) path.now (index_with index line.now))) }
-    ensures err { OnErr result (seen files.new.entries ≡ seen files.old.entries) }
+    ensures unknown { IfOk result (λ known. known ≡ false → (index_at (view_of files.old.entries) path.now ≡ None) × (view_of files.new.entries ≡ view_of files.old.entries)) }
+    ensures known { IfOk result (λ known. known ≡ true → (index : Index) × (index_at (view_of files.old.entries) path.now ≡ Some index) × (view_of files.new.entries ≡ indices_with (view_of files.old.entries) path.now (index_with index line.now))) }
+    ensures err { OnErr result (view_of files.new.entries ≡ view_of files.old.entries) }
 {
     match files.get_mut(path) {
         Some(index) => {
@@ -44,8 +44,8 @@ fn add_first(
     path: &[u8],
     line: &Line,
 ) -> Result<(), NoMemory>
-    ensures ok { OnOk result (seen files.new.entries ≡ indices_and (seen files.old.entries) path.now (index_with (empty_index (kind_at path.now)) line.now)) }
-    ensures err { OnErr result (seen files.new.entries ≡ seen files.old.entries) }
+    ensures ok { OnOk result (view_of files.new.entries ≡ indices_and (view_of files.old.entries) path.now (index_with (empty_index (kind_at path.now)) line.now)) }
+    ensures err { OnErr result (view_of files.new.entries ≡ view_of files.old.entries) }
 {
     let mut index = Newest::new(alloc, kind_at(path));
     index.add(line)?;
@@ -63,8 +63,8 @@ pub(crate) fn add_line(
     path: &[u8],
     line: &Line,
 ) -> Result<(), NoMemory>
-    ensures reads { OnOk result ((lines : Lines) → Reads (seen files.old.entries) lines → Reads (seen files.new.entries) (lines_with lines path.now line.now)) }
-    ensures err { OnErr result (seen files.new.entries ≡ seen files.old.entries) }
+    ensures reads { OnOk result ((lines : Lines) → Reads (view_of files.old.entries) lines → Reads (view_of files.new.entries) (lines_with lines path.now line.now)) }
+    ensures err { OnErr result (view_of files.new.entries ≡ view_of files.old.entries) }
 {
     if add_known(files, path, line)? {
         return Ok(());
@@ -79,7 +79,7 @@ pub(crate) fn add_file(
     path: &[u8],
     more: &[Line],
 ) -> Result<(), NoMemory>
-    ensures { OnOk result ((lines : Lines) → Reads (seen files.old.entries) lines → Reads (seen files.new.entries) (lines_and lines path.now more.now)) }
+    ensures { OnOk result ((lines : Lines) → Reads (view_of files.old.entries) lines → Reads (view_of files.new.entries) (lines_and lines path.now more.now)) }
 {
     for line in more {
         add_line(files, alloc, path, line)?;

@@ -10,7 +10,7 @@ ghost use Rattle.log_lines.specs.Files.{file_name};
 ghost use Rattle.union_merge.specs.Branch.{lines_at};
 ghost use Rattle.trust_groups.specs.Settings.{Lines, settings};
 ghost use Rattle.trust_groups.specs.Alike.{IsNoLog};
-ghost use Rattle.trust_groups.specs.Reads.{Reads, index_at, lines_with, seen};
+ghost use Rattle.trust_groups.specs.Reads.{Reads, index_at, lines_with, view_of};
 ghost use Rattle.trust_groups.specs.View.{settings_of};
 
 use crate::claims::claims_in;
@@ -42,11 +42,11 @@ impl Model for Settings {
     ghost use Rattle.std.specs.Prelude.{List, ℕ};
     ghost use Rattle.log_lines.specs.Index.{Index};
     ghost use Rattle.trust_groups.specs.Alike.{IsNoLog};
-    ghost use Rattle.trust_groups.specs.Reads.{seen};
+    ghost use Rattle.trust_groups.specs.Reads.{view_of};
 
     ghost Value = { List (List ℕ × Index) };
 
-    ghost view = { λ s. seen s.files.entries };
+    ghost view = { λ s. view_of s.files.entries };
 }
 
 impl Settings {

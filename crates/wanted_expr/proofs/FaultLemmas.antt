@@ -8,8 +8,8 @@ use Rattle.wanted_expr.specs.declared.fault.ExprFault.TheVariants.{BadParen, NoO
 use Rattle.wanted_expr.specs.declared.lexeme.Operator.TheVariants.{And}
 use Rattle.wanted_expr.specs.declared.lexeme.Lexeme.{Lexeme}
 use Rattle.wanted_expr.specs.declared.lexeme.Lexeme.TheVariants.{Open, Close, Not, Infix, Term}
-use Rattle.wanted_expr.specs.Expressions.{NextIs, IsEnd, BeginsWith, IsFaultAt, IsUnbalanced, LacksTerm, open_after, opened, outermost}
-use Rattle.wanted_expr.specs.Formula.{Formula, Atom, Negation, joined}
+use Rattle.wanted_expr.specs.Expressions.{NextIs, IsEnd, BeginsWith, IsFaultAt, IsUnbalanced, LacksTerm, open_after, open_parens, outermost}
+use Rattle.wanted_expr.specs.Formula.{Formula, Atom, Negation, combination}
 use Rattle.wanted_expr.specs.Reading.{Pending, Negating, Grouping, Joining, State, Awaiting, Having, EndsHere, deeper, finish, has_pending, no_term, open_count, open_places, ready, run, settle, step, whole}
 use Rattle.wanted_expr.specs.Tokens.{IsNoLexeme}
 use Rattle.wanted_expr.proofs.ReadLemmas.{err_ok, err_same, ok_err, ok_same, run_bind}
@@ -25,7 +25,7 @@ settle_opened : (k : List Pending) (f : Formula) → open_places (pending_in (se
 settle_opened [] f = refl
 settle_opened (Negating ∷ k) f = settle_opened k (Negation f)
 settle_opened (Grouping at ∷ k) f = refl
-settle_opened (Joining left operator ∷ k) f = settle_opened k (joined (Some operator) left f)
+settle_opened (Joining left operator ∷ k) f = settle_opened k (combination (Some operator) left f)
 
 ready_opened : (s : State) → open_places (ready s) ≡ open_places (pending_in s)
 ready_opened (Awaiting k) = refl
@@ -46,13 +46,13 @@ step_opened at Close (Having f (Negating ∷ k)) t e = absurd (err_ok (BadParen 
 step_opened at Close (Having f (Joining left operator ∷ k)) t e = absurd (err_ok (BadParen at) t e)
 step_opened at Close (Having f (Grouping place ∷ k)) t e = sym (settle_opened k f) ∙ ap (λ (u : State). open_places (pending_in u)) (ok_same (settle f k) t e)
 
-run_opened : (xs : List (ℕ × Lexeme)) (s t : State) → run xs s ≡ Ok t → opened (open_places (pending_in s)) xs ≡ open_places (pending_in t)
+run_opened : (xs : List (ℕ × Lexeme)) (s t : State) → run xs s ≡ Ok t → open_parens (open_places (pending_in s)) xs ≡ open_places (pending_in t)
 run_opened [] s t e = ap (λ (u : State). open_places (pending_in u)) (ok_same s t e)
 run_opened (x ∷ xs) s t e =
     let k = run_bind (step x.0 x.1 s) xs t e in
-    ap (λ (w : List ℕ). opened w xs) (step_opened x.0 x.1 s k.0 k.1) ∙ run_opened xs k.0 t k.2
+    ap (λ (w : List ℕ). open_parens w xs) (step_opened x.0 x.1 s k.0 k.1) ∙ run_opened xs k.0 t k.2
 
-pub opened_is : (xs : List (ℕ × Lexeme)) (t : State) → run xs (Awaiting []) ≡ Ok t → opened [] xs ≡ open_places (pending_in t)
+pub opened_is : (xs : List (ℕ × Lexeme)) (t : State) → run xs (Awaiting []) ≡ Ok t → open_parens [] xs ≡ open_places (pending_in t)
 opened_is xs t e = run_opened xs (Awaiting []) t e
 
 -- ---- where an operator can't stand
@@ -137,7 +137,7 @@ no_places (Negating ∷ k) none e = absurd (true≢false none)
 no_places (Joining left operator ∷ k) none e = absurd (true≢false none)
 no_places (Grouping at ∷ k) none e = absurd cc
 
-never_opened : (read : List (ℕ × Lexeme)) (s : State) (at : ℕ) → run read (Awaiting []) ≡ Ok s → opened [] read ≡ [] → step at Close s ≡ Err (BadParen at)
+never_opened : (read : List (ℕ × Lexeme)) (s : State) (at : ℕ) → run read (Awaiting []) ≡ Ok s → open_parens [] read ≡ [] → step at Close s ≡ Err (BadParen at)
 never_opened read (Awaiting k) at e h = ap (λ (w : List ℕ). Err (no_term at w)) (sym (opened_is read (Awaiting k) e) ∙ h)
 never_opened read (Having f k) at e h =
     ap (λ (w : List Pending). step at Close (Having f w)) (no_places k (none_pending f k _ (read_sound read (Having f k) e)) (sym (opened_is read (Having f k) e) ∙ h))

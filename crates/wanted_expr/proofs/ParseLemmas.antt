@@ -3,7 +3,7 @@ use Rattle.std.proofs.Common.{◌≡◌, ◌⊎◌, inl, inr, ℕ, ◌≤◌, Li
 use Rattle.wanted_expr.specs.declared.fault.ExprFault.{ExprFault}
 use Rattle.wanted_expr.specs.declared.fault.ExprFault.TheVariants.{BadParen, NoOperand, UnknownWord, BadValue, OpenQuote, TooDeep, TooLong, NoMemory}
 use Rattle.wanted_expr.specs.declared.lexeme.Lexeme.{Lexeme}
-use Rattle.wanted_expr.specs.Expressions.{IsExpression, IsFirstFault, IsCause, outermost, unplaced}
+use Rattle.wanted_expr.specs.Expressions.{IsExpression, IsFirstFault, IsCause, outermost, without_places}
 use Rattle.wanted_expr.specs.Formula.{Formula}
 use Rattle.wanted_expr.specs.Reading.{Pending, State, Awaiting, Having, Answers, Ends, EndsHere, finish, open_places, run, whole}
 use Rattle.wanted_expr.specs.Syntax.{Spells}
@@ -30,13 +30,13 @@ whole_ok : (f g : Formula) (o : Option ℕ) → Ok f ≡ whole g o → (o ≡ No
 whole_ok f g None e = (refl, ok_same f g e)
 whole_ok f g (Some at) e = absurd (ok_err f (BadParen at) e)
 
-finished : (total : ℕ) (read : List (ℕ × Lexeme)) (s : State) (f : Formula) → run read (Awaiting []) ≡ Ok s → Ok f ≡ finish total s → Spells (unplaced read) f
+finished : (total : ℕ) (read : List (ℕ × Lexeme)) (s : State) (f : Formula) → run read (Awaiting []) ≡ Ok s → Ok f ≡ finish total s → Spells (without_places read) f
 finished total read (Awaiting k) f r e = absurd (ok_err f (NoOperand total) e)
 finished total read (Having g k) f r e =
     let w = whole_ok f g (outermost (open_places k)) e in
     let sound = read_sound read (Having g k) r in
-    let none : k ≡ [] = no_places k (none_pending g k (unplaced read) sound) (none_open (open_places k) w.0) in
-    subst (Spells (unplaced read)) (sym w.1) (ended_spells g (unplaced read) (read_sound read (Having g []) (r ∙ ap (λ (j : List Pending). Ok (Having g j)) none)))
+    let none : k ≡ [] = no_places k (none_pending g k (without_places read) sound) (none_open (open_places k) w.0) in
+    subst (Spells (without_places read)) (sym w.1) (ended_spells g (without_places read) (read_sound read (Having g []) (r ∙ ap (λ (j : List Pending). Ok (Having g j)) none)))
 
 pub ends_expression : (text : List ℕ) (f : Formula) → length text ≤ 4096 → Ends text (Ok f) → IsExpression text f
 ends_expression text f short h = go h.ends

@@ -11,10 +11,10 @@ use Rattle.wanted_expr.specs.declared.lexeme.Operator.{Operator}
 use Rattle.wanted_expr.specs.declared.lexeme.Operator.TheVariants.{And}
 use Rattle.wanted_expr.specs.declared.lexeme.Lexeme.{Lexeme}
 use Rattle.wanted_expr.specs.declared.lexeme.Lexeme.TheVariants.{Open, Close, Not, Infix, Term}
-use Rattle.wanted_expr.specs.Expressions.{unplaced}
-use Rattle.wanted_expr.specs.Formula.{Formula, Atom, Negation, joined}
+use Rattle.wanted_expr.specs.Expressions.{without_places}
+use Rattle.wanted_expr.specs.Formula.{Formula, Atom, Negation, combination}
 use Rattle.wanted_expr.specs.Reading.{Pending, Negating, Grouping, Joining, State, Awaiting, Having, deeper, has_pending, open_count, ready, run, settle, step}
-use Rattle.wanted_expr.specs.Syntax.{Syntax, Plain, Negated, Grouped, Joined, Spells, Begins, depth, is_grammatical, is_term, lexemes, said, sign}
+use Rattle.wanted_expr.specs.Syntax.{Syntax, Plain, Negated, Grouped, Joined, Spells, Begins, depth, is_grammatical, is_term, lexemes, formula_said, sign}
 use Rattle.wanted_expr.proofs.GrammarLemmas.{spelled_is_read, unplaced_append, within}
 use Rattle.wanted_expr.proofs.ReadLemmas.{ok_same, run_append, run_bind, run_one}
 use Rattle.wanted_expr.proofs.StackLemmas.{settled}
@@ -23,7 +23,7 @@ abbrev pub operator_of : Option Operator → Operator
 operator_of None = And
 operator_of (Some operator) = operator
 
-joined_by : (between : Option Operator) (a b : Formula) → joined (Some (operator_of between)) a b ≡ joined between a b
+joined_by : (between : Option Operator) (a b : Formula) → combination (Some (operator_of between)) a b ≡ combination between a b
 joined_by None a b = refl
 joined_by (Some operator) a b = refl
 
@@ -31,7 +31,7 @@ joined_by (Some operator) a b = refl
 pub record Fitting (k : List Pending) (s : Syntax) (f : Formula) : Type 0 where
   pub grammatical : is_grammatical s ≡ true
   pub small : depth s + open_count k ≤ 64
-  pub says : f ≡ said s
+  pub says : f ≡ formula_said s
 
 -- the lexemes that led to what awaits its term
 pub record Operand (k : List Pending) (before front : List Lexeme) (left : Formula) (operator : Operator) : Type 0 where
@@ -63,17 +63,17 @@ Sound (Having f k) front = Complete k front f
 sound_at : (s : State) (front other : List Lexeme) → front ≡ other → Sound s front → Sound s other
 sound_at s front other e h = subst (Sound s) e h
 
-settle_sound : (k : List Pending) (before : List Lexeme) (s : Syntax) → is_term s ≡ true → is_grammatical s ≡ true → depth s + open_count k ≤ 64 → Stands k before → Sound (settle (said s) k) (before ++ lexemes s)
+settle_sound : (k : List Pending) (before : List Lexeme) (s : Syntax) → is_term s ≡ true → is_grammatical s ≡ true → depth s + open_count k ≤ 64 → Stands k before → Sound (settle (formula_said s) k) (before ++ lexemes s)
 settle_sound [] before s t g small st = record { before = before; syntax_of = s; spelled = refl; fitting = record { grammatical = g; small = small; says = refl }; settled_there = refl; stands = st }
 settle_sound (Negating ∷ k) before s t g small st =
-    sound_at (settle (Negation (said s)) k) (st.0 ++ lexemes (Negated s)) (before ++ lexemes s)
+    sound_at (settle (Negation (formula_said s)) k) (st.0 ++ lexemes (Negated s)) (before ++ lexemes s)
     (sym (append_assoc st.0 (Not ∷ []) (lexemes s)) ∙ ap (λ (w : List Lexeme). w ++ lexemes s) (sym st.1))
     (settle_sound k st.0 (Negated s) refl (and_from (is_term s) (is_grammatical s) t g) (omega (arith, small)) st.2)
 settle_sound (Grouping at ∷ k) before s t g small st = record { before = before; syntax_of = s; spelled = refl; fitting = record { grammatical = g; small = small; says = refl }; settled_there = refl; stands = st }
 settle_sound (Joining left operator ∷ k) before s t g small st =
     let o = st.1 in
-    let whole_is : joined (Some operator) left (said s) ≡ said (Joined o.syntax_of o.between s) = ap (λ (x : Operator). joined (Some x) left (said s)) o.operator_is ∙ (joined_by o.between left (said s) ∙ ap (λ (x : Formula). joined o.between x (said s)) o.fitting.says) in
-    subst (λ (u : State). Sound u (before ++ lexemes s)) (sym (settled (joined (Some operator) left (said s)) k o.settled_there)) (record {
+    let whole_is : combination (Some operator) left (formula_said s) ≡ formula_said (Joined o.syntax_of o.between s) = ap (λ (x : Operator). combination (Some x) left (formula_said s)) o.operator_is ∙ (joined_by o.between left (formula_said s) ∙ ap (λ (x : Formula). combination o.between x (formula_said s)) o.fitting.says) in
+    subst (λ (u : State). Sound u (before ++ lexemes s)) (sym (settled (combination (Some operator) left (formula_said s)) k o.settled_there)) (record {
       before = st.0;
       syntax_of = Joined o.syntax_of o.between s;
       spelled = ap (λ (w : List Lexeme). w ++ lexemes s) o.spelled ∙ (append_assoc st.0 (lexemes o.syntax_of ++ sign o.between) (lexemes s) ∙ ap (λ (w : List Lexeme). st.0 ++ w) (append_assoc (lexemes o.syntax_of) (sign o.between) (lexemes s)));
@@ -141,20 +141,20 @@ step_sound at Close (Having f (Grouping place ∷ k)) t front h e =
     let spelled : st.0 ++ lexemes (Grouped s) ≡ front ++ Close ∷ [] =
     sym (ap (λ (w : List Lexeme). w ++ Close ∷ []) (h.spelled ∙ (ap (λ (w : List Lexeme). w ++ lexemes s) st.1 ∙ append_assoc st.0 (Open ∷ []) (lexemes s))) ∙ append_assoc st.0 (Open ∷ lexemes s) (Close ∷ []))
     in
-    let ends : settle (said (Grouped s)) k ≡ t = ap (λ (g : Formula). settle g k) (sym h.fitting.says) ∙ ok_same (settle f k) t e in
-    subst (λ (u : State). Sound u (front ++ Close ∷ [])) ends (sound_at (settle (said (Grouped s)) k) (st.0 ++ lexemes (Grouped s)) (front ++ Close ∷ []) spelled (settle_sound k st.0 (Grouped s) refl h.fitting.grammatical (omega (arith, h.fitting.small)) st.2))
+    let ends : settle (formula_said (Grouped s)) k ≡ t = ap (λ (g : Formula). settle g k) (sym h.fitting.says) ∙ ok_same (settle f k) t e in
+    subst (λ (u : State). Sound u (front ++ Close ∷ [])) ends (sound_at (settle (formula_said (Grouped s)) k) (st.0 ++ lexemes (Grouped s)) (front ++ Close ∷ []) spelled (settle_sound k st.0 (Grouped s) refl h.fitting.grammatical (omega (arith, h.fitting.small)) st.2))
 
-pub run_sound : (xs : List (ℕ × Lexeme)) (s t : State) (front : List Lexeme) → Sound s front → run xs s ≡ Ok t → Sound t (front ++ unplaced xs)
+pub run_sound : (xs : List (ℕ × Lexeme)) (s t : State) (front : List Lexeme) → Sound s front → run xs s ≡ Ok t → Sound t (front ++ without_places xs)
 run_sound [] s t front h e = sound_at t front (front ++ []) (sym (append-nil front)) (subst (λ (u : State). Sound u front) (ok_same s t e) h)
 run_sound (x ∷ xs) s t front h e =
     let k = run_bind (step x.0 x.1 s) xs t e in
-    sound_at t ((front ++ x.1 ∷ []) ++ unplaced xs) (front ++ unplaced (x ∷ xs)) (append_assoc front (x.1 ∷ []) (unplaced xs))
+    sound_at t ((front ++ x.1 ∷ []) ++ without_places xs) (front ++ without_places (x ∷ xs)) (append_assoc front (x.1 ∷ []) (without_places xs))
     (run_sound xs k.0 t (front ++ x.1 ∷ []) (step_sound x.0 x.1 s k.0 front h k.1) k.2)
 
 pub start_sound : Sound (Awaiting []) []
 start_sound = (omega arith, refl)
 
-pub read_sound : (xs : List (ℕ × Lexeme)) (t : State) → run xs (Awaiting []) ≡ Ok t → Sound t (unplaced xs)
+pub read_sound : (xs : List (ℕ × Lexeme)) (t : State) → run xs (Awaiting []) ≡ Ok t → Sound t (without_places xs)
 read_sound xs t e = run_sound xs (Awaiting []) t [] start_sound e
 
 pub ended_spells : (f : Formula) (front : List Lexeme) → Sound (Having f []) front → Spells front f
@@ -175,7 +175,7 @@ close_all : (k : List Pending) (f : Formula) → (g : Formula) × (run (closings
 close_all [] f = (f, refl)
 close_all (Negating ∷ k) f = close_all k (Negation f)
 close_all (Grouping at ∷ k) f = close_all k f
-close_all (Joining left operator ∷ k) f = close_all k (joined (Some operator) left f)
+close_all (Joining left operator ∷ k) f = close_all k (combination (Some operator) left f)
 
 goes_on : (s : State) (front : List Lexeme) → Sound s front → (more : List (ℕ × Lexeme)) × (g : Formula) × (run more s ≡ Ok (Having g []))
 goes_on (Awaiting k) front h = let e = close_all k (Atom Anything) in ((0, Term Anything) ∷ closings k, e.0, e.1)
@@ -183,11 +183,11 @@ goes_on (Having f k) front h =
     let e = close_all k f in
     (closings k, e.0, ap (run (closings k)) (sym (settled f k h.settled_there)) ∙ e.1)
 
-pub begins : (xs : List (ℕ × Lexeme)) (s : State) → run xs (Awaiting []) ≡ Ok s → Begins (unplaced xs)
+pub begins : (xs : List (ℕ × Lexeme)) (s : State) → run xs (Awaiting []) ≡ Ok s → Begins (without_places xs)
 begins xs s e =
-    let k = goes_on s (unplaced xs) (read_sound xs s e) in
+    let k = goes_on s (without_places xs) (read_sound xs s e) in
     let all : run (xs ++ k.0) (Awaiting []) ≡ Ok (Having k.1 []) = run_append xs k.0 (Awaiting []) s e ∙ k.2 in
-    record { more = unplaced k.0; formula = k.1; spells = subst (λ (w : List Lexeme). Spells w k.1) (unplaced_append xs k.0) (ended_spells k.1 (unplaced (xs ++ k.0)) (read_sound (xs ++ k.0) (Having k.1 []) all)) }
+    record { more = without_places k.0; formula = k.1; spells = subst (λ (w : List Lexeme). Spells w k.1) (unplaced_append xs k.0) (ended_spells k.1 (without_places (xs ++ k.0)) (read_sound (xs ++ k.0) (Having k.1 []) all)) }
 
 -- what some expression begins with is read
 
@@ -195,7 +195,7 @@ abbrev placed : List Lexeme → List (ℕ × Lexeme)
 placed [] = []
 placed (l ∷ ls) = (0, l) ∷ placed ls
 
-unplaced_placed : (ls : List Lexeme) → unplaced (placed ls) ≡ ls
+unplaced_placed : (ls : List Lexeme) → without_places (placed ls) ≡ ls
 unplaced_placed [] = refl
 unplaced_placed (l ∷ ls) = ap (λ (w : List Lexeme). l ∷ w) (unplaced_placed ls)
 
@@ -206,18 +206,18 @@ run_front (x ∷ xs) ys s t e =
     let j = run_front xs ys k.0 t k.2 in
     (j.0, ap (λ (r : Result State ExprFault). r >>= run xs) k.1 ∙ j.1)
 
-pub begun : (xs : List (ℕ × Lexeme)) → Begins (unplaced xs) → (s : State) × (run xs (Awaiting []) ≡ Ok s)
+pub begun : (xs : List (ℕ × Lexeme)) → Begins (without_places xs) → (s : State) × (run xs (Awaiting []) ≡ Ok s)
 begun xs b =
-    let spelled : Spells (unplaced (xs ++ placed b.more)) b.formula = subst (λ (w : List Lexeme). Spells w b.formula) (sym (unplaced_append xs (placed b.more) ∙ ap (λ (w : List Lexeme). unplaced xs ++ w) (unplaced_placed b.more))) b.spells in
+    let spelled : Spells (without_places (xs ++ placed b.more)) b.formula = subst (λ (w : List Lexeme). Spells w b.formula) (sym (unplaced_append xs (placed b.more) ∙ ap (λ (w : List Lexeme). without_places xs ++ w) (unplaced_placed b.more))) b.spells in
     run_front xs (placed b.more) (Awaiting []) (Having b.formula []) (spelled_is_read (xs ++ placed b.more) b.formula spelled)
 
 -- one more lexeme
 
-pub begins_with : (xs : List (ℕ × Lexeme)) (at : ℕ) (l : Lexeme) (s t : State) → run xs (Awaiting []) ≡ Ok s → step at l s ≡ Ok t → Begins (unplaced xs ++ l ∷ [])
+pub begins_with : (xs : List (ℕ × Lexeme)) (at : ℕ) (l : Lexeme) (s t : State) → run xs (Awaiting []) ≡ Ok s → step at l s ≡ Ok t → Begins (without_places xs ++ l ∷ [])
 begins_with xs at l s t e h =
     subst Begins (unplaced_append xs ((at, l) ∷ [])) (begins (xs ++ (at, l) ∷ []) t (run_append xs ((at, l) ∷ []) (Awaiting []) s e ∙ run_one at l s t h))
 
-pub begun_with : (xs : List (ℕ × Lexeme)) (at : ℕ) (l : Lexeme) (s : State) → run xs (Awaiting []) ≡ Ok s → Begins (unplaced xs ++ l ∷ []) → (t : State) × (step at l s ≡ Ok t)
+pub begun_with : (xs : List (ℕ × Lexeme)) (at : ℕ) (l : Lexeme) (s : State) → run xs (Awaiting []) ≡ Ok s → Begins (without_places xs ++ l ∷ []) → (t : State) × (step at l s ≡ Ok t)
 begun_with xs at l s e b =
     let k = begun (xs ++ (at, l) ∷ []) (subst Begins (sym (unplaced_append xs ((at, l) ∷ []))) b) in
     let one = run_bind (step at l s) [] k.0 (sym (run_append xs ((at, l) ∷ []) (Awaiting []) s e) ∙ k.1) in

@@ -11,7 +11,7 @@ use Rattle.wanted_expr.specs.declared.reading.Frame.TheVariants as frames
 use Rattle.wanted_expr.specs.declared.reading.Reading.{Reading}
 use Rattle.wanted_expr.specs.Expressions.{outermost}
 use Rattle.wanted_expr.specs.Formula.{Formula, formula_of}
-use Rattle.wanted_expr.specs.Reading.{Pending, Negating, Grouping, Joining, Awaiting, Having, above, after_operator, completed, deeper, has_pending, is_group, no_term, open_count, open_places, pending_of, ready, reading_state, settle, without_group}
+use Rattle.wanted_expr.specs.Reading.{Pending, Negating, Grouping, Joining, Awaiting, Having, above, after_operator, completion, deeper, has_pending, is_group, no_term, open_count, open_places, pending_of, ready, reading_state, settle, without_group}
 
 pub above_push : (k : List Pending) (fs : List Frame) (f : Frame) → above k (fs ++ f ∷ []) ≡ pending_of f ∷ above k fs
 above_push k [] f = refl
@@ -20,7 +20,7 @@ above_push k (g ∷ fs) f = above_push (pending_of g ∷ k) fs f
 pub above_pushed : (items fs : List Frame) (f : Frame) → items ≡ fs ++ f ∷ [] → above [] items ≡ pending_of f ∷ above [] fs
 above_pushed items fs f e = ap (above []) e ∙ above_push [] fs f
 
-pub settle_on : (term : Formula) (p : Pending) (k : List Pending) → is_group p ≡ false → settle term (p ∷ k) ≡ settle (completed p term) k
+pub settle_on : (term : Formula) (p : Pending) (k : List Pending) → is_group p ≡ false → settle term (p ∷ k) ≡ settle (completion p term) k
 settle_on term Negating k e = refl
 settle_on term (Grouping at) k e = absurd (true≢false e)
 settle_on term (Joining left operator) k e = refl

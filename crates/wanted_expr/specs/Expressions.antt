@@ -39,8 +39,8 @@ abbrev pub Reads : ℕ → List ℕ → List (ℕ × Lexeme) → List ℕ → Ty
 Reads total bytes [] rest = bytes ≡ rest
 Reads total bytes (x ∷ xs) rest = (after : List ℕ) × NextIs total bytes x.0 x.1 after × Reads total after xs rest
 
-abbrev pub unplaced : List (ℕ × Lexeme) → List Lexeme
-unplaced read = map (λ x. x.1) read
+abbrev pub without_places : List (ℕ × Lexeme) → List Lexeme
+without_places read = map (λ x. x.1) read
 
 -- a text that says what the formula does
 pub record IsExpression (text : List ℕ) (formula : Formula) : Type 0 where
@@ -49,7 +49,7 @@ pub record IsExpression (text : List ℕ) (formula : Formula) : Type 0 where
   pub rest : List ℕ
   pub reads : Reads (length text) text read rest
   pub at_end : IsEnd (length text) rest
-  pub spells : Spells (unplaced read) formula
+  pub spells : Spells (without_places read) formula
 
 -- The faults.
 
@@ -61,9 +61,9 @@ open_after at Not places = places
 open_after at (Infix operator) places = places
 open_after at (Term word) places = places
 
-abbrev pub opened : List ℕ → List (ℕ × Lexeme) → List ℕ
-opened places [] = places
-opened places (x ∷ xs) = opened (open_after x.0 x.1 places) xs
+abbrev pub open_parens : List ℕ → List (ℕ × Lexeme) → List ℕ
+open_parens places [] = places
+open_parens places (x ∷ xs) = open_parens (open_after x.0 x.1 places) xs
 
 abbrev pub outermost : List ℕ → Option ℕ
 outermost [] = None
@@ -71,20 +71,20 @@ outermost (at ∷ []) = Some at
 outermost (at ∷ place ∷ places) = outermost (place ∷ places)
 
 abbrev pub BeginsWith : List (ℕ × Lexeme) → Lexeme → Type 0
-BeginsWith read lexeme = Begins (unplaced read ++ lexeme ∷ [])
+BeginsWith read lexeme = Begins (without_places read ++ lexeme ∷ [])
 
 -- what stands at a place where a term must stand
 abbrev pub LacksTerm : ℕ → List (ℕ × Lexeme) → List ℕ → ℕ → Type 0
 LacksTerm total read rest at =
     ((operator : Operator) × (after : List ℕ) × NextIs total rest at (Infix operator) after)
-    ⊎ ((after : List ℕ) × NextIs total rest at Close after × (0 < length (opened [] read)))
+    ⊎ ((after : List ℕ) × NextIs total rest at Close after × (0 < length (open_parens [] read)))
     ⊎ (IsEnd total rest × (at ≡ total))
 
 -- a `)` that was never opened, or at the end the first `(` that is never closed
 abbrev pub IsUnbalanced : ℕ → List (ℕ × Lexeme) → List ℕ → ℕ → Type 0
 IsUnbalanced total read rest at =
-    ((after : List ℕ) × NextIs total rest at Close after × (opened [] read ≡ []))
-    ⊎ (IsEnd total rest × BeginsWith read (Infix And) × (outermost (opened [] read) ≡ Some at))
+    ((after : List ℕ) × NextIs total rest at Close after × (open_parens [] read ≡ []))
+    ⊎ (IsEnd total rest × BeginsWith read (Infix And) × (outermost (open_parens [] read) ≡ Some at))
 
 -- what is wrong with the rest, after lexemes with which some expression begins: an operator can stand only behind a term
 abbrev pub IsFaultAt : ℕ → List (ℕ × Lexeme) → List ℕ → ExprFault → Type 0
@@ -103,7 +103,7 @@ pub record IsFirstFault (text : List ℕ) (fault : ExprFault) : Type 0 where
   pub read : List (ℕ × Lexeme)
   pub rest : List ℕ
   pub reads : Reads (length text) text read rest
-  pub begins : Begins (unplaced read)
+  pub begins : Begins (without_places read)
   pub fault_at : IsFaultAt (length text) read rest fault
 
 -- why a text is refused

@@ -21,7 +21,7 @@ formula_of (Both' p a q b) = Conjunction (formula_of a) (formula_of b)
 formula_of (Either' p a q b) = Disjunction (formula_of a) (formula_of b)
 
 -- two formulas with nothing or an operator between them: nothing means `and` (own)
-abbrev pub joined : Option Operator → Formula → Formula → Formula
-joined None a b = Conjunction a b
-joined (Some And) a b = Conjunction a b
-joined (Some Or) a b = Disjunction a b
+abbrev pub combination : Option Operator → Formula → Formula → Formula
+combination None a b = Conjunction a b
+combination (Some And) a b = Conjunction a b
+combination (Some Or) a b = Disjunction a b

@@ -12,7 +12,7 @@ use Rattle.wanted_expr.specs.declared.reading.Frame.TheVariants as frames
 use Rattle.wanted_expr.specs.declared.reading.Reading.{Reading}
 use Rattle.annex_base.specs.ResultSteps.{◌>>=◌}
 use Rattle.wanted_expr.specs.Expressions.{NextIs, IsEnd, Reads, outermost}
-use Rattle.wanted_expr.specs.Formula.{Formula, Atom, Negation, joined, formula_of}
+use Rattle.wanted_expr.specs.Formula.{Formula, Atom, Negation, combination, formula_of}
 use Rattle.wanted_expr.specs.Tokens.{IsNoLexeme}
 
 -- what awaits its term: `not`, a `(` at its place, or a formula with an operator behind it
@@ -47,10 +47,10 @@ has_pending [] = false
 has_pending (p ∷ k) = not (is_group p)
 
 -- what a term makes of what awaited it
-abbrev pub completed : Pending → Formula → Formula
-completed Negating term = Negation term
-completed (Grouping at) term = term
-completed (Joining left operator) term = joined (Some operator) left term
+abbrev pub completion : Pending → Formula → Formula
+completion Negating term = Negation term
+completion (Grouping at) term = term
+completion (Joining left operator) term = combination (Some operator) left term
 
 -- the places of the `(` that are open, the innermost first
 abbrev pub open_places : List Pending → List ℕ
@@ -64,7 +64,7 @@ abbrev pub settle : Formula → List Pending → State
 settle term [] = Having term []
 settle term (Negating ∷ k) = settle (Negation term) k
 settle term (Grouping at ∷ k) = Having term (Grouping at ∷ k)
-settle term (Joining left operator ∷ k) = settle (joined (Some operator) left term) k
+settle term (Joining left operator ∷ k) = settle (combination (Some operator) left term) k
 
 -- what the next term completes: no word between two terms means `and`
 abbrev pub ready : State → List Pending
@@ -94,12 +94,12 @@ abbrev pub after_group : ℕ → Formula → Option (List Pending) → Result St
 after_group at term None = Err (BadParen at)
 after_group at term (Some k) = Ok (settle term k)
 
-abbrev pub closed : ℕ → Formula → List Pending → Result State ExprFault
-closed at term k = after_group at term (without_group k)
+abbrev pub after_paren : ℕ → Formula → List Pending → Result State ExprFault
+after_paren at term k = after_group at term (without_group k)
 
 abbrev pub after_close : ℕ → State → Result State ExprFault
 after_close at (Awaiting k) = Err (no_term at (open_places k))
-after_close at (Having term k) = closed at term k
+after_close at (Having term k) = after_paren at term k
 
 -- a lexeme at a place
 abbrev pub step : ℕ → Lexeme → State → Result State ExprFault

@@ -4,7 +4,7 @@ use Rattle.wanted_expr.specs.declared.data.Word.{Word}
 use Rattle.wanted_expr.specs.declared.lexeme.Operator.{Operator}
 use Rattle.wanted_expr.specs.declared.lexeme.Lexeme.{Lexeme}
 use Rattle.wanted_expr.specs.declared.lexeme.Lexeme.TheVariants.{Open, Close, Not, Infix, Term}
-use Rattle.wanted_expr.specs.Formula.{Formula, Atom, Negation, joined}
+use Rattle.wanted_expr.specs.Formula.{Formula, Atom, Negation, combination}
 
 -- how an expression is written
 pub data Syntax : Type 0 where
@@ -44,11 +44,11 @@ lexemes (Grouped s) = Open ∷ (lexemes s ++ Close ∷ [])
 lexemes (Joined left between right) = lexemes left ++ (sign between ++ lexemes right)
 
 -- what it says: parentheses leave no trace
-abbrev pub said : Syntax → Formula
-said (Plain word) = Atom word
-said (Negated s) = Negation (said s)
-said (Grouped s) = said s
-said (Joined left between right) = joined between (said left) (said right)
+abbrev pub formula_said : Syntax → Formula
+formula_said (Plain word) = Atom word
+formula_said (Negated s) = Negation (formula_said s)
+formula_said (Grouped s) = formula_said s
+formula_said (Joined left between right) = combination between (formula_said left) (formula_said right)
 
 -- lexemes that spell a formula
 pub record Spells (written : List Lexeme) (formula : Formula) : Type 0 where
@@ -56,7 +56,7 @@ pub record Spells (written : List Lexeme) (formula : Formula) : Type 0 where
   pub grammatical : IsTrue (is_grammatical syntax_of)
   pub shallow : depth syntax_of ≤ 64
   pub spelled : written ≡ lexemes syntax_of
-  pub says : formula ≡ said syntax_of
+  pub says : formula ≡ formula_said syntax_of
 
 -- lexemes with which some expression begins
 pub record Begins (written : List Lexeme) : Type 0 where

@@ -2,8 +2,8 @@
 ghost use Rattle.std.specs.Prelude.{◌≡◌, false, if◌then◌else◌, [], ◌∷◌, ◌++◌, take, Some, None, IfOk, IfNone, IfSome};
 ghost use Rattle.std.specs.Option.{option_map};
 ghost use Rattle.wanted_expr.specs.Expressions.{outermost};
-ghost use Rattle.wanted_expr.specs.Formula.{Atom, joined, formula_of};
-ghost use Rattle.wanted_expr.specs.Reading.{above, after_close, after_operator, closed, completed, deeper, finish, has_pending, is_group, no_term, open_count, open_places, opens, pending_of, ready, settle, step, without_group, reading_state, Gives, IsCounted, Answers};
+ghost use Rattle.wanted_expr.specs.Formula.{Atom, combination, formula_of};
+ghost use Rattle.wanted_expr.specs.Reading.{above, after_close, after_operator, after_paren, completion, deeper, finish, has_pending, is_group, no_term, open_count, open_places, opens, pending_of, ready, settle, step, without_group, reading_state, Gives, IsCounted, Answers};
 
 use crate::data::{Tree, Word};
 use crate::fault::ExprFault;
@@ -41,7 +41,7 @@ fn opens(frame: &Frame) -> usize
 }
 
 fn joined(alloc: Global, left: Tree, operator: Operator, right: Tree) -> Result<Tree, NoMemory>
-    ensures { IfOk result (λ t. formula_of t ≡ joined (Some operator) (formula_of left) (formula_of right)) }
+    ensures { IfOk result (λ t. formula_of t ≡ combination (Some operator) (formula_of left) (formula_of right)) }
 {
     let left = Box::new(alloc, left)?;
     let right = Box::new(alloc, right)?;
@@ -53,7 +53,7 @@ fn joined(alloc: Global, left: Tree, operator: Operator, right: Tree) -> Result<
 
 // What a term makes of the frame that awaited it. Parentheses leave no trace.
 fn completed(alloc: Global, frame: Frame, term: Tree) -> Result<Tree, NoMemory>
-    ensures { IfOk result (λ t. formula_of t ≡ completed (pending_of frame) (formula_of term)) }
+    ensures { IfOk result (λ t. formula_of t ≡ completion (pending_of frame) (formula_of term)) }
 {
     match frame {
         Frame::Not => Ok(Tree::Not(Box::new(alloc, term)?)),
@@ -247,7 +247,7 @@ fn close(
     at: usize,
 ) -> Result<Reading, ExprFault>
     requires { depth ≡ open_count (above [] stack.items) }
-    ensures state { Gives reading_state result (closed at (formula_of term) (above [] stack.items)) }
+    ensures state { Gives reading_state result (after_paren at (formula_of term) (above [] stack.items)) }
     ensures counted { IfOk result (λ r. IsCounted r) }
 {
     if !pop_group(&mut stack) {

@@ -1,7 +1,7 @@
 -- What the proof of `branches::compacted` needs beside the tactics.
 use Rattle.std.proofs.Common.{◌∙◌, [], sym, ap, subst}
 use Rattle.annex_base.specs.Lists.{Each}
-use Rattle.log_lines.specs.Newest.{compacted}
+use Rattle.log_lines.specs.Newest.{current_lines}
 use Rattle.union_merge.specs.LineSet.{IsLine, union}
 use Rattle.thin_model.specs.Logs.{compact_lines}
 use Rattle.thin_model.proofs.BranchLemmas.{compacted_lines, compacted_set}
@@ -10,13 +10,13 @@ use Rattle.thin_model.proofs.branches.compacted.Goals as goal
 pub from_lines-requires : goal.from_lines-requires
 from_lines-requires c =
     let kind = c.in-Some.kind in
-    let are = c.in_ok-compact.ensures ∙ ap (compacted kind) (c.in_ok-lines.ensures ∙ c.lines.ensures.value) in
+    let are = c.in_ok-compact.ensures ∙ ap (current_lines kind) (c.in_ok-lines.ensures ∙ c.lines.ensures.value) in
     subst (Each IsLine) (sym are) (compacted_lines kind c.args.lines.now c.lines.ensures.set)
 
 pub returns : goal.returns
 returns c =
     let kind = c.in-Some.kind in
-    let are = c.in_ok-compact.ensures ∙ ap (compacted kind) (c.in_ok-lines.ensures ∙ c.lines.ensures.value) in
+    let are = c.in_ok-compact.ensures ∙ ap (current_lines kind) (c.in_ok-lines.ensures ∙ c.lines.ensures.value) in
     c.from_lines.ensures
     ∙ ap (union []) are
     ∙ compacted_set kind c.args.lines.now c.lines.ensures.set

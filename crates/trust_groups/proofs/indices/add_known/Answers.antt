@@ -2,7 +2,7 @@
 use Rattle.std.proofs.Common.{sym, ap, ◌∙◌}
 use Rattle.annex_base.proofs.Rows.{lookup-shown, shown-set_value}
 use Rattle.trust_groups.specs.Adding.{indices_with}
-use Rattle.trust_groups.specs.Reads.{seen}
+use Rattle.trust_groups.specs.Reads.{view_of}
 use Rattle.trust_groups.proofs.IndexLemmas.{lent_same}
 use Rattle.trust_groups.proofs.indices.add_known.Goals as goal
 
@@ -14,11 +14,11 @@ pub returns-in_ok-add-in-Some-clause-known : goal.returns-in_ok-add-in-Some-clau
 returns-in_ok-add-in-Some-clause-known c = λ is. (
   c.in-Some.index.now,
   sym (c.in-Some.ensures.value ∙ lookup-shown c.args.files.now.entries c.args.path.now),
-  ap seen (c.get_mut.follows.holds c.add.new.self).0 ∙ shown-set_value c.args.files.now.entries c.args.path.now c.add.new.self ∙ ap (indices_with (seen c.args.files.now.entries) c.args.path.now) c.in_ok-add-in-Some.ensures.ok,
+  ap view_of (c.get_mut.follows.holds c.add.new.self).0 ∙ shown-set_value c.args.files.now.entries c.args.path.now c.add.new.self ∙ ap (indices_with (view_of c.args.files.now.entries) c.args.path.now) c.in_ok-add-in-Some.ensures.ok,
 )
 
 pub returns-in-None-clause-unknown : goal.returns-in-None-clause-unknown
 returns-in-None-clause-unknown c = λ is. (
   sym (c.in-None.ensures.value ∙ lookup-shown c.args.files.now.entries c.args.path.now),
-  ap (λ m. seen m.entries) c.get_mut.follows.holds-at-none,
+  ap (λ m. view_of m.entries) c.get_mut.follows.holds-at-none,
 )

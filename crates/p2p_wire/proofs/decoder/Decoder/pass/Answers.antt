@@ -1,25 +1,25 @@
 -- What the proof of `decoder::Decoder::pass` needs beside the tactics.
 use Rattle.std.proofs.Common.{◌≡◌, ◌+◌, length, sym, ◌∙◌, ap, arith}
-use Rattle.p2p_wire.specs.Streams.{Unread, Says, Gives, after_told, past, told, told_by, line_of}
+use Rattle.p2p_wire.specs.Streams.{Unread, Says, Gives, after_told, past, next_answer, told_by, line_of}
 use Rattle.p2p_wire.proofs.StreamLemmas.{given_len, said_len}
 use Rattle.p2p_wire.proofs.decoder.Decoder.pass.Goals as goal
 
 pub overflow_sub-left : goal.overflow_sub-left
 overflow_sub-left c =
-    let is : told c.args.self.now ≡ Gives c.in-Data.raw.items = sym c.requires ∙ ap told_by c.in-Data.is in
+    let is : next_answer c.args.self.now ≡ Gives c.in-Data.raw.items = sym c.requires ∙ ap told_by c.in-Data.is in
     let short = given_len c.args.self.now c.in-Data.raw.items is in
     let same : c.self.inside.left ≡ c.args.self.now.left = ap (λ (u : Unread). u.left) c.self.view_is in
     omega (arith, c.len.ensures, c.in-Data.raw.ok.0, short.1, same)
 
 pub advance-requires-in-Data : goal.advance-requires-in-Data
 advance-requires-in-Data c =
-    let is : told c.args.self.now ≡ Gives c.in-Data.raw.items = sym c.requires ∙ ap told_by c.in-Data.is in
+    let is : next_answer c.args.self.now ≡ Gives c.in-Data.raw.items = sym c.requires ∙ ap told_by c.in-Data.is in
     let short = given_len c.args.self.now c.in-Data.raw.items is in
     omega (arith, c.len-in-Data.ensures, c.in-Data.raw.ok.0, short.0)
 
 pub returns-in-Message : goal.returns-in-Message
 returns-in-Message c =
-    let is : told c.args.self.now ≡ Says c.in-Message.message = sym c.requires ∙ ap told_by c.in-Message.is in
+    let is : next_answer c.args.self.now ≡ Says c.in-Message.message = sym c.requires ∙ ap told_by c.in-Message.is in
     let long = said_len c.args.self.now c.in-Message.message is in
     let count : c.line_len-end.result + 1 ≡ length (line_of c.in-Message.message) = ap (λ n. n + 1) c.line_len-end.ensures.place ∙ long in
     c.advance.ensures

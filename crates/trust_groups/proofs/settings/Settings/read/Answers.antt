@@ -3,7 +3,7 @@ use Rattle.std.proofs.Common.{[], ap, ◌∙◌}
 use Rattle.union_merge.specs.Branch.{lines_at}
 use Rattle.union_merge.specs.FileView as view
 use Rattle.trust_groups.specs.Adding.{lines_and}
-use Rattle.trust_groups.specs.Reads.{seen}
+use Rattle.trust_groups.specs.Reads.{view_of}
 use Rattle.trust_groups.proofs.KeptLemmas.{settings_read}
 use Rattle.trust_groups.proofs.ReadsLemmas.{from_start, from_step, from_end, reads_none, reads_same}
 use Rattle.trust_groups.proofs.settings.Settings.read.Goals as goal
@@ -27,12 +27,12 @@ loop-path-preserved c =
 pub returns-clause-reads : goal.returns-clause-reads
 returns-clause-reads c =
     let so_far = c.loop-path.invariant in
-    reads_same (seen c.loop-path.files.entries) so_far.0 (lines_at c.args.branch.now)
+    reads_same (view_of c.loop-path.files.entries) so_far.0 (lines_at c.args.branch.now)
     (from_end so_far.0 (lines_at c.args.branch.now) c.loop-path.path-iterator c.in-None.ensures.steps.0 so_far.2) so_far.1
 
 pub returns-clause-exact : goal.returns-clause-exact
 returns-clause-exact c =
     let so_far = c.loop-path.invariant in
-    settings_read (seen c.loop-path.files.entries) (lines_at c.args.branch.now)
-    (reads_same (seen c.loop-path.files.entries) so_far.0 (lines_at c.args.branch.now)
+    settings_read (view_of c.loop-path.files.entries) (lines_at c.args.branch.now)
+    (reads_same (view_of c.loop-path.files.entries) so_far.0 (lines_at c.args.branch.now)
     (from_end so_far.0 (lines_at c.args.branch.now) c.loop-path.path-iterator c.in-None.ensures.steps.0 so_far.2) so_far.1)
