@@ -1,5 +1,5 @@
 //! One end of a connection.
-ghost use Rattle.std.specs.Prelude.{◌≡◌, ◌≤◌, ◌<◌, ◌+◌, ◌-◌, ◌++◌, vec_len, ◌^◌, ◌↔◌, [], true, false, not, nat_le, IfOk, IfErr, IsErr, IsOk, OnOk, OnErr, filter, nat_lt, vec_capacity};
+ghost use Rattle.std.specs.Prelude.{◌≡◌, ◌≤◌, ◌<◌, ◌+◌, ◌-◌, ◌++◌, vec_len, ◌^◌, ◌↔◌, [], true, false, not, nat_le, IfOk, IfErr, IsErr, IsOk, OnOk, OnErr, filter, nat_lt, vec_capacity, option_copied};
 ghost use Rattle.std.specs.List.{find, after_first};
 ghost use Rattle.link_ring.specs.Frames.{is_old, is_close};
 ghost use Rattle.link_ring.specs.Ends.{ArePaired, StaysPaired, after_carry, fresh, accepts, after_send, next_frame, after_take, after_open, after_close, free, phase_after_send};
@@ -65,6 +65,15 @@ fn take_first(frames: &mut Vec<Frame>, epoch: u32, phase: Phase) -> Option<Frame
         }
     }
     None
+}
+
+// The first frame that isn't old.
+fn first_of(frames: &[Frame], epoch: u32, phase: Phase) -> Option<&Frame>
+    ensures { option_copied result ≡ find (λ f. not (is_old epoch phase f)) frames.now }
+{
+    frames
+        .iter()
+        .find(|frame: &&Frame| !is_old(epoch, phase, frame))
 }
 
 // Drops the frames of the epochs up to this one.
@@ -158,6 +167,13 @@ impl End {
         self.used += 1;
         self.on_way.push_reserved(frame);
         Ok(())
+    }
+
+    /// The frame that `take` takes next; nothing changes.
+    pub fn first(&self) -> Option<&Frame>
+        ensures { option_copied result ≡ next_frame self.now }
+    {
+        first_of(&self.at_hand, self.epoch, self.phase)
     }
 
     /// Takes the first frame at hand that isn't of an older epoch, or of one that this end has closed; it drops those
