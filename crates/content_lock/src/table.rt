@@ -118,6 +118,7 @@ impl LockTable {
         ensures ok { OnOk result ((k : List ℕ) → is_filling self.new k ≡ (bytes_eq key.now k || is_filling self.old k)) }
         ensures free { OnOk result (is_filling self.old key.now ≡ false) }
         ensures busy { IsErrOf result FillRefused.Busy → is_filling self.old key.now ≡ true }
+        ensures short { IsErrOf result FillRefused.NoMemory → is_filling self.old key.now ≡ false }
         ensures err { OnErr result (self.new ≡ self.old) }
         ensures holds { self.new.holds ≡ self.old.holds }
         ensures bars { self.new.bars ≡ self.old.bars }
