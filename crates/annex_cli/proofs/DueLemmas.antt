@@ -1,71 +1,96 @@
 -- One answer is due for the bytes of a source.
-use Rattle.std.proofs.Common.{◌≡◌, ◌⊎◌, inl, inr, ℕ, ◌<◌, ◌≤◌, List, ◌++◌, length, Option, Some, None, refl, sym, ap, subst, ◌∙◌, arith, length-append}
+use Rattle.std.proofs.Common.{◌≡◌, ◌⊎◌, inl, inr, ℕ, ◌<◌, ◌≤◌, List, ◌++◌, length, Option, Some, None, Result, Ok, Err, IfOk, refl, sym, ap, subst, ◌∙◌, arith, length-append}
 use Rattle.std.proofs.lemmas.Bool.{cases_lt}
 use Rattle.std.proofs.lemmas.List.{append-nil}
-use Rattle.std.specs.Prelude.{codes}
+use Rattle.std.specs.Prelude.{MatchResult, codes}
 use Rattle.std.specs.Io.KnownBytes.{append_known}
 use Rattle.std.specs.Fmt.{decimal}
+use Rattle.script_lang.specs.declared.command.Command as whole
+use Rattle.script_lang.specs.declared.fault.Quantity.{Quantity}
+use Rattle.script_lang.specs.Limits.{limit_of, quantity_name}
+use Rattle.script_lang.specs.Script.{Reading, Commands, BadLine, PastLimit, reading}
 use Rattle.thin_script.specs.declared.command.Command.{Command}
-use Rattle.thin_script.specs.declared.fault.Quantity.{Quantity}
-use Rattle.thin_script.specs.declared.fault.Quantity.TheVariants.{Repositories, Time}
-use Rattle.thin_script.specs.Script.{IsScript, IsBadLine, IsCrowded, IsLate, limit_of, quantity_name}
+use Rattle.thin_script.specs.Script.{IsScript, IsUnbuilt}
 use Rattle.thin_driver.specs.Driver.{run_of}
 use Rattle.report_text.specs.Report.{report}
+use Rattle.annex_cli.specs.declared.due.Due.{Due}
 use Rattle.annex_cli.specs.declared.status.Status.{Status}
 use Rattle.annex_cli.specs.declared.status.Status.TheVariants.{Done, Usage, Script, ReadFault, WriteFault, NoMemory, Limit}
 use Rattle.annex_cli.specs.Whole.{IsRead, script_limit}
-use Rattle.annex_cli.specs.Top.{IsReport, IsComplaint, IsLong, IsFull, IsOverTime, IsDue, IsDueRead, Writes, AnswersRun, EndsWith}
+use Rattle.annex_cli.specs.Top.{IsReport, IsComplaint, IsMissing, IsLong, IsPast, IsDue, IsDueRead, Writes, AnswersRun, EndsWith, limit_text, place_text}
 
--- a text has one reading
+-- one thing is said of a text
 pub record HaveOneReading : Type 0 where
   pub script : (bytes : List ℕ) (script other : List Command) → IsScript bytes script → IsScript bytes other → script ≡ other
-  pub bad_line : (bytes : List ℕ) (line other : ℕ) → IsBadLine bytes line → IsBadLine bytes other → line ≡ other
-  pub script_or_bad : (bytes : List ℕ) (script : List Command) (line : ℕ) → IsScript bytes script → IsBadLine bytes line → ⊥
-  pub script_or_crowded : (bytes : List ℕ) (script : List Command) → IsScript bytes script → IsCrowded bytes → ⊥
-  pub bad_or_crowded : (bytes : List ℕ) (line : ℕ) → IsBadLine bytes line → IsCrowded bytes → ⊥
-  pub script_or_late : (bytes : List ℕ) (script : List Command) → IsScript bytes script → IsLate bytes → ⊥
-  pub bad_or_late : (bytes : List ℕ) (line : ℕ) → IsBadLine bytes line → IsLate bytes → ⊥
-  pub crowded_or_late : (bytes : List ℕ) → IsCrowded bytes → IsLate bytes → ⊥
+  pub line : (bytes : List ℕ) (line other : ℕ) → IsUnbuilt bytes line → IsUnbuilt bytes other → line ≡ other
+  pub one : (bytes : List ℕ) (script : List Command) (line : ℕ) → IsScript bytes script → IsUnbuilt bytes line → ⊥
 
 -- what is due for a text is one status, with one text
 abbrev IsOne : Status → Status → List ℕ → List ℕ → Type 0
 IsOne s s' t t' = (s ≡ s') × (t ≡ t')
 
+-- ---- a reading is one thing
+
+one_place : (r : Reading) (line byte line' byte' : ℕ) → r ≡ BadLine line byte → r ≡ BadLine line' byte' → place_text line byte ≡ place_text line' byte'
+one_place r line byte line' byte' is are =
+    let same : BadLine line byte ≡ BadLine line' byte' = sym is ∙ are in
+    let lines : line ≡ line' = cc in
+    let bytes : byte ≡ byte' = cc in
+    ap (λ l. place_text l byte) lines ∙ ap (place_text line') bytes
+
+one_quantity : (r : Reading) (q q' : Quantity) → r ≡ PastLimit q → r ≡ PastLimit q' → q ≡ q'
+one_quantity r q q' is are = let same : PastLimit q ≡ PastLimit q' = sym is ∙ are in cc
+
+commands_or_bad : (r : Reading) (all : List whole.Command) (line byte : ℕ) → r ≡ Commands all → r ≡ BadLine line byte → ⊥
+commands_or_bad r all line byte is are = let same : Commands all ≡ BadLine line byte = sym is ∙ are in cc
+
+commands_or_past : (r : Reading) (all : List whole.Command) (q : Quantity) → r ≡ Commands all → r ≡ PastLimit q → ⊥
+commands_or_past r all q is are = let same : Commands all ≡ PastLimit q = sym is ∙ are in cc
+
+bad_or_past : (r : Reading) (line byte : ℕ) (q : Quantity) → r ≡ BadLine line byte → r ≡ PastLimit q → ⊥
+bad_or_past r line byte q is are = let same : BadLine line byte ≡ PastLimit q = sym is ∙ are in cc
+
+-- ---- one text is due
+
 module _ (x : HaveOneReading) (bytes t t' : List ℕ) where
   one_report : IsReport bytes t → IsReport bytes t' → t ≡ t'
   one_report d d' = d.text_is ∙ ap (λ script. report script (run_of script)) (x.script bytes d.script d'.script d.is_script d'.is_script) ∙ sym d'.text_is
 
-  one_complaint : IsComplaint bytes t → IsComplaint bytes t' → t ≡ t'
-  one_complaint d d' = d.text_is ∙ ap (λ line. codes "script line " ++ decimal line ++ codes " byte " ++ decimal 0 ++ codes "\n") (x.bad_line bytes d.line d'.line d.bad d'.bad) ∙ sym d'.text_is
+  one_complaint : (IsComplaint bytes t ⊎ IsMissing bytes t) → (IsComplaint bytes t' ⊎ IsMissing bytes t') → t ≡ t'
+  one_complaint (inl d) (inl d') = d.text_is ∙ one_place (reading bytes) d.line d.byte d'.line d'.byte d.bad d'.bad ∙ sym d'.text_is
+  one_complaint (inl d) (inr d') = absurd (commands_or_bad (reading bytes) d'.unbuilt.all d.line d.byte d'.unbuilt.says d.bad)
+  one_complaint (inr d) (inl d') = absurd (commands_or_bad (reading bytes) d.unbuilt.all d'.line d'.byte d.unbuilt.says d'.bad)
+  one_complaint (inr d) (inr d') = d.text_is ∙ ap (λ line. place_text line 0) (x.line bytes d.line d'.line d.unbuilt d'.unbuilt) ∙ sym d'.text_is
 
-  one_limit : (IsLong bytes t ⊎ (IsFull bytes t ⊎ IsOverTime bytes t)) → (IsLong bytes t' ⊎ (IsFull bytes t' ⊎ IsOverTime bytes t')) → t ≡ t'
+  one_limit : (IsLong bytes t ⊎ IsPast bytes t) → (IsLong bytes t' ⊎ IsPast bytes t') → t ≡ t'
   one_limit (inl d) (inl d') = d.text_is ∙ sym d'.text_is
-  one_limit (inl d) (inr (inl d')) = absurd (omega (arith, d.long, d'.short))
-  one_limit (inl d) (inr (inr d')) = absurd (omega (arith, d.long, d'.short))
-  one_limit (inr (inl d)) (inl d') = absurd (omega (arith, d'.long, d.short))
-  one_limit (inr (inl d)) (inr (inl d')) = d.text_is ∙ sym d'.text_is
-  one_limit (inr (inl d)) (inr (inr d')) = absurd (x.crowded_or_late bytes d.crowded d'.late)
-  one_limit (inr (inr d)) (inl d') = absurd (omega (arith, d'.long, d.short))
-  one_limit (inr (inr d)) (inr (inl d')) = absurd (x.crowded_or_late bytes d'.crowded d.late)
-  one_limit (inr (inr d)) (inr (inr d')) = d.text_is ∙ sym d'.text_is
+  one_limit (inl d) (inr d') = absurd (omega (arith, d.long, d'.short))
+  one_limit (inr d) (inl d') = absurd (omega (arith, d'.long, d.short))
+  one_limit (inr d) (inr d') = d.text_is ∙ ap (λ q. limit_text (quantity_name q) (limit_of q)) (one_quantity (reading bytes) d.quantity d'.quantity d.past d'.past) ∙ sym d'.text_is
+
+  report_or_complaint : IsReport bytes t → (IsComplaint bytes t' ⊎ IsMissing bytes t') → ⊥
+  report_or_complaint d (inl d') = commands_or_bad (reading bytes) d.is_script.all d'.line d'.byte d.is_script.says d'.bad
+  report_or_complaint d (inr d') = x.one bytes d.script d'.line d.is_script d'.unbuilt
+
+  report_or_limit : IsReport bytes t → (IsLong bytes t' ⊎ IsPast bytes t') → ⊥
+  report_or_limit d (inl d') = absurd (omega (arith, d.short, d'.long))
+  report_or_limit d (inr d') = commands_or_past (reading bytes) d.is_script.all d'.quantity d.is_script.says d'.past
+
+  complaint_or_limit : (IsComplaint bytes t ⊎ IsMissing bytes t) → (IsLong bytes t' ⊎ IsPast bytes t') → ⊥
+  complaint_or_limit (inl d) (inl d') = absurd (omega (arith, d.short, d'.long))
+  complaint_or_limit (inl d) (inr d') = bad_or_past (reading bytes) d.line d.byte d'.quantity d.bad d'.past
+  complaint_or_limit (inr d) (inl d') = absurd (omega (arith, d.short, d'.long))
+  complaint_or_limit (inr d) (inr d') = commands_or_past (reading bytes) d.unbuilt.all d'.quantity d.unbuilt.says d'.past
 
 due_once : HaveOneReading → (bytes : List ℕ) (s s' : Status) (t t' : List ℕ) → IsDue bytes s t → IsDue bytes s' t' → IsOne s s' t t'
 due_once x bytes Done Done t t' d d' = (refl, one_report x bytes t t' d d')
-due_once x bytes Done Script t t' d d' = absurd (x.script_or_bad bytes d.script d'.line d.is_script d'.bad)
-due_once x bytes Done Limit t t' d (inl d') = absurd (omega (arith, d.short, d'.long))
-due_once x bytes Done Limit t t' d (inr (inl d')) = absurd (x.script_or_crowded bytes d.script d.is_script d'.crowded)
-due_once x bytes Done Limit t t' d (inr (inr d')) = absurd (x.script_or_late bytes d.script d.is_script d'.late)
-due_once x bytes Script Done t t' d d' = absurd (x.script_or_bad bytes d'.script d.line d'.is_script d.bad)
+due_once x bytes Done Script t t' d d' = absurd (report_or_complaint x bytes t t' d d')
+due_once x bytes Done Limit t t' d d' = absurd (report_or_limit x bytes t t' d d')
+due_once x bytes Script Done t t' d d' = absurd (report_or_complaint x bytes t' t d' d)
 due_once x bytes Script Script t t' d d' = (refl, one_complaint x bytes t t' d d')
-due_once x bytes Script Limit t t' d (inl d') = absurd (omega (arith, d.short, d'.long))
-due_once x bytes Script Limit t t' d (inr (inl d')) = absurd (x.bad_or_crowded bytes d.line d.bad d'.crowded)
-due_once x bytes Script Limit t t' d (inr (inr d')) = absurd (x.bad_or_late bytes d.line d.bad d'.late)
-due_once x bytes Limit Done t t' (inl d) d' = absurd (omega (arith, d'.short, d.long))
-due_once x bytes Limit Done t t' (inr (inl d)) d' = absurd (x.script_or_crowded bytes d'.script d'.is_script d.crowded)
-due_once x bytes Limit Done t t' (inr (inr d)) d' = absurd (x.script_or_late bytes d'.script d'.is_script d.late)
-due_once x bytes Limit Script t t' (inl d) d' = absurd (omega (arith, d'.short, d.long))
-due_once x bytes Limit Script t t' (inr (inl d)) d' = absurd (x.bad_or_crowded bytes d'.line d'.bad d.crowded)
-due_once x bytes Limit Script t t' (inr (inr d)) d' = absurd (x.bad_or_late bytes d'.line d'.bad d.late)
+due_once x bytes Script Limit t t' d d' = absurd (complaint_or_limit x bytes t t' d d')
+due_once x bytes Limit Done t t' d d' = absurd (report_or_limit x bytes t' t d' d)
+due_once x bytes Limit Script t t' d d' = absurd (complaint_or_limit x bytes t' t d' d)
 due_once x bytes Limit Limit t t' d d' = (refl, one_limit x bytes t t' d d')
 due_once x bytes Usage s' t t' d d' = absurd d
 due_once x bytes ReadFault s' t t' d d' = absurd d
@@ -78,15 +103,15 @@ due_once x bytes s NoMemory t t' d d' = absurd d'
 
 -- past the limit, the limit is due
 long_text : List ℕ
-long_text = codes "limit " ++ codes "script" ++ codes " " ++ decimal script_limit ++ codes "\n"
+long_text = limit_text (codes "script") script_limit
 
 due_long : (bytes : List ℕ) (s : Status) (t : List ℕ) → script_limit < length bytes → IsDue bytes s t → IsOne s Limit t long_text
 unfolding long_text
 due_long bytes Done t long d = absurd (omega (arith, d.short))
-due_long bytes Script t long d = absurd (omega (arith, d.short))
+due_long bytes Script t long (inl d) = absurd (omega (arith, d.short))
+due_long bytes Script t long (inr d) = absurd (omega (arith, d.short))
 due_long bytes Limit t long (inl d) = (refl, d.text_is)
-due_long bytes Limit t long (inr (inl d)) = absurd (omega (arith, d.short))
-due_long bytes Limit t long (inr (inr d)) = absurd (omega (arith, d.short))
+due_long bytes Limit t long (inr d) = absurd (omega (arith, d.short))
 due_long bytes Usage t long d = absurd d
 due_long bytes ReadFault t long d = absurd d
 due_long bytes WriteFault t long d = absurd d
@@ -134,12 +159,29 @@ module _ (x : HaveOneReading) (bytes text : List ℕ) (s : Status) (left left' t
   due_answered NoMemory a r w = inr (refl, a)
   due_answered Usage a r w = absurd a
 
--- past what is counted, its limit is due
-pub limit_due : (bytes text : List ℕ) (quantity : Quantity) → length bytes ≤ script_limit → (quantity ≡ Repositories → IsCrowded bytes) → (quantity ≡ Time → IsLate bytes)
-    → text ≡ codes "limit " ++ quantity_name quantity ++ codes " " ++ decimal (limit_of quantity) ++ codes "\n" → IsDue bytes Limit text
-limit_due bytes text Repositories short crowded late is = inr (inl (record { short = short; crowded = crowded refl; text_is = is }))
-limit_due bytes text Time short crowded late is = inr (inr (record { short = short; late = late refl; text_is = is }))
-
 -- for a script its report is due
 pub due_report : (bytes : List ℕ) (script : List Command) → length bytes ≤ script_limit → IsScript bytes script → IsDue bytes Done (report script (run_of script))
 due_report bytes script short is = record { short = short; script = script; is_script = is; text_is = refl }
+
+-- ---- what a call found, or where it found nothing
+
+pub found : {V : Type 0} (r : Result V ℕ) (v : V) (P : V → Type 0) (Q : ℕ → Type 0) → r ≡ Ok v → MatchResult r P Q → P v
+found r v P Q is told = subst (λ o. MatchResult o P Q) is told
+
+pub missed : {V : Type 0} (r : Result V ℕ) (n : ℕ) (P : V → Type 0) (Q : ℕ → Type 0) → r ≡ Err n → MatchResult r P Q → Q n
+missed r n P Q is told = subst (λ o. MatchResult o P Q) is told
+
+-- ---- an answer with a status and a text is due
+
+pub due_by : {E : Type 0} (r : Result Due E) (bytes text : List ℕ) (status : Status) → IfOk r (λ d. (d.status ≡ status) × (d.text.items ≡ text)) → IsDue bytes status text → IfOk r (λ d. IsDue bytes d.status d.text.items)
+due_by (Ok d) bytes text status is due = subst (λ s. IsDue bytes s d.text.items) (sym is.0) (subst (IsDue bytes status) (sym is.1) due)
+due_by (Err e) bytes text status is due = tt
+
+pub complaint_is_due : (bytes : List ℕ) (line byte : ℕ) → length bytes ≤ script_limit → reading bytes ≡ BadLine line byte → IsDue bytes Script (place_text line byte)
+complaint_is_due bytes line byte short bad = inl (record { short = short; line = line; byte = byte; bad = bad; text_is = refl })
+
+pub missing_is_due : (bytes : List ℕ) (line : ℕ) → length bytes ≤ script_limit → IsUnbuilt bytes line → IsDue bytes Script (place_text line 0)
+missing_is_due bytes line short unbuilt = inr (record { short = short; line = line; unbuilt = unbuilt; text_is = refl })
+
+pub past_is_due : (bytes : List ℕ) (quantity : Quantity) → length bytes ≤ script_limit → reading bytes ≡ PastLimit quantity → IsDue bytes Limit (limit_text (quantity_name quantity) (limit_of quantity))
+past_is_due bytes quantity short past = inr (record { short = short; quantity = quantity; past = past; text_is = refl })

@@ -1,5 +1,5 @@
 -- The lemmas of this crate.
 pub mod WordLemmas
 pub mod DueLemmas
-pub mod ShortLemmas
 pub mod ReportLemmas
+pub mod PlaceLemmas

@@ -1,6 +1,6 @@
 -- What the report wants of a run: its lines may stand in the files of a branch, and what the script shows of logs is of
 -- repositories that it declares.
-use Rattle.std.proofs.Common.{◌≡◌, ℕ, ◌<◌, ◌≤◌, ◌^◌, Bool, List, [], ◌∷◌, ◌++◌, length, reverse, Option, Some, None, refl, sym, ap, ◌∙◌, subst, arith, append_assoc, length-append}
+use Rattle.std.proofs.Common.{◌≡◌, ℕ, ◌+◌, ◌<◌, ◌≤◌, ◌^◌, Bool, List, [], ◌∷◌, ◌++◌, length, reverse, Option, Some, None, refl, sym, ap, ◌∙◌, subst, arith, append_assoc, length-append}
 use Rattle.std.proofs.lemmas.List.{length-map, reverse-reverse}
 use Rattle.annex_base.specs.Lists.{Each}
 use Rattle.annex_base.proofs.Lists.{Each-reverse}
@@ -14,12 +14,10 @@ use Rattle.thin_model.specs.Branches.{LogsToPath}
 use Rattle.thin_model.specs.Thin.{HasLines, IsThinRun, MayCome, ThinKind, ThinPast, ThinStep}
 use Rattle.thin_script.specs.declared.command.Command.{Command}
 use Rattle.thin_script.specs.declared.command.Command.TheVariants as commands
-use Rattle.thin_script.specs.Lines.{Declared, declared, declared_by, MayStand}
-use Rattle.thin_script.specs.Script.{AllStand, IsProgram, IsScript, is_closed}
-use Rattle.thin_driver.specs.Driver.{AreShort, run_of, view_of}
+use Rattle.thin_script.specs.Lines.{declared, declared_by, MayStand}
+use Rattle.thin_script.specs.Program.{AllStand, IsProgram}
+use Rattle.thin_driver.specs.Driver.{AreShort, IsShort, run_of, view_of}
 use Rattle.report_text.specs.Walk.{IsLogged, ShowsKnown}
-use Rattle.annex_cli.specs.Whole.{script_limit}
-use Rattle.annex_cli.proofs.ShortLemmas.{script_is_short}
 
 -- ---- the run
 
@@ -49,42 +47,34 @@ thin_logged run thin =
 
 -- ---- the script
 
-one_known : (n : ℕ) (ds : List Declared) (closed : Bool) (c : Command) → length ds ≤ n → MayStand ds closed c → ShowsKnown n c
-one_known n ds closed (commands.ShowClaims r key) l s = omega (arith, l, s.0)
-one_known n ds closed (commands.ShowLocation r key) l s = omega (arith, l, s.0)
-one_known n ds closed (commands.ShowLog r file) l s = omega (arith, l, s.0)
-one_known n ds closed (commands.ShowLogs r) l s = omega (arith, l, s)
-one_known n ds closed (commands.ShowNumbers r) l s = omega (arith, l, s)
-one_known n ds closed (commands.ShowLevel r target) l s = (omega (arith, l, s.0), omega (arith, l, s.1))
-one_known n ds closed (commands.Repo name id offset) l s = tt
-one_known n ds closed (commands.Have r key content) l s = tt
-one_known n ds closed (commands.Numcopies r number) l s = tt
-one_known n ds closed (commands.Mincopies r number) l s = tt
-one_known n ds closed (commands.Trust r target level) l s = tt
-one_known n ds closed (commands.Describe r target text) l s = tt
-one_known n ds closed (commands.Group r target groups) l s = tt
-one_known n ds closed (commands.Log r file line) l s = tt
-one_known n ds closed (commands.Run r job) l s = tt
-one_known n ds closed (commands.Merge r other) l s = tt
-one_known n ds closed (commands.Compact r) l s = tt
-one_known n ds closed (commands.Wait milliseconds) l s = tt
-one_known n ds closed (commands.ShowPresence key) l s = tt
+one_known : (m n : ℕ) (c : Command) → n ≤ m → MayStand n c → ShowsKnown m c
+one_known m n (commands.ShowClaims r key) l s = omega (arith, l, s)
+one_known m n (commands.ShowLocation r key) l s = omega (arith, l, s)
+one_known m n (commands.ShowLog r file) l s = omega (arith, l, s)
+one_known m n (commands.ShowLogs r) l s = omega (arith, l, s)
+one_known m n (commands.ShowNumbers r) l s = omega (arith, l, s)
+one_known m n (commands.ShowLevel r target) l s = (omega (arith, l, s.0), omega (arith, l, s.1))
+one_known m n c l s = tt
 
-declared-append : (before after : List Command) → declared (before ++ after) ≡ declared before ++ declared after
-declared-append [] after = refl
-declared-append (c ∷ cs) after = ap (λ ds. declared_by c ++ ds) (declared-append cs after) ∙ sym (append_assoc (declared_by c) (declared cs) (declared after))
-
-all_known : (n : ℕ) (before script : List Command) → length (declared (before ++ script)) ≤ n → AllStand before script → Each (ShowsKnown n) script
-all_known n before [] l s = tt
-all_known n before (c ∷ script) l s =
-    (one_known n (declared before) (is_closed before) c few s.0, all_known n (before ++ c ∷ []) script (subst (λ xs. length (declared xs) ≤ n) (sym (append_assoc before (c ∷ []) script)) l) s.1)
-  where
-    few : length (declared before) ≤ n
-    few = omega (arith, l, ap length (declared-append before (c ∷ script)), length-append (declared before) (declared (c ∷ script)))
+all_known : (m n : ℕ) (script : List Command) → n + length (declared script) ≤ m → AllStand n script → Each (ShowsKnown m) script
+all_known m n [] l s = tt
+all_known m n (c ∷ script) l s =
+    let both = length-append (declared_by c) (declared script) in
+    (one_known m n c (omega (arith, l)) s.0, all_known m (n + length (declared_by c)) script (omega (arith, l, both)) s.1)
 
 -- a program shows logs of the repositories that it declares
 program_shows_known : (script : List Command) → IsProgram script → Each (ShowsKnown (length (declared script))) script
-program_shows_known script program = all_known (length (declared script)) [] script (omega arith) program.stand
+program_shows_known script program = all_known (length (declared script)) 0 script (omega arith) program.stand
+
+-- ---- its contents
+
+one_short : (n : ℕ) (c : Command) → MayStand n c → IsShort c
+one_short n (commands.Have r key size) s = omega (arith, s.3)
+one_short n c s = tt
+
+all_short : (n : ℕ) (script : List Command) → AllStand n script → AreShort script
+all_short n [] s = tt
+all_short n (c ∷ script) s = (one_short n c s.0, all_short (n + length (declared_by c)) script s.1)
 
 -- ---- both
 
@@ -93,9 +83,9 @@ abbrev RunsAreThin : Type 0
 RunsAreThin = (script : List Command) → IsProgram script → AreShort script → length (run_of script).entries < 2 ^ 62 → IsThinRun (run_of script)
 
 -- the run of a script is thin
-pub script_is_thin : RunsAreThin → (bytes : List ℕ) (script : List Command) (run : Run) → length bytes ≤ script_limit → IsScript bytes script → IsProgram script → run ≡ run_of script → length run.entries < 2 ^ 32 → IsThinRun run
-script_is_thin thin bytes script run short is program run_is few =
-    subst (λ (r : Run). IsThinRun r) (sym run_is) (thin script program (script_is_short bytes script short is) small)
+pub script_is_thin : RunsAreThin → (script : List Command) (run : Run) → IsProgram script → run ≡ run_of script → length run.entries < 2 ^ 32 → IsThinRun run
+script_is_thin thin script run program run_is few =
+    subst (λ (r : Run). IsThinRun r) (sym run_is) (thin script program (all_short 0 script program.stand) small)
   where
     few_of : length (run_of script).entries < 2 ^ 32
     few_of = subst (λ (r : Run). length r.entries < 2 ^ 32) run_is few

@@ -8,7 +8,10 @@ use Rattle.thin_model.specs.Safety.{IsSafe}
 use Rattle.thin_model.specs.Thin.{IsThinRun}
 use Rattle.thin_model.specs.Causes.{HasCauses}
 use Rattle.thin_script.specs.declared.command.Command.{Command}
-use Rattle.thin_script.specs.Script.{IsScript, IsBadLine, IsCrowded, IsLate, most_repositories, most_time}
+use Rattle.script_lang.specs.declared.fault.Quantity.{Quantity}
+use Rattle.script_lang.specs.Limits.{quantity_name, limit_of}
+use Rattle.script_lang.specs.Script.{reading, BadLine, PastLimit}
+use Rattle.thin_script.specs.Script.{IsScript, IsUnbuilt}
 use Rattle.thin_driver.specs.Driver.{run_of}
 use Rattle.report_text.specs.Report.{report}
 use Rattle.annex_cli.specs.declared.status.Status.{Status}
@@ -33,42 +36,53 @@ pub record IsGood (run : Run) : Type 0 where
 abbrev pub HasGoodRun : List ℕ → Type 0
 HasGoodRun bytes = (script : List Command) → IsScript bytes script → IsGood (run_of script)
 
--- the bytes are a script, and the text is the report of its run
+-- the bytes are a script whose forms are all built, and the text is the report of its run
 pub record IsReport (bytes text : List ℕ) : Type 0 where
   pub short : length bytes ≤ script_limit
   pub script : List Command
   pub is_script : IsScript bytes script
   pub text_is : text ≡ report script (run_of script)
 
--- the text names the first line that isn't one of a script
+-- the line that names a place of a script
+abbrev pub place_text : ℕ → ℕ → List ℕ
+place_text line byte = codes "script line " ++ decimal line ++ codes " byte " ++ decimal byte ++ codes "\n"
+
+-- the text names the line and the byte of the first fault
 pub record IsComplaint (bytes text : List ℕ) : Type 0 where
   pub short : length bytes ≤ script_limit
   pub line : ℕ
-  pub bad : IsBadLine bytes line
-  pub text_is : text ≡ codes "script line " ++ decimal line ++ codes " byte " ++ decimal 0 ++ codes "\n"
+  pub byte : ℕ
+  pub bad : reading bytes ≡ BadLine line byte
+  pub text_is : text ≡ place_text line byte
+
+-- the bytes are a script, and the text names its first line with a form that no part has built yet
+pub record IsMissing (bytes text : List ℕ) : Type 0 where
+  pub short : length bytes ≤ script_limit
+  pub line : ℕ
+  pub unbuilt : IsUnbuilt bytes line
+  pub text_is : text ≡ place_text line 0
+
+-- the line that names a limit
+abbrev pub limit_text : List ℕ → ℕ → List ℕ
+limit_text name number = codes "limit " ++ name ++ codes " " ++ decimal number ++ codes "\n"
 
 -- there are more bytes than a script may have
 pub record IsLong (bytes text : List ℕ) : Type 0 where
   pub long : script_limit < length bytes
-  pub text_is : text ≡ codes "limit " ++ codes "script" ++ codes " " ++ decimal script_limit ++ codes "\n"
+  pub text_is : text ≡ limit_text (codes "script") script_limit
 
--- a script declares more repositories than it may
-pub record IsFull (bytes text : List ℕ) : Type 0 where
+-- the text names the first limit that a script passes
+pub record IsPast (bytes text : List ℕ) : Type 0 where
   pub short : length bytes ≤ script_limit
-  pub crowded : IsCrowded bytes
-  pub text_is : text ≡ codes "limit " ++ codes "repositories" ++ codes " " ++ decimal most_repositories ++ codes "\n"
-
--- a script waits longer than it may
-pub record IsOverTime (bytes text : List ℕ) : Type 0 where
-  pub short : length bytes ≤ script_limit
-  pub late : IsLate bytes
-  pub text_is : text ≡ codes "limit " ++ codes "time" ++ codes " " ++ decimal most_time ++ codes "\n"
+  pub quantity : Quantity
+  pub past : reading bytes ≡ PastLimit quantity
+  pub text_is : text ≡ limit_text (quantity_name quantity) (limit_of quantity)
 
 -- what is due for a source of these bytes
 abbrev pub IsDue : List ℕ → Status → List ℕ → Type 0
 IsDue bytes Done text = IsReport bytes text
-IsDue bytes Script text = IsComplaint bytes text
-IsDue bytes Limit text = IsLong bytes text ⊎ (IsFull bytes text ⊎ IsOverTime bytes text)
+IsDue bytes Script text = IsComplaint bytes text ⊎ IsMissing bytes text
+IsDue bytes Limit text = IsLong bytes text ⊎ IsPast bytes text
 IsDue bytes _ text = ⊥
 
 -- the text that is due for what was read; where it is a report, the run is good

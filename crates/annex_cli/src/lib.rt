@@ -23,7 +23,7 @@ pub use status::Status;
 use std::alloc::Global;
 use std::sync::Wait;
 use std::thread::Threads;
-use thin_script::scripts_have_one_reading;
+use thin_script::scripts_are_built_or_not;
 use whole::{ReadStop, read_whole, write_whole};
 use words::is_run;
 
@@ -50,7 +50,7 @@ pub fn annex<R: Threads + Wait + Sync, S: Source, K: Sink, G: Gate>(
     ensures read_failed { S.faults source.old < S.faults source.new → result ≡ Status.ReadFault }
     ensures write_failed { K.faults sink.old < K.faults sink.new → result ≡ Status.WriteFault }
 
-    // without a fault and with enough memory, what is due is answered: for a script its report
+    // without a fault and with enough memory, what is due is answered: for a script whose forms are built its report
     ensures usage { (IsRun (map string_bytes words.now) → ⊥) → (Rose (K.faults sink.old) (K.faults sink.new) → ⊥) → result ≡ Status.Usage }
     ensures due { (bytes text : List ℕ) (status : Status) → IsRun (map string_bytes words.now) → S.left source.old ≡ Some bytes → IsDue bytes status text
         → (Rose (S.faults source.old) (S.faults source.new) → ⊥) → (Rose (K.faults sink.old) (K.faults sink.new) → ⊥)
@@ -67,7 +67,7 @@ pub fn annex<R: Threads + Wait + Sync, S: Source, K: Sink, G: Gate>(
         };
     }
     // a law, for the proof of what is due
-    scripts_have_one_reading();
+    scripts_are_built_or_not();
     run(alloc, source, sink)
 }
 

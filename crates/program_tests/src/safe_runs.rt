@@ -1,10 +1,11 @@
 //! Runs of scripts that the plain check of safe runs accepts at each place.
 
+use script_lang::Script;
 use std::alloc::Global;
 use std::test::Fail;
 use thin_driver::run_script;
 use thin_laws::is_safe_at;
-use thin_script::{Command, Script};
+use thin_script::{Command, built_scripts_are_programs, thin_lines};
 
 const THREE: &str = "repo a 11111111-1111-4111-8111-111111111111\n\
     repo b 22222222-2222-4222-8222-222222222222\n\
@@ -16,10 +17,15 @@ const THREE: &str = "repo a 11111111-1111-4111-8111-111111111111\n\
 /// At how many places the run of the script isn't safe for one of its keys.
 fn unsafe_places(alloc: Global, text: &str) -> Result<usize, Fail> {
     let script = Script::parse(alloc, text.as_bytes())?;
-    let run = run_script(alloc, script.lines())?;
+    let Ok(lines) = thin_lines(alloc, script.lines())? else {
+        return Ok(1);
+    };
+    // a law, so that the lines may be run
+    built_scripts_are_programs();
+    let run = run_script(alloc, &lines)?;
     let places = run.entries.as_slice().len().saturating_add(1);
     let mut found: usize = 0;
-    for command in script.lines() {
+    for command in &lines {
         if let Command::Have { key, .. } = command {
             for place in 0..places {
                 if !is_safe_at(alloc, &run, key, place)? {

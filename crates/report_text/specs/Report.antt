@@ -38,6 +38,7 @@ use Rattle.run_data.specs.Files.{file_path}
 use Rattle.thin_model.specs.Logs.{branch}
 use Rattle.thin_model.specs.Past.{begun_job, present}
 use Rattle.thin_model.specs.Safety.{past_at}
+use Rattle.script_words.specs.Words.{printed_word}
 use Rattle.thin_script.specs.declared.command.Command.{Command}
 use Rattle.thin_script.specs.declared.command.Command.TheVariants as commands
 
@@ -50,10 +51,6 @@ name_in (Some repo) = repo.name
 -- the name of a repository
 abbrev pub name_of : List RepoView → ℕ → List ℕ
 name_of repos r = name_in (slice_get repos r)
-
--- a word with a space stands in double quotes
-abbrev pub quoted : List ℕ → List ℕ
-quoted word = if list_any (λ b. b == 32) word then 34 ∷ word ++ 34 ∷ [] else word
 
 -- items with a byte between them, or a dash
 abbrev pub joined : {X : Type 0} → ℕ → (X → List ℕ) → List X → List ℕ
@@ -69,10 +66,10 @@ abbrev pub peer_text : List RepoView → List ℕ → Option ℕ → List ℕ
 peer_text repos word None = []
 peer_text repos word (Some p) = word ++ name_of repos p
 
--- the key as the line named it: by its path, or by its text
+-- the key as the line named it: by its path, or by its text; in double quotes where it has a space
 abbrev pub key_text : Job → Option (List ℕ) → List ℕ
-key_text job None = quoted job.key
-key_text job (Some path) = quoted (64 ∷ path)
+key_text job None = printed_word job.key
+key_text job (Some path) = printed_word (64 ∷ path)
 
 abbrev pub kind_text : JobKind → List ℕ
 kind_text kinds.Drop = codes "drop "
@@ -240,10 +237,10 @@ settings_at run place r = settings (lines_at (branch_at run place r))
 
 -- a file of the branch of a repository
 abbrev pub log_text : Run → ℕ → List ℕ → List (List ℕ) → List ℕ
-log_text run r path lines = codes "log " ++ name_of run.repos r ++ codes " " ++ quoted path ++ codes " " ++ lines_text lines
+log_text run r path lines = codes "log " ++ name_of run.repos r ++ codes " " ++ printed_word path ++ codes " " ++ lines_text lines
 
 abbrev pub location_text : Run → ℕ → List ℕ → List (List ℕ) → List ℕ
-location_text run r key lines = codes "location " ++ name_of run.repos r ++ codes " " ++ quoted key ++ codes " " ++ lines_text lines
+location_text run r key lines = codes "location " ++ name_of run.repos r ++ codes " " ++ printed_word key ++ codes " " ++ lines_text lines
 
 abbrev pub numbers_text : Run → ℕ → Settings → List ℕ
 numbers_text run r s = codes "numbers " ++ name_of run.repos r ++ codes " " ++ decimal s.numcopies ++ codes " " ++ decimal s.mincopies ++ codes "\n"
@@ -254,11 +251,11 @@ trust_text run r target s =
     ++ codes " groups=" ++ joined 44 (λ group. group) (s.groups (id_of run.repos target)) ++ codes "\n"
 
 abbrev pub claims_text : Run → ℕ → List ℕ → List (List ℕ) → List ℕ
-claims_text run r key ids = codes "claims " ++ name_of run.repos r ++ codes " " ++ quoted key ++ codes " " ++ joined 32 (λ word. word) (named run.repos ids) ++ codes "\n"
+claims_text run r key ids = codes "claims " ++ name_of run.repos r ++ codes " " ++ printed_word key ++ codes " " ++ joined 32 (λ word. word) (named run.repos ids) ++ codes "\n"
 
 -- what a line shows at a place
 abbrev pub shown : Run → ℕ → Command → List ℕ
-shown run place (commands.ShowPresence key) = codes "presence " ++ quoted key ++ codes " " ++ joined 32 (name_of run.repos) (having run place key) ++ codes "\n"
+shown run place (commands.ShowPresence key) = codes "presence " ++ printed_word key ++ codes " " ++ joined 32 (name_of run.repos) (having run place key) ++ codes "\n"
 shown run place (commands.ShowClaims r key) = claims_text run r key ((settings_at run place r).claims key)
 shown run place (commands.ShowLocation r key) = location_text run r key (lines_at (branch_at run place r) (location_path key))
 shown run place (commands.ShowLog r file) = log_text run r (file_path file) (lines_at (branch_at run place r) (file_path file))
@@ -266,7 +263,7 @@ shown run place (commands.ShowLogs r) = flat_map (λ f. log_text run r f.0 f.1) 
 shown run place (commands.ShowNumbers r) = numbers_text run r (settings_at run place r)
 shown run place (commands.ShowLevel r target) = trust_text run r target (settings_at run place r)
 shown run place (commands.Repo name id offset) = []
-shown run place (commands.Have r key content) = []
+shown run place (commands.Have r key size) = []
 shown run place (commands.Numcopies r n) = []
 shown run place (commands.Mincopies r n) = []
 shown run place (commands.Trust r target level) = []

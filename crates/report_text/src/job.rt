@@ -1,10 +1,12 @@
 //! What a line says of its job.
 
 ghost use Rattle.std.specs.Prelude.{◌≡◌, ◌++◌, ◌∷◌, OnOk, option_copied};
-ghost use Rattle.report_text.specs.Report.{kind_text, way_text, peer_text, key_text, quoted, job_text, begun_text};
+ghost use Rattle.report_text.specs.Report.{kind_text, way_text, peer_text, key_text, job_text, begun_text};
+ghost use Rattle.script_words.specs.Words.{printed_word};
 
-use crate::words::{put_name, put_quoted};
+use crate::words::put_name;
 use run_data::{Job, JobKind, RepoView};
+use script_words::put_word;
 use std::alloc::AllocError;
 
 /// Adds the line of a job as a script says it, with one space between its words.
@@ -64,19 +66,19 @@ fn put_key(out: &mut Vec<u8>, job: &Job) -> Result<(), AllocError>
     ensures { OnOk result (out.new.items ≡ out.old.items ++ key_text job.now job.now.path) }
 {
     match &job.path {
-        None => put_quoted(out, job.key.text())?,
+        None => put_word(out, job.key.text())?,
         Some(path) => put_path(out, path.bytes())?,
     }
     Ok(())
 }
 
 fn put_path(out: &mut Vec<u8>, path: &[u8]) -> Result<(), AllocError>
-    ensures { OnOk result (out.new.items ≡ out.old.items ++ quoted (64 ∷ path.now)) }
+    ensures { OnOk result (out.new.items ≡ out.old.items ++ printed_word (64 ∷ path.now)) }
 {
     let mut word = Vec::new(*out.allocator());
     word.push(b'@')?;
     word.extend_from_slice(path)?;
-    put_quoted(out, &word)?;
+    put_word(out, &word)?;
     Ok(())
 }
 

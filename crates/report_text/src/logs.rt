@@ -9,11 +9,12 @@ ghost use Rattle.run_data.specs.Files.{file_path};
 ghost use Rattle.report_text.specs.Report.{lines_text, log_text, location_text, claims_text};
 
 use crate::named::{named, put_joined};
-use crate::words::{put_name, put_quoted};
+use crate::words::put_name;
 use annex_base::{Line, NoMemory, put_number};
 use annex_key::Key;
 use hash_dirs::location_path;
 use run_data::{LogFile, Run};
+use script_words::put_word;
 use std::alloc::AllocError;
 use trust_groups::{Levels, claims_of};
 use union_merge::{Branch, LineSet};
@@ -61,7 +62,7 @@ pub(crate) fn put_log(
     out.extend_from_slice(b"log ")?;
     put_name(out, run.repos.as_slice(), repo)?;
     out.push(b' ')?;
-    put_quoted(out, path)?;
+    put_word(out, path)?;
     out.push(b' ')?;
     put_lines(out, lines)?;
     Ok(())
@@ -81,7 +82,7 @@ pub(crate) fn put_location(
     out.extend_from_slice(b"location ")?;
     put_name(out, run.repos.as_slice(), repo)?;
     out.push(b' ')?;
-    put_quoted(out, key.text())?;
+    put_word(out, key.text())?;
     out.push(b' ')?;
     put_lines(out, lines_of(branch, path.bytes()))?;
     Ok(())
@@ -134,7 +135,7 @@ pub(crate) fn put_claims(
     out.extend_from_slice(b"claims ")?;
     put_name(out, run.repos.as_slice(), repo)?;
     out.push(b' ')?;
-    put_quoted(out, key.text())?;
+    put_word(out, key.text())?;
     out.push(b' ')?;
     put_joined(out, b' ', &words)?;
     out.push(b'\n')?;

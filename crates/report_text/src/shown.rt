@@ -4,17 +4,19 @@ ghost use Rattle.std.specs.List.{range_with_len};
 ghost use Rattle.run_data.specs.declared.entry.Entry.{Entry};
 ghost use Rattle.thin_model.specs.Contents.{Tracks};
 ghost use Rattle.thin_model.specs.Past.{present};
-ghost use Rattle.report_text.specs.Report.{branch_at, name_of, quoted, joined, shown};
+ghost use Rattle.report_text.specs.Report.{branch_at, name_of, joined, shown};
+ghost use Rattle.script_words.specs.Words.{printed_word};
 ghost use Rattle.annex_base.specs.Lists.{Each};
 ghost use Rattle.report_text.specs.Walk.{IsLogged, ShowsKnown, StandsIn, shown_repo};
 
 use crate::logs::{put_claims, put_file, put_files, put_location};
 use crate::settings::{put_level, put_numbers};
 use crate::walk::Walk;
-use crate::words::{put_names, put_quoted};
+use crate::words::put_names;
 use annex_base::NoMemory;
 use annex_key::Key;
 use run_data::{RepoView, Run};
+use script_words::put_word;
 use std::alloc::Global;
 use thin_model::Contents;
 use thin_script::Command;
@@ -136,11 +138,11 @@ fn put_presence(
     key: &Key,
 ) -> Result<(), NoMemory>
     ensures { OnOk result ((past : List Entry) → Tracks contents.now (length repos.now) past → out.new.items ≡ out.old.items
-        ++ (codes "presence " ++ quoted key.now ++ codes " "
+        ++ (codes "presence " ++ printed_word key.now ++ codes " "
         ++ joined 32 (name_of repos.now) (filter (λ r. present past r key.now) (range_with_len 0 (length repos.now))) ++ codes "\n")) }
 {
     out.extend_from_slice(b"presence ")?;
-    put_quoted(out, key.text())?;
+    put_word(out, key.text())?;
     out.push(b' ')?;
     let numbers = having(*out.allocator(), contents, repos.len(), key)?;
     put_names(out, repos, b' ', &numbers)?;

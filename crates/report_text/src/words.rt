@@ -1,8 +1,8 @@
-//! Names of repositories, and words in quotes.
+//! Names of repositories.
 
-ghost use Rattle.std.specs.Prelude.{◌≡◌, ◌++◌, ◌∷◌, ◌==◌, OnOk};
-ghost use Rattle.std.specs.List.{flat_map, list_any};
-ghost use Rattle.report_text.specs.Report.{name_of, quoted, joined};
+ghost use Rattle.std.specs.Prelude.{◌≡◌, ◌++◌, ◌∷◌, OnOk};
+ghost use Rattle.std.specs.List.{flat_map};
+ghost use Rattle.report_text.specs.Report.{name_of, joined};
 
 use run_data::RepoView;
 use std::alloc::AllocError;
@@ -49,24 +49,4 @@ fn put_more_names(
         put_name(out, repos, *number)?;
     }
     Ok(())
-}
-
-/// Adds a word, in double quotes if it has a space.
-pub(crate) fn put_quoted(out: &mut Vec<u8>, word: &[u8]) -> Result<(), AllocError>
-    ensures { OnOk result (out.new.items ≡ out.old.items ++ quoted word.now) }
-{
-    if has_space(word) {
-        out.push(b'"')?;
-        out.extend_from_slice(word)?;
-        out.push(b'"')?;
-    } else {
-        out.extend_from_slice(word)?;
-    }
-    Ok(())
-}
-
-fn has_space(word: &[u8]) -> bool
-    ensures { result ≡ list_any (λ b. b == 32) word.now }
-{
-    word.iter().any(|b| *b == b' ')
 }

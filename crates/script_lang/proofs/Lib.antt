@@ -3,3 +3,9 @@ pub mod GroupLemmas
 pub mod LawLemmas
 pub mod LineLemmas
 pub mod PieceLemmas
+pub mod StepLemmas
+pub mod KeyLemmas
+pub mod StandingForms
+pub mod StandingLines
+pub mod VerifyLemmas
+pub mod NumberLemmas

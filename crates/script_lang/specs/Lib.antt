@@ -7,3 +7,5 @@ pub mod Forms
 pub mod Limits
 pub mod Script
 pub mod Laws
+pub mod Standing
+pub mod Numbering

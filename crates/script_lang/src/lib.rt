@@ -12,10 +12,12 @@ mod forms;
 mod jobs;
 mod laws;
 mod limits;
+mod numbering;
 mod rests;
 mod script;
 mod settings;
 mod shows;
+mod standing;
 mod state;
 mod steps;
 mod verb;
@@ -27,7 +29,9 @@ pub use fault::{Quantity, ScriptFault};
 pub use laws::{
     first_faults_are_told, later_lines_change_no_fault, right_lines_say_their_commands,
 };
+pub use numbering::line_numbers;
 pub use script::Script;
+pub use standing::{commands_have_lines, commands_stand};
 
 /// These types go from thread to thread.
 fn cross_threads() {

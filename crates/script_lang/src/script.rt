@@ -24,7 +24,8 @@ impl Model for Script {
     ghost view = { λ s. s.commands.items };
 }
 
-fn cut_lines(alloc: Global, bytes: &[u8]) -> Result<Vec<&[u8]>, AllocError>
+/// The lines of a text.
+pub fn cut_lines(alloc: Global, bytes: &[u8]) -> Result<Vec<&[u8]>, AllocError>
     ensures { IfOk result (λ v. map (λ w. w.now) v.items ≡ lines_of bytes.now) }
 {
     bytes.split(|b| *b == b'\n').collect(alloc)

@@ -1,8 +1,9 @@
 //! What the lines so far say, and one line more.
-ghost use Rattle.std.specs.Prelude.{◌≡◌, IfOk, IfErr, None};
+ghost use Rattle.std.specs.Prelude.{◌≡◌, IfOk, IfErr, None, length};
 ghost use Rattle.std.specs.List.{suffix_len};
 ghost use Rattle.annex_base.specs.Lines.{is_not_space};
 ghost use Rattle.script_lang.specs.Answers.{Gives, Reads};
+ghost use Rattle.script_lang.specs.Numbering.{begun_by};
 ghost use Rattle.script_lang.specs.Script as spec;
 ghost use Rattle.script_lang.specs.Script.{line_verb_at, with_command, no_lines};
 
@@ -75,6 +76,23 @@ impl State {
             commands: Vec::new(alloc),
             block: None,
         })
+    }
+
+    /// How many commands there are.
+    pub fn count(&self) -> usize
+        ensures { result ≡ length self.now.commands }
+    {
+        self.commands.len()
+    }
+
+    /// The number of the line that began what a line ends: that of the open block, or its own.
+    pub fn begun(&self, number: u64) -> u64
+        ensures { result ≡ begun_by self.now.block number }
+    {
+        match &self.block {
+            None => number,
+            Some(block) => block.number,
+        }
     }
 
     /// One command more, outside a block.

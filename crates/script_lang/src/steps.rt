@@ -1,8 +1,7 @@
 //! The steps by which a line is read.
-ghost use Rattle.std.specs.Prelude.{◌≡◌, ◌≤◌, length, true, IfOk};
+ghost use Rattle.std.specs.Prelude.{◌≡◌, ◌≤◌, length, IfOk};
 ghost use Rattle.script_lang.specs.Answers.{Gives, Reads};
 ghost use Rattle.std.specs.Option.{option_map};
-ghost use Rattle.std.specs.Str.{is_utf8};
 ghost use Rattle.annex_key.specs.Tree.{key_of};
 ghost use Rattle.script_lang.specs.Context.{is_placed};
 ghost use Rattle.script_lang.specs.Steps as spec;
@@ -155,8 +154,7 @@ pub fn call(words: &mut Words<'_>) -> Result<Call, LineFault>
 /// A path.
 #[tactic(auto, unfolding(crate::specs::Steps::path_at))]
 pub fn path(alloc: Global, words: &mut Words<'_>) -> Result<Text, LineFault>
-    ensures says { Reads (λ t. t) result words.new (spec.path_at words.old) }
-    ensures utf8 { IfOk result (λ t. is_utf8 t ≡ true) }
+    ensures { Reads (λ t. t) result words.new (spec.path_at words.old) }
 {
     let word = next_word(words)?;
     if is_path(word.text()) {

@@ -1,13 +1,12 @@
 //! Whether contents match their keys, and the keys that are made of contents.
-ghost use Rattle.std.specs.Prelude.{◌≡◌, ◌≤◌, ◌||◌, true, length, IfOk};
-ghost use Rattle.std.specs.Str.{is_utf8};
-ghost use Rattle.key_verify.specs.Sums.{sum_of};
+ghost use Rattle.std.specs.Prelude.{◌≡◌, ◌≤◌, ◌||◌, List, [], ℕ, length, IfOk};
+ghost use Rattle.key_verify.specs.Sums.{HasTaken, bytes_taken, sum_of};
 ghost use Rattle.script_lang.specs.Steps.{is_large};
 ghost use Rattle.script_lang.specs.Verify as spec;
 
 use annex_base::{NoMemory, Text};
 use annex_key::Key;
-use key_verify::{Digester, Sum, Verdict, judge_sum, make_key};
+use key_verify::{Digester, Sum, Verdict, judge_sum, make_key_of_sum};
 use script_words::Content;
 use std::alloc::Global;
 
@@ -24,12 +23,12 @@ pub fn is_large(content: &Content) -> bool
     content.size() > MOST_CONTENT
 }
 
-/// The sum of the content, which is taken piece by piece.
-fn content_sum(key: &Key, content: &Content) -> Sum
-    requires { length content.now ≤ 16777216 }
-    ensures { result ≡ sum_of key.now content.now }
+/// The sum of the content, which the digester takes piece by piece.
+fn content_sum(mut digester: Digester, content: &Content) -> Sum
+    requires small { length content.now ≤ 16777216 }
+    requires fresh { bytes_taken digester ≡ 0 }
+    ensures { (key : List ℕ) → HasTaken digester key [] → result ≡ sum_of key content.now }
 {
-    let mut digester = Digester::new(key);
     let mut room = [0; PIECE];
     let mut at = 0;
     while at < content.size() {
@@ -47,7 +46,7 @@ fn is_content_of(alloc: Global, key: &Key, content: &Content) -> Result<bool, No
     requires { length content.now ≤ 16777216 }
     ensures { IfOk result (λ b. b ≡ spec.is_content_of key.now content.now) }
 {
-    let sum = content_sum(key, content);
+    let sum = content_sum(Digester::new(key), content);
     match judge_sum(alloc, key, &sum)? {
         Verdict::Right => Ok(true),
         Verdict::WrongSize { .. } | Verdict::WrongDigest { .. } => Ok(false),
@@ -64,26 +63,12 @@ pub fn may_have(alloc: Global, key: &Key, content: &Content) -> Result<bool, NoM
     is_content_of(alloc, key, content)
 }
 
-/// The bytes of the content.
-fn content_bytes(alloc: Global, content: &Content) -> Result<Vec<u8>, NoMemory>
-    requires { length content.now ≤ 16777216 }
-    ensures { IfOk result (λ v. v.items ≡ content.now) }
-{
-    let mut bytes = vec![in alloc; 0; content.size() as usize]?;
-    content.piece(0, &mut bytes);
-    Ok(bytes)
-}
-
 /// The key that is made of the content that a path gets.
 #[tactic(auto, unfolding(crate::specs::Verify::made_key))]
 pub fn key_for(alloc: Global, path: &Text, content: &Content) -> Result<Key, NoMemory>
-    requires small { length content.now ≤ 16777216 }
-    requires utf8 { is_utf8 path.now ≡ true }
+    requires { length content.now ≤ 16777216 }
     ensures { IfOk result (λ k. k ≡ spec.made_key path.now content.now) }
 {
-    let bytes = content_bytes(alloc, content)?;
-    match str::from_utf8(path.bytes()) {
-        Ok(path) => make_key(alloc, path, &bytes),
-        Err(_) => unreachable!(),
-    }
+    let sum = content_sum(Digester::for_made_key(), content);
+    make_key_of_sum(alloc, path.bytes(), &sum)
 }

@@ -1,189 +1,153 @@
-//! Which texts are scripts, and where the others go wrong.
-mod forms;
-mod limits;
-mod refused;
-
+//! Which lines of scripts thin runs have.
+use script_lang::{Script, line_numbers};
 use std::alloc::Global;
 use std::test::Fail;
-use thin_script::{Quantity, Script, ScriptFault};
+use thin_script::{Command, thin_lines};
 
-/// What a text is said to be.
-#[derive(Clone, Copy, Debug, PartialEq, Eq)]
-enum Want {
-    /// A script of so many commands.
-    Commands(usize),
-    /// Its first bad line.
-    Bad(u64),
-    /// A repository too many.
-    TooMany,
-    /// Waits past the limit of time.
-    TooLate,
-    Nothing,
+const TWO: &str = "repo a 00000000-0000-0000-0000-00000000000a\n\
+    repo b 00000000-0000-0000-0000-00000000000b\n";
+
+/// The place of the first command that thin runs don't have, and the number of its line; none where they have all.
+fn missing(alloc: Global, text: &str) -> Result<Option<(usize, Option<u64>)>, Fail> {
+    let script = Script::parse(alloc, text.as_bytes())?;
+    let found = thin_lines(alloc, script.lines())?;
+    let Err(place) = found else {
+        return Ok(None);
+    };
+    let numbers = line_numbers(alloc, text.as_bytes())?;
+    Ok(Some((place, numbers.get(place).copied())))
 }
 
-fn told(alloc: Global, text: &[u8]) -> Want {
-    match Script::parse(alloc, text) {
-        Ok(script) => Want::Commands(script.lines().len()),
-        Err(ScriptFault::BadLine { line, byte: 0 }) => Want::Bad(line),
-        Err(ScriptFault::TooMuch { quantity }) => match quantity {
-            Quantity::Repositories => Want::TooMany,
-            Quantity::Time => Want::TooLate,
-        },
-        Err(_) => Want::Nothing,
-    }
-}
-
-const TWO: &[u8] =
-    b"repo a 00000000-0000-0000-0000-00000000000a\nrepo b 00000000-0000-0000-0000-00000000000b\n";
-
-const EIGHT: &[u8] =
-    b"repo a 00000000-0000-0000-0000-00000000000a\nrepo b 00000000-0000-0000-0000-00000000000b
-repo c 00000000-0000-0000-0000-00000000000c\nrepo d 00000000-0000-0000-0000-00000000000d
-repo e 00000000-0000-0000-0000-00000000000e\nrepo f 00000000-0000-0000-0000-00000000000f
-repo g 00000000-0000-0000-0000-000000000001\nrepo h 00000000-0000-0000-0000-000000000002
-";
-
-fn joined(alloc: Global, front: &[u8], rest: &[u8]) -> Result<Vec<u8>, Fail> {
-    let mut text = Vec::from_slice(alloc, front)?;
-    text.extend_from_slice(rest)?;
-    Ok(text)
+/// Whether thin runs have the line, behind two repositories.
+fn is_built(alloc: Global, line: &str) -> Result<bool, Fail> {
+    let mut text = String::from_str(alloc, TWO)?;
+    text.push_str(line)?;
+    Ok(missing(alloc, &text)?.is_none())
 }
 
 #[test]
-fn whole_texts(rt: HostRuntime) {
-    for (text, want) in [
-        (b"".as_slice(), Want::Commands(0)),
-        (b"\n\n", Want::Commands(0)),
-        (b"# nothing", Want::Commands(0)),
-        (b"#\n \n", Want::Bad(2)),
-        (b"\n#\nshow", Want::Bad(3)),
-        (b"show presence WORM-s3--abc", Want::Commands(1)),
-        (
-            b"show presence WORM-s3--abc\nshow presence WORM-s3--abc\n",
-            Want::Commands(2),
-        ),
-        (b"show presence", Want::Bad(1)),
-        (b"show absence WORM-s3--abc", Want::Bad(1)),
-        (b"show presence WORM-s3--abc WORM-s3--abc", Want::Bad(1)),
-        (b"drop a WORM-s3--abc", Want::Bad(1)),
+fn built_forms(rt: HostRuntime) -> Result<(), Fail> {
+    for line in [
+        "repo c 00000000-0000-0000-0000-00000000000c offset=5",
+        "have a WORM-s3--abc text:abc",
+        "have a SHA256-s3--ba7816bf8f01cfea414140de5dae2223b00361a396177a9cb410ff61f20015ad hex:616263",
+        "have a WORM--full fill:16777216:0",
+        "numcopies a 2",
+        "mincopies b 0",
+        "trust a b dead",
+        "describe a b  a text",
+        "group a b x y",
+        "log a location WORM--k 1s 1 x",
+        "log b trust.log anything",
+        "log b uuid.log anything",
+        "log b group.log anything",
+        "log b numcopies.log anything",
+        "log b mincopies.log anything",
+        "drop a WORM--k",
+        "merge a b",
+        "compact a",
+        "wait 5",
     ] {
-        assert_eq!(rt; told(rt.alloc(), text), want);
-    }
-}
-
-#[test]
-fn lines_after_two_repositories(rt: HostRuntime) -> Result<(), Fail> {
-    for (text, want) in [
-        (
-            b"have a WORM-s3--abc text:abc".as_slice(),
-            Want::Commands(3),
-        ),
-        (b"have a \"WORM-s3--a b\" text:abc", Want::Commands(3)),
-        (b"have b \"WORM-s3--abc\" \"text:a c\"", Want::Commands(3)),
-        (b"have a WORM-s3--a\"c text:abc", Want::Commands(3)),
-        (b"\"drop\" a WORM-s3--abc", Want::Commands(3)),
-        (b"  drop   a  WORM-s3--abc  ", Want::Commands(3)),
-        (b"\"a", Want::Bad(3)),
-        (b"\"a\"b", Want::Bad(3)),
-        (b"\"\"", Want::Bad(3)),
-        (b"drop a \"WORM-s3--abc\"x", Want::Bad(3)),
-        (b"drop\ta WORM-s3--abc", Want::Bad(3)),
-        (b"   ", Want::Bad(3)),
-        (b"# drop", Want::Commands(2)),
-        (b" # drop", Want::Bad(3)),
-        (b"\n\n#\n\n", Want::Commands(2)),
-        (b"numcopies a 1\r", Want::Bad(3)),
-        (b"drop a WORM-s3--abc\r", Want::Commands(3)),
-        (
-            b"numcopies a 1\nrepo c 00000000-0000-0000-0000-00000000000c",
-            Want::Bad(4),
-        ),
-        (
-            b"\nrepo c 00000000-0000-0000-0000-00000000000c\n",
-            Want::Commands(3),
-        ),
-        (b"repo a 00000000-0000-0000-0000-00000000000c", Want::Bad(3)),
-        (b"repo c 00000000-0000-0000-0000-00000000000a", Want::Bad(3)),
-        (b"repo c 00000000-0000-0000-0000-00000000000C", Want::Bad(3)),
-        (b"repo c 0000000000000000000000000000000c", Want::Bad(3)),
-        (
-            b"repo abcdefghijkl_4567 00000000-0000-0000-0000-00000000000c",
-            Want::Bad(3),
-        ),
-        (
-            b"repo abcdefghijkl_456 00000000-0000-0000-0000-00000000000c",
-            Want::Commands(3),
-        ),
-        (
-            b"repo \"\" 00000000-0000-0000-0000-00000000000c",
-            Want::Bad(3),
-        ),
-        (
-            b"repo 1a 00000000-0000-0000-0000-00000000000c",
-            Want::Bad(3),
-        ),
-        (b"repo C 00000000-0000-0000-0000-00000000000c", Want::Bad(3)),
-        (b"drop c WORM-s3--abc", Want::Bad(3)),
-        (b"Drop a WORM-s3--abc", Want::Bad(3)),
-        (b"drop a WORM-s3--abc from b", Want::Bad(3)),
-        (
-            b"drop a MD5-s3--900150983cd24fb0d6963f7d28e17f72",
-            Want::Bad(3),
-        ),
-        (b"drop a worm-s3--abc", Want::Bad(3)),
-        (b"drop a WORM-s03--abc", Want::Bad(3)),
-        (b"numcopies a 0", Want::Commands(3)),
-        (b"numcopies a 00", Want::Bad(3)),
-        (
-            b"numcopies b 999999999\nmincopies b 999999999",
-            Want::Commands(4),
-        ),
-        (b"numcopies a 1000000000", Want::Bad(3)),
-        (b"mincopies a 1000000000", Want::Bad(3)),
-        (b"numcopies a +1", Want::Bad(3)),
-        (b"numcopies a", Want::Bad(3)),
-        (b"mincopies c 1", Want::Bad(3)),
-        (b"have a WORM-s3--abc text:abcd", Want::Bad(3)),
-        (b"have a WORM-s3--abc text:ab", Want::Bad(3)),
-        (b"have a WORM-s1--abc hex:61", Want::Bad(3)),
-        (b"have a WORM--abc text:", Want::Commands(3)),
-        (b"have a WORM-s0--abc text:", Want::Commands(3)),
-        (b"have a WORM--abc text", Want::Bad(3)),
-        (b"have a WORM-s1--abc text:\xff", Want::Bad(3)),
-        (b"#\xff", Want::Bad(3)),
-        (b"have a WORM-s2--abc text:\xc3\xa9", Want::Commands(3)),
-    ] {
-        let whole = joined(rt.alloc(), TWO, text)?;
-        assert_eq!(rt; told(rt.alloc(), &whole), want);
+        assert!(rt; is_built(rt.alloc(), line)?, "{line}");
     }
     Ok(())
 }
 
 #[test]
-fn eight_repositories_are_the_most(rt: HostRuntime) -> Result<(), Fail> {
-    for (text, want) in [
-        (b"".as_slice(), Want::Commands(8)),
-        (b"drop h WORM-s3--abc", Want::Commands(9)),
-        (
-            b"repo i 00000000-0000-0000-0000-000000000003",
-            Want::TooMany,
-        ),
-        (
-            b"repo i 00000000-0000-0000-0000-000000000003\ndrop",
-            Want::TooMany,
-        ),
-        (b"repo i 00000000-0000-0000-0000-000000000001", Want::Bad(9)),
-        (
-            b"drop\nrepo i 00000000-0000-0000-0000-000000000003",
-            Want::Bad(9),
-        ),
+fn built_shows(rt: HostRuntime) -> Result<(), Fail> {
+    for line in [
+        "show presence WORM--k",
+        "show claims a WORM--k",
+        "show location a WORM--k",
+        "show log a preferred-content.log",
+        "show logs a",
+        "show numbers a",
+        "show level a b",
     ] {
-        let whole = joined(rt.alloc(), EIGHT, text)?;
-        assert_eq!(rt; told(rt.alloc(), &whole), want);
+        assert!(rt; is_built(rt.alloc(), line)?, "{line}");
     }
-    assert_eq!(rt; Quantity::Repositories.name(), "repositories");
-    assert_eq!(rt; Quantity::Repositories.limit(), 8);
-    assert_eq!(rt; Quantity::Time.name(), "time");
-    assert_eq!(rt; Quantity::Time.limit(), 1_000_000_000_000);
+    Ok(())
+}
+
+#[test]
+fn missing_forms(rt: HostRuntime) -> Result<(), Fail> {
+    for line in [
+        "repo c 00000000-0000-0000-0000-00000000000c version=2",
+        "repo c 00000000-0000-0000-0000-00000000000c nolock",
+        "numcopiesfor a 1 *",
+        "mincopiesfor a 1 *",
+        "wanted a b present",
+        "required a b present",
+        "groupwanted a x present",
+        "log a preferred-content.log anything",
+        "part a WORM--k text:a",
+        "have a WORM--k text:x\ndamage a WORM--k text:y",
+        "add a x text:abc",
+        "file x WORM--k",
+        "drop a WORM--k from b",
+        "get a WORM--k",
+        "copy a WORM--k to b",
+        "move a WORM--k from b",
+        "begin drop a WORM--k",
+        "turn a",
+        "settle",
+        "sync a",
+        "close a b",
+        "crash a",
+        "fail a has",
+        "par\nend",
+    ] {
+        assert!(rt; !is_built(rt.alloc(), line)?, "{line}");
+    }
+    Ok(())
+}
+
+#[test]
+fn missing_shows(rt: HostRuntime) -> Result<(), Fail> {
+    for line in [
+        "show log a numcopies-path.log",
+        "show numbers a x",
+        "show row a WORM--k",
+        "show plan a",
+        "show totals",
+        "show journal",
+    ] {
+        assert!(rt; !is_built(rt.alloc(), line)?, "{line}");
+    }
+    Ok(())
+}
+
+/// The first command that is missing, and its line: comments, empty lines and blocks before it count as lines.
+#[test]
+fn first_missing(rt: HostRuntime) -> Result<(), Fail> {
+    for (text, want) in [
+        ("", None),
+        ("# nothing\n\n", None),
+        (TWO, None),
+        ("settle", Some((0, Some(1)))),
+        ("\n# a\nwait 1\n\nsettle\nsettle\n", Some((1, Some(5)))),
+        ("wait 1\npar\n\n# a\nend\nwait 2\n", Some((1, Some(2)))),
+    ] {
+        assert_eq!(rt; missing(rt.alloc(), text)?, want, "{text}");
+    }
+    Ok(())
+}
+
+/// How many contents of 3 bytes the lines have.
+fn count(alloc: Global, text: &str) -> Result<usize, Fail> {
+    let script = Script::parse(alloc, text.as_bytes())?;
+    let Ok(lines) = thin_lines(alloc, script.lines())? else {
+        return Ok(0);
+    };
+    let of_three = |line: &&Command| matches!(*line, Command::Have { size: 3, .. });
+    Ok(lines.iter().filter(of_three).count())
+}
+
+/// Contents are kept by their sizes.
+#[test]
+fn sizes(rt: HostRuntime) -> Result<(), Fail> {
+    let text = "repo a 00000000-0000-0000-0000-00000000000a\n\
+        have a WORM--x text:abc\nhave a WORM--y fill:3:0\nhave a WORM--z hex:6162\n";
+    assert_eq!(rt; count(rt.alloc(), text)?, 2);
     Ok(())
 }

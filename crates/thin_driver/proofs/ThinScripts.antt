@@ -22,7 +22,7 @@ use Rattle.thin_model.specs.Thin.{IsSetUp, IsThinRun, ThinPast, MayGain}
 use Rattle.thin_script.specs.declared.command.Command.{Command}
 use Rattle.thin_script.specs.declared.command.Command.TheVariants as commands
 use Rattle.thin_script.specs.Lines.{declared}
-use Rattle.thin_script.specs.Script.{waited, waited_by}
+use Rattle.thin_script.specs.Program.{waited, waited_by}
 use Rattle.thin_driver.specs.Driver.{view_of, repos_of, added, written, unknown, log_status, have, done, entries_of, run_of, IsShort, AreShort}
 use Rattle.thin_driver.specs.Standing.{CanRun, IsOneLine}
 use Rattle.thin_driver.proofs.ThinLists.{Each-reverse, Each-weaker}
@@ -63,7 +63,7 @@ keeps_time : (repos : List RepoView) (time : ℕ) (past : List Entry) → IsRest
 keeps_time repos time past w = let same : time ≡ time + 0 = omega arith in subst (λ t. IsResting repos t past) same w
 
 one_done : (repos : List RepoView) (time : ℕ) (c : Command) (past : List Entry) → CanRun repos c → IsShort c → IsResting repos time past → time + waited_by c ≤ 1000000000000 → IsResting repos (time + waited_by c) (done repos c past)
-one_done repos time (commands.Have r key content) past f s w early = keeps_time repos time _ (have_resting repos time past r (length content) key w f.0 s f.1 f.2)
+one_done repos time (commands.Have r key size) past f s w early = keeps_time repos time _ (have_resting repos time past r size key w f.0 s f.1 f.2)
 one_done repos time (commands.Numcopies r n) past f s w early = keeps_time repos time _ (set_resting repos time past r kinds.Numcopies topics.Whole (values.Number n) w f (λ e. cc) tt tt)
 one_done repos time (commands.Mincopies r n) past f s w early = keeps_time repos time _ (set_resting repos time past r kinds.Mincopies topics.Whole (values.Number n) w f (λ e. cc) tt tt)
 one_done repos time (commands.Trust r target l) past f s w early = keeps_time repos time _ (set_resting repos time past r kinds.Trust (topics.Repo (id_of repos target)) (values.Level l) w f.0 (λ e. cc) tt tt)

@@ -172,7 +172,7 @@ have repos past r key size =
 
 -- the entries after one more line
 abbrev pub done : List RepoView → Command → List Entry → List Entry
-done repos (commands.Have r key content) past = have repos past r key (length content)
+done repos (commands.Have r key size) past = have repos past r key size
 done repos (commands.Numcopies r n) past = set repos past r kinds.Numcopies topics.Whole (values.Number n)
 done repos (commands.Mincopies r n) past = set repos past r kinds.Mincopies topics.Whole (values.Number n)
 done repos (commands.Trust r target l) past = set repos past r kinds.Trust (topics.Repo (id_of repos target)) (values.Level l)
@@ -212,7 +212,7 @@ run_of script =
 
 -- the content of the line, if it has one, is shorter than 2^62 bytes
 abbrev pub IsShort : Command → Type 0
-IsShort (commands.Have r key content) = length content < 2 ^ 62
+IsShort (commands.Have r key size) = size < 2 ^ 62
 IsShort _ = Unit {0}
 
 -- so is that of each line

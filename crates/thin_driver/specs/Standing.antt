@@ -20,7 +20,7 @@ IsOneLine text = ¬ Contains text newline
 -- which isn't empty and has none either, is added to a file of a known kind.
 abbrev pub CanRun : List RepoView → Command → Type 0
 CanRun repos (commands.Repo name id offset) = offset ≤ 100000000000
-CanRun repos (commands.Have r key content) = (r < length repos) × (fits_size (size_part key) (length content) ≡ true) × IsKeyText key
+CanRun repos (commands.Have r key size) = (r < length repos) × (fits_size (size_part key) size ≡ true) × IsKeyText key
 CanRun repos (commands.Numcopies r n) = r < length repos
 CanRun repos (commands.Mincopies r n) = r < length repos
 CanRun repos (commands.Trust r target l) = (r < length repos) × (target < length repos)

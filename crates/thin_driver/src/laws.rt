@@ -7,7 +7,7 @@ ghost use Rattle.run_data.specs.declared.run.RepoView.{RepoView};
 ghost use Rattle.thin_model.specs.Logs.{branch, kept};
 ghost use Rattle.thin_model.specs.Thin.{IsThinRun, ThinPast};
 ghost use Rattle.thin_script.specs.declared.command.Command.{Command};
-ghost use Rattle.thin_script.specs.Script.{IsProgram};
+ghost use Rattle.thin_script.specs.Program.{IsProgram};
 ghost use Rattle.thin_driver.specs.Driver.{add_files, run_of, AreShort};
 
 /// The run of a script is made step by step as the model of runs without messages allows: each drop begins, puts its
@@ -16,7 +16,7 @@ ghost use Rattle.thin_driver.specs.Driver.{add_files, run_of, AreShort};
 /// the reason of each refusal, and at last its holds are released; lines that are added to a log are a set of new ones;
 /// and the time rises only by waits between drops (own).
 ///
-/// The contents of the script's `have` lines are shorter than 2^62 bytes, and the run has fewer than 2^62 entries.
+/// The contents of the script's `have` lines have fewer than 2^62 bytes, and the run has fewer than 2^62 entries.
 pub fn script_runs_are_thin()
     ensures { (script : List Command) → IsProgram script → AreShort script → length (run_of script).entries < 2 ^ 62
         → IsThinRun (run_of script) }

@@ -7,7 +7,7 @@ ghost use Rattle.run_data.specs.declared.entry.By.TheVariants.{Script};
 ghost use Rattle.run_data.specs.declared.run.RepoView.{RepoView};
 ghost use Rattle.thin_script.specs.declared.command.Command.{Command};
 ghost use Rattle.thin_script.specs.Lines.{declared_by};
-ghost use Rattle.thin_script.specs.Script.{IsProgram};
+ghost use Rattle.thin_script.specs.Program.{IsProgram};
 ghost use Rattle.union_merge.specs.LineSet.{IsLine};
 ghost use Rattle.run_data.specs.Files.{HasPath};
 ghost use Rattle.thin_driver.specs.Driver.{add_lines, added, done, have, repos_of, run_of, view_of};
@@ -114,9 +114,7 @@ impl Driver {
         ensures kept { OnOk result (KeepsParts self.old self.new) }
     {
         match command {
-            Command::Have { repo, key, content } => {
-                self.have(*repo, key, content.bytes().len() as u64)?;
-            }
+            Command::Have { repo, key, size } => self.have(*repo, key, *size)?,
             Command::Numcopies { repo, number } => self.set_numcopies(*repo, *number)?,
             Command::Mincopies { repo, number } => self.set_mincopies(*repo, *number)?,
             Command::Trust {

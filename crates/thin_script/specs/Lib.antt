@@ -1,7 +1,5 @@
 -- The definitions of this crate.
-pub mod Words
 pub mod Lines
+pub mod Program
+pub mod Built
 pub mod Script
-pub mod Verbs
-pub mod Reading
-pub mod Steps

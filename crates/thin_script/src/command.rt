@@ -1,10 +1,11 @@
-//! The commands of a script, one for each form of line.
+//! The lines of thin runs: those that repositories do without messages.
 use annex_base::{Level, Line, RepoId, Text};
 use annex_key::Key;
 use log_lines::GroupList;
 use run_data::{Job, LogFile};
 
-/// A line of a script. A repository is named by its number, in order of the `repo` lines from 0.
+/// A line of a script that repositories do without messages. A repository is named by its number, in order of the `repo`
+/// lines from 0.
 #[derive(Clone, Debug, Drop)]
 pub enum Command {
     /// `repo NAME UUID [offset=MS]`: its clock is ahead of the script's time by MS milliseconds, at most
@@ -14,11 +15,11 @@ pub enum Command {
         id: RepoId,
         offset: u64,
     },
-    /// `have REPO KEY BYTES`
+    /// `have REPO KEY BYTES`, its size in bytes
     Have {
         repo: u32,
         key: Key,
-        content: Text,
+        size: u64,
     },
     /// `numcopies REPO N`, N at most 999,999,999
     Numcopies {

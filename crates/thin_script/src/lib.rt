@@ -1,41 +1,11 @@
-//! The language of scripts: what each line says.
+//! The lines of scripts that repositories do without messages.
 #![tactic(auto)]
 
-mod actions;
+mod built;
 mod command;
-mod coverage;
-mod declare;
-mod fault;
-mod fields;
+mod crossing;
 mod laws;
-mod lines;
-mod log_files;
-mod reader;
-mod repository;
-mod script;
-mod settings;
-mod shows;
-mod verb;
-mod words;
 
+pub use built::{thin_lines, thin_of};
 pub use command::Command;
-pub use coverage::each_text_has_a_reading;
-pub use fault::{Quantity, ScriptFault};
-pub use laws::scripts_have_one_reading;
-pub use script::Script;
-
-fn is_send<T: Send>() {}
-
-fn is_sync<T: Sync>() {}
-
-/// These types go from thread to thread.
-fn cross_threads() {
-    is_send::<Command>();
-    is_sync::<Command>();
-    is_send::<Script>();
-    is_sync::<Script>();
-    is_send::<ScriptFault>();
-    is_sync::<ScriptFault>();
-    is_send::<Quantity>();
-    is_sync::<Quantity>();
-}
+pub use laws::{built_scripts_are_programs, scripts_are_built_or_not, scripts_run_or_miss_a_form};

@@ -1,8 +1,8 @@
--- What the proof of `shown::put_presence` needs beside the tactics.
+-- The parts of the line, one after the other.
 use Rattle.std.proofs.Common.{append_assoc}
 use Rattle.report_text.proofs.shown.put_presence.Goals as goal
 
 pub returns : goal.returns
 returns c = λ past t.
     let numbers = c.in_ok-numbers.ensures past t in
-    simp (c.in_ok-push-2.ensures.items, c.in_ok-put_names.ensures, c.deref.ensures.value, numbers, c.in_ok-push.ensures.items, c.in_ok-put_quoted.ensures, c.text.ensures.same, c.in_ok-extend_from_slice.ensures.items, append_assoc)
+    simp (c.in_ok-push-2.ensures.items, c.in_ok-put_names.ensures, c.deref.ensures.value, numbers, c.in_ok-push.ensures.items, c.in_ok-put_word.ensures.ok, c.text.ensures.same, c.in_ok-extend_from_slice.ensures.items, append_assoc)

@@ -20,5 +20,5 @@ loop-at-preserved c =
       small = c.loop-at.invariant.small;
       room = ap length c.piece-count.ensures.front ∙ length-with_front next room (piece_short content at (length room)) ∙ c.loop-at.invariant.room;
       count = omega (arith, c.update.ensures.count, c.loop-at.invariant.count, ap length front, is);
-      taken = subst (λ bytes. HasTaken c.update.new.self c.args.key.now bytes) joins (c.update.ensures.taken c.args.key.now (take at content) c.loop-at.invariant.taken);
+      taken = λ key fresh. subst (λ bytes. HasTaken c.update.new.self key bytes) joins (c.update.ensures.taken key (take at content) (c.loop-at.invariant.taken key fresh));
     }

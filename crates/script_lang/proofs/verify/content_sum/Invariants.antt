@@ -1,5 +1,5 @@
 -- The digester has taken the front of the content.
-use Rattle.std.proofs.Common.{◌≡◌, ◌≤◌, ◌-◌, length, take}
+use Rattle.std.proofs.Common.{◌≡◌, ℕ, ◌≤◌, ◌-◌, List, [], length, take}
 use Rattle.key_verify.specs.Sums.{HasTaken, bytes_taken}
 use Rattle.script_lang.proofs.verify.content_sum.Given as goal
 
@@ -9,7 +9,7 @@ invariant-loop-at l = record {
   small : length l.content ≤ 16777216;
   room : length l.room ≡ 4096;
   count : bytes_taken l.digester ≡ l.at;
-  taken : HasTaken l.digester l.key (take l.at l.content);
+  taken : (key : List ℕ) → HasTaken l.fn.digester key [] → HasTaken l.digester key (take l.at l.content);
 }
 
 abbrev pub decreases-loop-at : goal.decreases-loop-at

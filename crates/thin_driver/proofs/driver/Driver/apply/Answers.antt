@@ -1,8 +1,8 @@
--- What the proof of `driver::Driver::apply` needs beside the tactics.
-use Rattle.std.proofs.Common.{ℕ, length, sym, ap, subst}
+-- What each line does, by its form.
+use Rattle.std.proofs.Common.{sym, subst}
 use Rattle.thin_script.specs.declared.command.Command.{Command}
 use Rattle.annex_base.proofs.Lists.{Contains-from_Member}
-use Rattle.thin_driver.specs.Driver.{done, have}
+use Rattle.thin_driver.specs.Driver.{done}
 use Rattle.thin_driver.specs.Standing.{CanRun}
 use Rattle.thin_driver.specs.State.{Rests}
 use Rattle.thin_driver.proofs.driver.Driver.apply.Goals as goal
@@ -16,8 +16,7 @@ write_raw-requires-clause-line c =
 
 pub returns-in_ok-have-in-Have-clause-done : goal.returns-in_ok-have-in-Have-clause-done
 returns-in_ok-have-in-Have-clause-done c past rests =
-    subst (λ (x : Command). Rests c.have.new.self (done c.args.self.now.run.repos x past)) (sym c.in-Have.is)
-    (subst (λ (n : ℕ). Rests c.have.new.self (have c.args.self.now.run.repos past c.in-Have.repo c.in-Have.key n)) (ap length c.bytes.ensures) (c.in_ok-have-in-Have.ensures.had past rests))
+    subst (λ (x : Command). Rests c.have.new.self (done c.args.self.now.run.repos x past)) (sym c.in-Have.is) (c.in_ok-have-in-Have.ensures.had past rests)
 
 pub returns-in_ok-set_numcopies-in-Numcopies-clause-done : goal.returns-in_ok-set_numcopies-in-Numcopies-clause-done
 returns-in_ok-set_numcopies-in-Numcopies-clause-done c past rests =

@@ -1,0 +1,23 @@
+-- The first command that thin runs don't have stands on a line, which is named.
+use Rattle.std.proofs.Common.{◌≡◌, ◌<◌, Some, length, ap, sym, ◌∙◌, arith}
+use Rattle.std.specs.Prelude.{slice_get}
+use Rattle.script_lang.specs.Numbering.{line_numbers}
+use Rattle.annex_cli.proofs.DueLemmas.{due_by, missing_is_due}
+use Rattle.annex_cli.proofs.PlaceLemmas.{first_within}
+use Rattle.annex_cli.proofs.due.missing_due.Goals as goal
+
+pub line_at-requires : goal.line_at-requires
+line_at-requires c =
+    let long = ap length (c.deref.ensures.value ∙ c.in_ok-numbers.ensures) ∙ c.commands_have_lines.ensures c.args.bytes.now c.args._script.now c.requires.says in
+    omega (arith, long, first_within c.args._script.now c.args.place c.requires.first)
+
+pub returns-clause-due : goal.returns-clause-due
+returns-clause-due c =
+    let numbers = c.deref.ensures.value ∙ c.in_ok-numbers.ensures in
+    due_by c.complaint_due.result c.args.bytes.now _ _ c.complaint_due.ensures (missing_is_due c.args.bytes.now c.line_at.result c.requires.short (record {
+      all = c.args._script.now;
+      says = c.requires.says;
+      place = c.args.place;
+      first = c.requires.first;
+      line_is = ap (λ ns. slice_get ns c.args.place) (sym numbers) ∙ c.line_at.ensures;
+    }))

@@ -1,0 +1,31 @@
+//! Laws of the commands that a text says, which no call depends on.
+ghost use Rattle.std.specs.Prelude.{◌≡◌, List, ℕ, length};
+ghost use Rattle.script_lang.specs.declared.command.Command.{Command};
+ghost use Rattle.script_lang.specs.Numbering.{line_numbers};
+ghost use Rattle.script_lang.specs.Script.{reading, no_context, Commands};
+ghost use Rattle.script_lang.specs.Standing.{AllStand};
+
+use annex_key::key_texts_have_no_fault;
+use key_verify::{made_keys_match, verdicts_are_matches};
+
+/// Each command of a script has what its form says where it stands: repositories that are declared, two different ones
+/// where the form wants two, a key's text, a content that is its key's, a path of the tree with its key, texts of one
+/// line; and it passes no limit.
+pub fn commands_stand()
+    ensures { (text : List ℕ) (commands : List Command) → reading text ≡ Commands commands → AllStand no_context commands }
+{
+    // laws, for the proof
+    key_texts_have_no_fault();
+    verdicts_are_matches();
+    made_keys_match();
+}
+
+/// Each command of a script stands on a line.
+pub fn commands_have_lines()
+    ensures { (text : List ℕ) (commands : List Command) → reading text ≡ Commands commands → length (line_numbers text) ≡ length commands }
+{
+    // laws, for the proof
+    key_texts_have_no_fault();
+    verdicts_are_matches();
+    made_keys_match();
+}

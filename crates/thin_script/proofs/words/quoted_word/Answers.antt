@@ -1,7 +1,0 @@
--- What the proof of `words::quoted_word` needs beside the tactics.
-use Rattle.std.proofs.lemmas.List.Sums.{prefix_len-le-length}
-use Rattle.thin_script.specs.Reading.{is_not_quote}
-use Rattle.thin_script.proofs.words.quoted_word.Goals as goal
-
-pub split_at-requires : goal.split_at-requires
-split_at-requires c = rw c.quoted_len-end.ensures (prefix_len-le-length is_not_quote c.args.bytes.now)
