@@ -2,4 +2,10 @@
 #![tactic(auto)]
 
 #[cfg(test)]
+mod calls;
+#[cfg(test)]
+mod memory_tests;
+#[cfg(test)]
 mod row_tests;
+#[cfg(test)]
+mod token_tests;
