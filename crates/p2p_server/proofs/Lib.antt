@@ -1,0 +1,19 @@
+-- The lemmas of this crate.
+pub mod Replies
+pub mod Doings
+pub mod Agreeing
+pub mod Calm
+pub mod StateFacts
+pub mod Transfers
+pub mod Numbers
+pub mod Holding
+pub mod Leaving
+pub mod Phases
+pub mod ReplyLines
+pub mod Sending
+pub mod Moves
+pub mod Reading
+pub mod Stepping
+pub mod Taking
+pub mod Unexpected
+pub mod Waiting

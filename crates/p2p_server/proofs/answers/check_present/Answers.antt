@@ -1,0 +1,24 @@
+-- What the proof of `answers::check_present` needs beside the tactics.
+use Rattle.std.proofs.Common.{None, refl, ◌∙◌}
+use Rattle.p2p_server.specs.Answers.{here_of}
+use Rattle.p2p_server.proofs.Replies.{check_there, check_gone, check_barred}
+use Rattle.p2p_server.proofs.Doings.{checks}
+use Rattle.p2p_server.proofs.answers.check_present.Goals as goal
+
+pub returns-in-Ok-Present-clause-does : goal.returns-in-Ok-Present-clause-does
+returns-in-Ok-Present-clause-does g c = λ p is part right.
+    let found = rw c.in-Ok-Present.field-0-is at c.in-Ok-Present.ensures.found in
+    checks _ _ p _ _ _ _ _ _ _ _ c.granted.ensures (c.in-Ok-Present.ensures.contents ∙ is)
+    (check_there (here_of c.args.scene c.args.table.now p None part right) c.args.key refl (found.0 p is) found.1)
+
+pub returns-in-Ok-Absent-clause-does : goal.returns-in-Ok-Absent-clause-does
+returns-in-Ok-Absent-clause-does g c = λ p is part right.
+    let gone = rw c.in-Ok-Absent.field-0-is at c.in-Ok-Absent.ensures.found in
+    checks _ _ p _ _ _ _ _ _ _ _ c.denied.ensures (c.in-Ok-Absent.ensures.contents ∙ is)
+    (check_gone (here_of c.args.scene c.args.table.now p None part right) c.args.key refl (gone p is))
+
+pub returns-in-Ok-Barred-clause-does : goal.returns-in-Ok-Barred-clause-does
+returns-in-Ok-Barred-clause-does g c = λ p is part right.
+    let found = rw c.in-Ok-Barred.field-0-is at c.in-Ok-Barred.ensures.found in
+    checks _ _ p _ _ _ _ _ _ _ _ c.denied-in-Ok-Barred.ensures (c.in-Ok-Barred.ensures.contents ∙ is)
+    (check_barred (here_of c.args.scene c.args.table.now p None part right) c.args.key _ refl (found.0 p is) found.1)

@@ -1,0 +1,46 @@
+-- What the proof of `answers::remove` needs beside the tactics.
+use Rattle.std.proofs.Common.{Some, None, refl, ◌∙◌}
+use Rattle.p2p_server.specs.Answers.{here_of}
+use Rattle.p2p_server.proofs.Replies.{remove_there, remove_gone, remove_barred, remove_held, remove_failed, remove_leaves}
+use Rattle.p2p_server.proofs.Doings.{checks, faults, removes, no_bar}
+use Rattle.p2p_server.proofs.answers.remove.Goals as goal
+
+pub returns-in-Ok-Gone-clause-does : goal.returns-in-Ok-Gone-clause-does
+returns-in-Ok-Gone-clause-does g c = λ p is part right.
+    let found = rw c.in-Ok-Gone.field-0-is at c.in-Ok-Gone.ensures.found in
+    removes _ _ p _ _ _ _ _ _ _ _ c.granted.ensures c.owner.ensures (c.in-Ok-Gone.ensures.gone c.in-Ok-Gone.field-0-is) is
+    (remove_there (here_of c.args.scene c.args.table.now p None part right) c.args.key refl (found.0 p is) found.1 found.2)
+
+pub returns-in-Ok-Gone-clause-after : goal.returns-in-Ok-Gone-clause-after
+returns-in-Ok-Gone-clause-after g c =
+    let found = rw c.in-Ok-Gone.field-0-is at c.in-Ok-Gone.ensures.found in
+    rw c.granted.ensures (no_bar _ _ _ found.1)
+
+pub returns-in-Ok-Absent-clause-does : goal.returns-in-Ok-Absent-clause-does
+returns-in-Ok-Absent-clause-does g c = λ p is part right.
+    let gone = rw c.in-Ok-Absent.field-0-is at c.in-Ok-Absent.ensures.found in
+    checks _ _ p _ _ _ _ _ _ _ _ c.granted-in-Ok-Absent.ensures (c.in-Ok-Absent.ensures.absent c.in-Ok-Absent.field-0-is ∙ is)
+    (remove_gone (here_of c.args.scene c.args.table.now p None part right) c.args.key refl (gone p is))
+
+pub returns-in-Err-Barred-clause-does : goal.returns-in-Err-Barred-clause-does
+returns-in-Err-Barred-clause-does g c = λ p is part right.
+    let found = rw c.in-Err-Barred.field-0-is at c.in-Err-Barred.ensures.why in
+    checks _ _ p _ _ _ _ _ _ _ _ c.denied.ensures (c.in-Err-Barred.ensures.err_contents ∙ is)
+    (remove_barred (here_of c.args.scene c.args.table.now p None part right) c.args.key _ refl (found.0 p is) found.1)
+
+pub returns-in-Err-Held-clause-does : goal.returns-in-Err-Held-clause-does
+returns-in-Err-Held-clause-does g c = λ p is part right.
+    let found = rw c.in-Err-Held.field-0-is at c.in-Err-Held.ensures.why in
+    checks _ _ p _ _ _ _ _ _ _ _ c.denied-in-Err-Held.ensures (c.in-Err-Held.ensures.err_contents ∙ is)
+    (remove_held (here_of c.args.scene c.args.table.now p None part right) c.args.key refl (found.0 p is) found.1 found.2)
+
+pub returns-in-Err-StoreFault-clause-does : goal.returns-in-Err-StoreFault-clause-does
+returns-in-Err-StoreFault-clause-does g c = λ p is part right.
+    let why = rw c.in-Err-StoreFault.field-0-is at c.in-Err-StoreFault.ensures.why in
+    faults _ _ p _ _ _ _ _ _ c.failed.ensures (c.in-Err-StoreFault.ensures.err_contents ∙ is)
+    (remove_failed (here_of c.args.scene c.args.table.now p (Some _) part right) c.args.key _ p _ _ is refl refl why)
+
+pub returns-in-Err-StoreFault-clause-after : goal.returns-in-Err-StoreFault-clause-after
+returns-in-Err-StoreFault-clause-after g c =
+    let why = rw c.in-Err-StoreFault.field-0-is at c.in-Err-StoreFault.ensures.why in
+    rw c.failed.ensures (remove_leaves _ _ _ _ _ _ _ why)

@@ -1,0 +1,12 @@
+-- What the proof of `answers::remove_before` needs beside the tactics.
+use Rattle.std.proofs.Common.{◌≡◌, ℕ, ◌<◌, ◌*◌, ◌/◌, true, nat_lt, arith}
+use Rattle.p2p_server.proofs.answers.remove_before.Goals as goal
+
+in_time : (clock before : ℕ) → clock / 1000 < before → nat_lt clock (1000 * before) ≡ true
+in_time clock before below = grind arith
+
+pub returns-then-scene-before-clause-does : goal.returns-then-scene-before-clause-does
+returns-then-scene-before-clause-does g c = λ p is part right.
+    let soon = in_time c.args.scene.clock c.args.before c.if-scene-before.true in
+    let done = c.remove.ensures.does p is part right in
+    record { answers = rw soon done.answers; changes = done.changes }

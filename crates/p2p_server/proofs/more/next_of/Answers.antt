@@ -1,0 +1,26 @@
+-- A read of a piece, whole or short.
+use Rattle.std.proofs.Common.{◌≡◌, ◌+◌, ◌-◌, true, ◌∙◌, ap, arith, length}
+use Rattle.std.proofs.lemmas.List.{length-append, length-drop, length-take}
+use Rattle.object_store.specs.Stores.{bytes_of, read_length}
+use Rattle.node_model.specs.Sessions.{reaches}
+use Rattle.p2p_server.proofs.Sending.{piece_is, gone_is, reads_on, reads_off}
+use Rattle.p2p_server.proofs.more.next_of.Goals as goal
+
+pub returns-in-Ok-clause-does : goal.returns-in-Ok-clause-does
+returns-in-Ok-clause-does g c = λ k is h at content fails.
+    let giving = c.args.giving.now in
+    let n = c.min-count.result in
+    let room : length c.deref_mut.result.now ≡ n = omega (arith, c.in_ok-room.ensures.len) in
+    let told = c.in-Ok.ensures.ok k is ∙ ap (read_length (bytes_of k giving.key) giving.at) room in
+    let here : reaches (h.content giving.key) (giving.at + n) ≡ true = rw content (reads_on (k giving.key) giving.at n c.in-Ok.read told c.if-read-count.true (omega arith)) in
+    piece_is h giving.key giving.at (giving.end - giving.at) n _ giving.good (omega arith) (omega arith)
+    (simp (length-take, length-append, length-drop) (omega (arith, c.in_ok-room.ensures.len))) fails here
+
+pub returns-in-Ok-2-clause-does : goal.returns-in-Ok-2-clause-does
+returns-in-Ok-2-clause-does g c = λ k is h at content fails.
+    let giving = c.args.giving.now in
+    let n = c.min-count.result in
+    let room : length c.deref_mut.result.now ≡ n = omega (arith, c.in_ok-room.ensures.len) in
+    let told = c.in-Ok-2.ensures.ok k is ∙ ap (read_length (bytes_of k giving.key) giving.at) room in
+    gone_is h c.args.place giving.key giving.at (giving.end - giving.at) n giving.good at (omega arith) (omega arith) fails
+    (rw content (reads_off (k giving.key) giving.at n c.in-Ok-2.field-0 told (λ e. c.if-read-count.false (cc (c.in-Ok.is, c.in-Ok-2.is)))))

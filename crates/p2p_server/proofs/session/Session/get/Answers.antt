@@ -1,0 +1,23 @@
+-- By whether the content can be read.
+use Rattle.std.proofs.Common.{ap, sym, ◌∙◌}
+use Rattle.std.proofs.lemmas.Bool.{le-leb}
+use Rattle.p2p_server.proofs.Waiting.{get_so, giving_of, in_phase, spoken_of}
+use Rattle.p2p_server.proofs.session.Session.get.Goals as goal
+
+pub returns-in-Some : goal.returns-in-Some
+returns-in-Some g c = λ file.
+    let s = c.args.self.now in
+    let r = c.in_ok-step.ensures in
+    get_so c.args.scene c.args.start file c.args.key.now s _ c.args.table.now _ _ _ _ _ _ _ _ c.in_ok-step.giving c.in_ok-step.step c.requires.waits
+    ((λ j. in_phase s.place s.spoken (c.begin.ensures j)) ∙ ap (λ o. in_phase s.place (spoken_of o s.spoken) (giving_of o)) (sym c.in-Some.is))
+    c.requires.at (le-leb 1 s.spoken c.requires.spoken) r.does r.after r.fits r.given r.lost r.plain r.still c.get.ensures.parts
+    (rw c.get.ensures.records c.requires.agrees) c.get.ensures.later r.cause
+
+pub returns-in-None : goal.returns-in-None
+returns-in-None g c = λ file.
+    let s = c.args.self.now in
+    let r = c.in_ok-step.ensures in
+    get_so c.args.scene c.args.start file c.args.key.now s _ c.args.table.now _ _ _ _ _ _ _ _ c.in_ok-step.giving c.in_ok-step.step c.requires.waits
+    ((λ j. in_phase s.place 0 (c.requires.waits j)) ∙ ap (λ o. in_phase s.place (spoken_of o s.spoken) (giving_of o)) (sym c.in-None.is))
+    c.requires.at (le-leb 1 s.spoken c.requires.spoken) r.does r.after r.fits r.given r.lost r.plain r.still c.get.ensures.parts
+    (rw c.get.ensures.records c.requires.agrees) c.get.ensures.later r.cause

@@ -1,0 +1,12 @@
+-- ERROR closes the connection.
+use Rattle.std.proofs.Common.{ap, ◌∙◌}
+use Rattle.std.specs.Prelude.{None, true, false}
+use Rattle.run_data.specs.declared.entry.EntryKind.TheVariants.{Close}
+use Rattle.p2p_server.specs.declared.session.Session.{Session}
+use Rattle.p2p_server.proofs.Stepping.{gives_up_so}
+use Rattle.p2p_server.proofs.session.Session.give_up.Goals as goal
+
+pub returns : goal.returns
+returns c = λ x text contents parts records faults here agrees.
+    gives_up_so x text c.args.self.now c.reset.new.self c.args.table.now c.reset.new.table contents parts records faults _ here agrees c.reset.ensures.table c.reset.ensures.session
+    (c.closes.ensures ∙ (λ j. record { kind = (c.close_kind.ensures ∙ ap (λ (s : Session). Close s.place.peer s.place.slot false) c.reset.ensures.session) j; reply = None; close = true }))

@@ -1,0 +1,22 @@
+-- By whether the hold was given.
+use Rattle.std.proofs.Common.{ap, sym, ◌∙◌}
+use Rattle.p2p_server.proofs.Waiting.{guarding, in_phase, lock_so}
+use Rattle.p2p_server.proofs.session.Session.lock.Goals as goal
+
+pub returns-in-Some : goal.returns-in-Some
+returns-in-Some g c =
+    let s = c.args.self.now in
+    let r = c.in_ok-step.ensures in
+    rw (← c.in_ok-key.ensures) (
+    lock_so c.args.scene c.in_ok-key.key s _ c.args.table.now c.lock.new.table _ _ _ _ _ _ _ _ c.in_ok-step.share c.in_ok-step.step c.requires.waits
+    ((λ j. in_phase s.place s.spoken (c.begin.ensures j)) ∙ ap (λ o. in_phase s.place s.spoken (guarding o)) (sym c.in-Some.is))
+    c.requires.at.here r.does r.after r.fits r.shared r.refused r.owns c.lock.ensures.others r.plain r.still c.lock.ensures.parts c.lock.ensures.agrees c.lock.ensures.later r.cause)
+
+pub returns-in-None : goal.returns-in-None
+returns-in-None g c =
+    let s = c.args.self.now in
+    let r = c.in_ok-step.ensures in
+    rw (← c.in_ok-key.ensures) (
+    lock_so c.args.scene c.in_ok-key.key s s c.args.table.now c.lock.new.table _ _ _ _ _ _ _ _ c.in_ok-step.share c.in_ok-step.step c.requires.waits
+    ((λ j. in_phase s.place s.spoken (c.requires.waits j)) ∙ ap (λ o. in_phase s.place s.spoken (guarding o)) (sym c.in-None.is))
+    c.requires.at.here r.does r.after r.fits r.shared r.refused r.owns c.lock.ensures.others r.plain r.still c.lock.ensures.parts c.lock.ensures.agrees c.lock.ensures.later r.cause)

@@ -1,0 +1,39 @@
+-- By whether the piece is expected, and the store takes it.
+use Rattle.std.proofs.Common.{◌≡◌, ℕ, ◌++◌, true, List, length, refl, sym, ap, subst, ◌∙◌, arith}
+use Rattle.std.specs.Prelude.{nat_le, nat_lt, ◌&&◌}
+use Rattle.std.specs.Option.{option_map}
+use Rattle.object_store.specs.Stores.{Parts, with_at}
+use Rattle.node_model.specs.Sessions as sessions
+use Rattle.p2p_server.specs.Phases.{IsLonger}
+use Rattle.p2p_server.specs.Talking.{doing_of}
+use Rattle.p2p_server.proofs.Phases.{awaited, piece_so}
+use Rattle.p2p_server.proofs.Unexpected.{bytes_past, no_bytes}
+use Rattle.p2p_server.proofs.session.Session.piece.Goals as goal
+
+pub returns-in_default : goal.returns-in_default
+returns-in_default g c = c.refuse.ensures c.args.scene _ _ _ _ _ c.requires.at.here (no_bytes c.args.self.now c.args.bytes.now c.in_default.not-Takes) c.requires.agrees
+
+pub returns-then-not-awaits : goal.returns-then-not-awaits
+returns-then-not-awaits g c =
+    let left = c.in-Takes.taking.left in
+    let len : c.len-count.result ≡ length c.args.bytes.now.items = omega (arith, c.args.bytes.now.ok.0, c.len-count.ensures) in
+    c.refuse-then-not-awaits.ensures c.args.scene _ _ _ _ _ c.requires.at.here
+    (bytes_past c.args.self.now c.args.bytes.now c.in-Takes.taking c.in-Takes.is
+    ((λ j. nat_lt 0 (sym len j) && nat_le (sym len j) left) ∙ sym c.awaits.ensures ∙ c.if-not-awaits.true))
+    c.requires.agrees
+
+pub returns-in-Ok : goal.returns-in-Ok
+returns-in-Ok g c =
+    let s = c.args.self.now in
+    let t = c.in-Takes.taking in
+    let parts = g.K.Keeper.parts c.args.keeper.now in
+    let items : List ℕ = c.args.bytes.now.items in
+    let len : c.len-count.result ≡ length items = omega (arith, c.args.bytes.now.ok.0, c.len-count.ensures) in
+    let fits : (nat_lt 0 (length items) && nat_le (length items) t.left) ≡ true =
+    (λ j. nat_lt 0 (sym len j) && nat_le (sym len j) t.left) ∙ sym c.awaits.ensures ∙ c.if-not-awaits.false in
+    let grown = c.in-Ok.ensures.ok ∙ (λ j. option_map (λ (p : Parts). with_at p (c.key.ensures j) (p (c.key.ensures j) ++ c.deref.ensures.value j)) parts) in
+    let in_part = awaited (length items) t.left fits in
+    piece_so c.args.scene c.args.bytes.now s _ t c.args.table.now _ _ _ _ _ _ _ _ c.silent.result c.in-Takes.is c.requires.at in_part.0 in_part.1 refl
+    (c.append.ensures.doing ∙ ap (λ (l : List ℕ). sessions.took_bytes (length l) (doing_of s.doing)) c.deref-in-Ok.ensures.value) c.append.ensures.share c.append.ensures.fills
+    (λ p p' fed longer. c.append.ensures.fed p p' fed (subst (λ (l : List ℕ). IsLonger s.doing p p' l) (sym c.deref-in-Ok.ensures.value) longer))
+    grown c.append_part.ensures.small c.append_part.ensures.contents (rw c.append_part.ensures.records c.requires.agrees) c.append_part.ensures.later c.silent.ensures

@@ -1,0 +1,15 @@
+-- The hold is released.
+use Rattle.std.proofs.Common.{◌∙◌}
+use Rattle.std.specs.Prelude.{None, false}
+use Rattle.run_data.specs.declared.entry.EntryKind.TheVariants.{Release}
+use Rattle.p2p_server.proofs.Phases.{going, released_so}
+use Rattle.p2p_server.proofs.session.Session.unlock.Goals as goal
+
+pub returns-in-Ok : goal.returns-in-Ok
+returns-in-Ok g c =
+    let s = c.args.self.now in
+    let share = c.unguard-share.result in
+    released_so c.args.scene c.args.key s _ share c.args.table.now c.release.new.self _ _ _ _ _ _ _ _ c.silent.result c.requires.at c.requires.guards c.unguard-share.ensures.guards
+    (λ j. going s (c.unguard-share.ensures.waits j))
+    (c.silent.ensures ∙ (λ j. record { kind = Release (c.number-hold.ensures j) c.args.key; reply = None; close = false }))
+    c.in-Ok.ensures.after c.in-Ok.ensures.owns c.in-Ok.ensures.others c.release.ensures.contents c.release.ensures.parts c.release.ensures.agrees c.release.ensures.later

@@ -1,0 +1,21 @@
+-- How far the part was read.
+use Rattle.std.proofs.Common.{◌≡◌, ◌≤◌, ◌+◌, ◌-◌, length, take}
+use Rattle.std.specs.Option.{ForSome}
+use Rattle.key_verify.specs.Sums.{HasTaken, bytes_taken}
+use Rattle.p2p_server.proofs.transfer.read_on.Given as goal
+
+-- the digester has taken the part as far as it was read
+abbrev pub invariant-loop-at : goal.invariant-loop-at
+invariant-loop-at g l = record {
+  contents : g.K.Keeper.contents l.keeper ≡ g.K.Keeper.contents l.fn.keeper;
+  parts : g.K.Keeper.parts l.keeper ≡ g.K.Keeper.parts l.fn.keeper;
+  records : g.K.Keeper.records l.keeper ≡ g.K.Keeper.records l.fn.keeper;
+  later : g.K.Keeper.faults l.fn.keeper ≤ g.K.Keeper.faults l.keeper;
+  room : length l.room ≡ 32768;
+  count : bytes_taken l.digester ≡ l.at;
+  within : l.at ≤ l.size + 32768;
+  fed : ForSome (g.K.Keeper.parts l.fn.keeper) (λ p. l.size ≡ length (p l.key) → (l.at ≤ length (p l.key)) × HasTaken l.digester l.key (take l.at (p l.key)));
+}
+
+abbrev pub decreases-loop-at : goal.decreases-loop-at
+decreases-loop-at g l = l.size + 1 - l.at
