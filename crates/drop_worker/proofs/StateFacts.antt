@@ -1,0 +1,114 @@
+-- What a job reads of a state that it is, and the step of its slot.
+use Rattle.std.specs.Prelude.{if◌then◌else◌}
+use Rattle.std.proofs.Common.{◌≡◌, ℕ, Bool, true, Option, Some, None, refl, sym, ap, ◌∙◌}
+use Rattle.annex_base.specs.declared.kinds.Call.{Call}
+use Rattle.run_data.specs.declared.entry.FrameView.{FrameView}
+use Rattle.node_model.specs.SetUp.{SetUp}
+use Rattle.node_model.specs.Jobs as Jobs
+use Rattle.node_model.specs.Jobs.{Work, drop_side}
+use Rattle.node_model.specs.Look.{Look, Made}
+use Rattle.node_model.specs.State.{State}
+use Rattle.node_model.specs.JobStep.{Turn, end_with, turn_of}
+use Rattle.node_model.specs.Rows.{option_is}
+use Rattle.node_model.specs.Slots.{job_of}
+use Rattle.node_model.specs.Turns.{by_partner, is_awaiting}
+use Rattle.object_store.specs.Stores.{Contents}
+use Rattle.content_lock.specs.Rows.{Rows}
+use Rattle.drop_worker.specs.declared.phase.Phase.{Phase}
+use Rattle.drop_worker.specs.declared.phase.Phase.TheVariants as phases
+use Rattle.drop_worker.specs.declared.turn.Taken.{Taken}
+use Rattle.drop_worker.specs.declared.turn.Output.{Output}
+use Rattle.drop_worker.specs.Worker.{Worker}
+use Rattle.drop_worker.specs.Working.{Rest, Sight, end_in, failed_in, made_of, phase_as, present_in, turn_in, work_of}
+use Rattle.drop_worker.specs.Doing.{Does, moved}
+use Rattle.drop_worker.specs.Feeding.{FedAt, FindsAt, step_of}
+use Rattle.drop_worker.specs.States.{IsSight, Keeps, Sees, StepsSo, rest_of}
+use Rattle.annex_base.proofs.Conditions.{eqb_refl}
+
+pub turn_is : (x : Sight) (rows : Rows) (contents : Contents) (s : SetUp) (st : State) (k : Look) (w : Worker) (v : Work) (fails : Option Call)
+    → IsSight x s st k w v → Keeps rows contents st → k.fails ≡ fails → turn_in x rows (present_in contents) fails (rest_of s st k v) w ≡ turn_of s st k v
+turn_is x rows contents s st k w v fails e r f = λ i.
+    record {
+      read = e.read i;
+      keeps = λ c. e.keeps c i;
+      clock = (e.read i).clock;
+      number = e.number i;
+      present = λ key. r.present key i;
+      bar = λ key. r.bar key i;
+      content = st.content;
+      holds = r.holds i;
+      filled = (rest_of s st k v).filled;
+      ends = e.ends i;
+      look = record { time = e.time i; count = k.count; at_hand = k.at_hand; room = k.room; fails = sym f i; part = k.part; right = k.right; words = e.words i };
+      w = e.work i;
+    }
+
+-- every phase of a drop on a connection awaits a frame there
+awaiting : (ph : Phase) → is_awaiting (phase_as ph) ≡ true
+awaiting phases.Fresh = refl
+awaiting phases.Next = refl
+awaiting (phases.Opens peer) = refl
+awaiting (phases.Greets peer) = refl
+awaiting (phases.AsksLock peer since) = refl
+awaiting (phases.AsksLook peer) = refl
+awaiting phases.AsksTime = refl
+awaiting phases.Orders = refl
+awaiting phases.Removed = refl
+awaiting phases.Denied = refl
+awaiting (phases.Late time) = refl
+awaiting (phases.Ends why) = refl
+
+-- the end is open where a frame is taken
+abbrev IsOpenAt : Turn → Option ℕ → Option FrameView → Type 0
+IsOpenAt t (Some peer) (Some f) = (end_with t peer).opened ≡ true
+IsOpenAt t o f = Unit {0}
+
+found_step : (t : Turn) (o : Option ℕ) (f : Option FrameView) → is_awaiting t.w.phase ≡ true → FindsAt t o f → IsOpenAt t o f → by_partner t o ≡ Some (step_of o f t)
+found_step t None f waits room live = rw room refl
+found_step t (Some peer) None waits shut live = rw shut refl
+found_step t (Some peer) (Some f) waits (at, room) live = rw (live, waits, at, room) refl
+
+fed_open : (x : Sight) (t : Turn) (slot : ℕ) (o : Option ℕ) (f : Option FrameView) (taken : Taken) → x.ends ≡ t.ends → slot ≡ t.w.slot → FedAt x slot o f taken → IsOpenAt t o f
+fed_open x t slot None f taken e same fed = tt
+fed_open x t slot (Some peer) None taken e same fed = tt
+fed_open x t slot (Some peer) (Some f) taken e same fed = sym (λ i. (e i (end_in (same i) peer)).opened) ∙ fed.live
+
+-- a step that does this, at a look that sees it, is the slot's
+pub steps_so : (x : Sight) (rows rows' : Rows) (contents : Contents) (w w' : Worker) (taken : Taken) (out : Output) (s : SetUp) (st : State) (k : Look) (v : Work) (f : Option FrameView)
+    → Sees x rows contents w taken (failed_in out.kind) s st k v f → Does x rows rows' (present_in contents) w w' f (step_of (Jobs.partner w.job.peer (phase_as w.phase)) f) out
+    → StepsSo x w w' out s st k v f
+steps_so x rows rows' contents w w' taken out s st k v f sees d =
+    record {
+      made = (λ i. by_partner now (Jobs.partner (sym work i).what.peer (sym work i).phase))
+          ∙ (found_step now o f (ap (λ (u : Work). is_awaiting u.phase) (sym work) ∙ awaiting w.phase) sees.finds (fed_open x now w.slot o f taken sees.sight.ends (ap (λ (u : Work). u.slot) work) sees.fed)
+          ∙ ap (λ (m : Made). Some m) (sym (d.makes rest ∙ ap (step_of o f) is)));
+      next = λ going. d.next going rest
+          ∙ (ap (moved turned) (sym (d.makes rest)) ∙ (ap (λ (t : Turn). moved t made) is ∙ sym (own_entry (option_is (job_of out.kind) v.number) whose)));
+    }
+  where
+    o : Option ℕ
+    o = Jobs.partner w.job.peer (phase_as w.phase)
+
+    rest : Rest
+    rest = rest_of s st k v
+
+    turned : Turn
+    turned = turn_in x rows (present_in contents) (failed_in out.kind) rest w
+
+    now : Turn
+    now = turn_of s st k v
+
+    is : turned ≡ now
+    is = turn_is x rows contents s st k w v (failed_in out.kind) sees.sight sees.keeps sees.failing
+
+    work : work_of rest w ≡ v
+    work = sees.sight.work
+
+    made : Made
+    made = made_of x w f out
+
+    whose : option_is (job_of out.kind) v.number ≡ true
+    whose = (λ i. option_is (d.whose i) (sym work i).number) ∙ eqb_refl w.number
+
+    own_entry : (b : Bool) → b ≡ true → (if b then moved now made else v) ≡ moved now made
+    own_entry b e = rw e refl

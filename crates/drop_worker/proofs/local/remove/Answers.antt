@@ -1,0 +1,17 @@
+-- What the removal does and leaves.
+use Rattle.std.proofs.Common.{sym, ap, ◌∙◌}
+use Rattle.run_data.specs.declared.entry.By.TheVariants.{Job as by_job}
+use Rattle.run_data.specs.declared.entry.EntryKind.TheVariants.{Gone}
+use Rattle.drop_worker.specs.declared.phase.Phase.TheVariants as phases
+use Rattle.drop_worker.specs.Worker.{Worker}
+use Rattle.drop_worker.specs.Leaving.{store}
+use Rattle.drop_worker.proofs.Removals.{removed_did}
+use Rattle.drop_worker.proofs.local.remove.Goals as goal
+
+pub returns-in-Ok : goal.returns-in-Ok
+returns-in-Ok g c = λ x.
+    let next = c.go_to.ensures ∙ ap (λ (u : Worker). record u { phase = phases.Removed }) c.take_token.ensures.bare in
+    removed_did x c.args.table.now c.remove.new.self
+    (store (g.K.Keeper.contents c.args.keeper.now) (g.K.Keeper.records c.args.keeper.now) (g.K.Keeper.faults c.args.keeper.now)) (store (g.K.Keeper.contents c.remove.new.keeper) (g.K.Keeper.records c.remove.new.keeper) (g.K.Keeper.faults c.remove.new.keeper))
+    c.args.worker.now c.go_to.new.self c.in-Bar.bar c.quietly.result (sym c.take_token.ensures.token ∙ c.in-Bar.is) c.requires.owns c.quietly.ensures.1 c.in-Ok.ensures.holds c.in-Ok.ensures.records c.in-Ok.ensures.later
+    (c.quietly.ensures.0 ∙ (λ i. Gone (by_job ((c.number.ensures ∙ ap (λ (u : Worker). u.number) next) i)) ((c.in_ok-key.ensures ∙ c.key.ensures) i))) next c.in-Ok.ensures.after c.in-Ok.ensures.gone

@@ -1,0 +1,26 @@
+-- What the step of the slot promises.
+use Rattle.drop_worker.specs.Leaving.{store}
+use Rattle.drop_worker.specs.Working.{sight}
+use Rattle.drop_worker.proofs.Machines.{all_of}
+use Rattle.drop_worker.proofs.machine.step.Goals as goal
+
+pub returns : goal.returns
+returns g c =
+    let a = all_of (sight (g.H.Here.reading c.args.here.now) (g.H.Here.ends c.args.here.now) c.args.input.now.time c.args.input.now.number) c.args.table.now c.advance.new.table (store (g.K.Keeper.contents c.args.keeper.now) (g.K.Keeper.records c.args.keeper.now) (g.K.Keeper.faults c.args.keeper.now))
+    (store (g.K.Keeper.contents c.advance.new.keeper) (g.K.Keeper.records c.advance.new.keeper) (g.K.Keeper.faults c.advance.new.keeper)) c.args.worker.now c.advance.new.worker c.args.input.now.taken c.args.input.now.word c.advance.result c.requires.owns c.advance.ensures in
+    record {
+      step = a.step;
+      word = a.told;
+      heard = a.heard;
+      after = a.after;
+      contents = a.contents;
+      owns = a.owns;
+      fits = a.fits;
+      job = (a.number, a.job);
+      others = a.others;
+      holds = a.holds;
+      err = a.err;
+      records = a.records;
+      later = a.later;
+      cause = a.cause;
+    }

@@ -1,0 +1,9 @@
+-- What contracts of a drop's worker cite.
+pub mod Worker
+pub mod Standings
+pub mod Working
+pub mod Doing
+pub mod Judging
+pub mod Feeding
+pub mod States
+pub mod Leaving

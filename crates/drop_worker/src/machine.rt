@@ -1,0 +1,102 @@
+//! The step of a drop, which its contract ties to the step of the job's slot.
+ghost use Rattle.std.specs.Prelude.{◌≡◌, ◌≤◌, ℕ, List, false, Some, None, if◌then◌else◌, IfOk, IfSome, OnErr};
+ghost use Rattle.std.specs.declared.option.Option.{Option};
+ghost use Rattle.std.specs.Option.{ForSome};
+ghost use Rattle.annex_base.specs.Causes.{Rose};
+ghost use Rattle.drop_proof.specs.declared.rule.Side.TheVariants as sides;
+ghost use Rattle.run_data.specs.declared.entry.FrameView.{FrameView};
+ghost use Rattle.node_model.specs.SetUp.{SetUp};
+ghost use Rattle.node_model.specs.State.{State};
+ghost use Rattle.node_model.specs.Look.{Look};
+ghost use Rattle.node_model.specs.Jobs.{Work, drop_side, partner};
+ghost use Rattle.content_lock.specs.Rows.{AreAfter, bar_at};
+ghost use Rattle.drop_worker.specs.Working.{failed_in, phase_as, sight};
+ghost use Rattle.drop_worker.specs.Doing.{Grows, HasToken, OthersStay, contents_after, is_barring};
+ghost use Rattle.drop_worker.specs.Feeding.{FitsLocal, KeepsWord, ToldAt};
+ghost use Rattle.drop_worker.specs.Leaving.{Advances, Did, store};
+ghost use Rattle.drop_worker.specs.States.{Sees, StepsSo};
+
+use crate::here::Here;
+use crate::local::act;
+use crate::phase::Token;
+use crate::taking::hear;
+use crate::turn::{Input, Output};
+use crate::worker::Worker;
+use annex_base::NoMemory;
+use content_lock::LockTable;
+use object_store::Keeper;
+use std::alloc::Global;
+
+/// One step of a local drop: an entry, what is sent with it, and whether the job has ended with it. It is told what came at the
+/// end on which the job awaits a frame, or nothing where the job awaits none. Want of memory changes nothing.
+pub fn step<K: Keeper, H: Here>(
+    worker: &mut Worker,
+    alloc: Global,
+    here: &H,
+    table: &mut LockTable,
+    keeper: &mut K,
+    input: &Input,
+) -> Result<Output, NoMemory>
+    requires local { drop_side worker.old.job.kind worker.old.job.peer ≡ sides.Local }
+    requires fits { FitsLocal worker.old.phase worker.old.token }
+    requires told { ToldAt (partner worker.old.job.peer (phase_as worker.old.phase)) input.now.taken }
+    requires owns { HasToken worker.old.number worker.old.job.key worker.old.token table.old }
+
+    // Of each state that these are, at a look at which the entry's call fails: the slot's step is this one.
+    ensures step { IfOk result (λ out. ForSome (K.contents keeper.old) (λ c. (s : SetUp) (st : State) (k : Look) (v : Work) (f : Option FrameView)
+        → Sees (sight (H.reading here.now) (H.ends here.now) input.now.time input.now.number) table.old c worker.old input.now.taken (failed_in out.kind) s st k v f
+        → StepsSo (sight (H.reading here.now) (H.ends here.now) input.now.time input.now.number) worker.old worker.new out s st k v f)) }
+    ensures word { IfOk result (λ out. KeepsWord input.now.taken input.now.word worker.old worker.new) }
+    ensures heard { Grows worker.old.heard worker.new.heard }
+    ensures after { IfOk result (λ out. AreAfter out.kind table.old table.new) }
+    ensures contents { IfOk result (λ out. K.contents keeper.new ≡ contents_after (K.contents keeper.old) out.kind) }
+    ensures owns { HasToken worker.new.number worker.new.job.key worker.new.token table.new }
+    ensures fits { IfOk result (λ out. out.ended ≡ false → FitsLocal worker.new.phase worker.new.token) }
+    ensures job { (worker.new.number ≡ worker.old.number) × (worker.new.job ≡ worker.old.job) }
+    ensures others { OthersStay worker.old.number table.old table.new }
+    ensures holds { table.new.holds ≡ table.old.holds }
+    ensures err { OnErr result ((worker.new ≡ worker.old) × (table.new ≡ table.old) × (K.contents keeper.new ≡ K.contents keeper.old)) }
+    ensures records { K.records keeper.new ≡ K.records keeper.old }
+    ensures later { K.faults keeper.old ≤ K.faults keeper.new }
+    ensures cause { IfOk result (λ out. IfSome (failed_in out.kind) (λ call. Rose (K.faults keeper.old) (K.faults keeper.new))) }
+{
+    advance(worker, alloc, here, table, keeper, input)
+}
+
+/// The step, in the words of a turn: by the frame that came where the job awaits one, and else from where it stands.
+fn advance<K: Keeper, H: Here>(
+    worker: &mut Worker,
+    alloc: Global,
+    here: &H,
+    table: &mut LockTable,
+    keeper: &mut K,
+    input: &Input,
+) -> Result<Output, NoMemory>
+    requires local { drop_side worker.old.job.kind worker.old.job.peer ≡ sides.Local }
+    requires fits { FitsLocal worker.old.phase worker.old.token }
+    requires told { ToldAt (partner worker.old.job.peer (phase_as worker.old.phase)) input.now.taken }
+    requires owns { HasToken worker.old.number worker.old.job.key worker.old.token table.old }
+    ensures { Did table.old table.new (store (K.contents keeper.old) (K.records keeper.old) (K.faults keeper.old)) (store (K.contents keeper.new) (K.records keeper.new) (K.faults keeper.new)) worker.old worker.new
+        (Advances (sight (H.reading here.now) (H.ends here.now) input.now.time input.now.number) (K.contents keeper.old) table.old table.new worker.old worker.new input.now.taken input.now.word) result }
+{
+    match worker.awaits() {
+        Some(peer) => hear(worker, alloc, input, peer),
+        None => act(worker, alloc, here, table, keeper, input),
+    }
+}
+
+/// Ends the worker where its job has ended, or at a crash. What it still has of the table is given up: its bar is off, and its
+/// share is abandoned.
+pub fn end(worker: Worker, table: &mut LockTable)
+    requires owns { HasToken worker.number worker.job.key worker.token table.old }
+    ensures owns { HasToken worker.number worker.job.key Token.Nothing table.new }
+    ensures bars { (k : List ℕ) → bar_at table.new k ≡ (if is_barring worker.token k then None else bar_at table.old k) }
+    ensures others { OthersStay worker.number table.old table.new }
+    ensures fills { table.new.fills ≡ table.old.fills }
+{
+    match worker.into_token() {
+        Token::Nothing => {}
+        Token::Bar(bar) => table.unbar(bar),
+        Token::Share(share) => table.abandon(share),
+    }
+}

@@ -1,0 +1,2 @@
+-- What the tests' own trait implementation cites.
+pub mod Desks

@@ -1,0 +1,11 @@
+//! Tests of a drop's worker, which call its public functions as a user would; nothing else stands here.
+#![tactic(auto)]
+
+#[cfg(test)]
+mod desk;
+#[cfg(test)]
+mod ended;
+#[cfg(test)]
+mod local_tests;
+#[cfg(test)]
+mod peers;
