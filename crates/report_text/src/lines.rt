@@ -6,9 +6,8 @@ ghost use Rattle.thin_model.specs.Past.{begun_job};
 ghost use Rattle.report_text.specs.Report.{end_line, entry_line, ended};
 ghost use Rattle.report_text.specs.Begun.{begun_after};
 
-use crate::job::put_begun;
-use crate::outcome::put_outcome;
 use run_data::{Entry, EntryKind, Job, Outcome, RepoView, Run};
+use run_text::{put_begun, put_outcome};
 use std::alloc::AllocError;
 
 /// Adds the lines of the entries from one place of a run up to another: one for each job that ends.

@@ -9,11 +9,11 @@ ghost use Rattle.run_data.specs.Files.{file_path};
 ghost use Rattle.report_text.specs.Report.{lines_text, log_text, location_text, claims_text};
 
 use crate::named::{named, put_joined};
-use crate::words::put_name;
 use annex_base::{Line, NoMemory, put_number};
 use annex_key::Key;
 use hash_dirs::location_path;
 use run_data::{LogFile, Run};
+use run_text::put_name;
 use script_words::put_word;
 use std::alloc::AllocError;
 use trust_groups::{Levels, claims_of};

@@ -3,7 +3,8 @@
 ghost use Rattle.std.specs.Prelude.{◌≡◌, ◌++◌, ◌∷◌, IfOk, OnOk, bytes_eq, filter, map, not};
 ghost use Rattle.std.specs.List.{flat_map, list_any};
 ghost use Rattle.annex_base.specs.RepoText.{repo_text};
-ghost use Rattle.report_text.specs.Report.{joined, named};
+ghost use Rattle.run_text.specs.Names.{joined};
+ghost use Rattle.report_text.specs.Report.{named};
 
 use annex_base::{NoMemory, RepoId, Text};
 use run_data::RepoView;

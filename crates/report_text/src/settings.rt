@@ -7,9 +7,9 @@ ghost use Rattle.run_data.specs.Repos.{id_of};
 ghost use Rattle.report_text.specs.Report.{level_text, numbers_text, trust_text};
 
 use crate::named::put_joined;
-use crate::words::put_name;
 use annex_base::{Level, NoMemory, RepoId, put_number};
 use run_data::{RepoView, Run};
+use run_text::put_name;
 use std::alloc::Global;
 use trust_groups::{groups_of, level_of, mincopies_of, numcopies_of};
 use union_merge::Branch;

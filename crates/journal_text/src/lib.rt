@@ -1,0 +1,10 @@
+//! The text of a run's journal.
+#![tactic(auto)]
+
+mod entry;
+mod fields;
+mod frame;
+mod kind;
+mod run;
+
+pub use run::journal;

@@ -1,0 +1,4 @@
+-- The definitions of this crate.
+pub mod Names
+pub mod Jobs
+pub mod Outcomes

@@ -1,0 +1,98 @@
+//! What a line says of its job.
+
+ghost use Rattle.std.specs.Prelude.{◌≡◌, ◌++◌, ◌∷◌, OnOk, option_copied};
+ghost use Rattle.run_text.specs.Jobs.{kind_text, way_text, peer_text, key_text, job_text, begun_text};
+ghost use Rattle.script_words.specs.Words.{printed_word};
+
+use crate::names::put_name;
+use run_data::{Job, JobKind, RepoView};
+use script_words::put_word;
+use std::alloc::AllocError;
+
+/// Adds the line of a job as a script says it, with one space between its words.
+pub fn put_job(
+    out: &mut Vec<u8>,
+    repos: &[RepoView],
+    repo: u32,
+    job: &Job,
+) -> Result<(), AllocError>
+    ensures { OnOk result (out.new.items ≡ out.old.items ++ job_text repos.now repo job.now) }
+{
+    out.extend_from_slice(kind_word(job.kind))?;
+    put_name(out, repos, repo)?;
+    out.push(b' ')?;
+    put_key(out, job)?;
+    put_peer(out, repos, way_word(job.kind), job.peer)?;
+    Ok(())
+}
+
+/// Adds the line of a job that was begun, if one was.
+pub fn put_begun(
+    out: &mut Vec<u8>,
+    repos: &[RepoView],
+    repo: u32,
+    job: Option<&Job>,
+) -> Result<(), AllocError>
+    ensures { OnOk result (out.new.items ≡ out.old.items ++ begun_text repos.now repo (option_copied job.entry)) }
+{
+    if let Some(job) = job {
+        put_job(out, repos, repo, job)?;
+    }
+    Ok(())
+}
+
+fn kind_word(kind: JobKind) -> &'static [u8]
+    ensures { result.now ≡ kind_text kind }
+{
+    match kind {
+        JobKind::Drop => b"drop ",
+        JobKind::Get => b"get ",
+        JobKind::Copy => b"copy ",
+        JobKind::MoveTo | JobKind::MoveFrom => b"move ",
+    }
+}
+
+fn way_word(kind: JobKind) -> &'static [u8]
+    ensures { result.now ≡ way_text kind }
+{
+    match kind {
+        JobKind::Drop | JobKind::Get | JobKind::MoveFrom => b" from ",
+        JobKind::Copy | JobKind::MoveTo => b" to ",
+    }
+}
+
+/// The key as the line named it: by its path, or by its text.
+fn put_key(out: &mut Vec<u8>, job: &Job) -> Result<(), AllocError>
+    ensures { OnOk result (out.new.items ≡ out.old.items ++ key_text job.now job.now.path) }
+{
+    match &job.path {
+        None => put_word(out, job.key.text())?,
+        Some(path) => put_path(out, path.bytes())?,
+    }
+    Ok(())
+}
+
+fn put_path(out: &mut Vec<u8>, path: &[u8]) -> Result<(), AllocError>
+    ensures { OnOk result (out.new.items ≡ out.old.items ++ printed_word (64 ∷ path.now)) }
+{
+    let mut word = Vec::new(*out.allocator());
+    word.push(b'@')?;
+    word.extend_from_slice(path)?;
+    put_word(out, &word)?;
+    Ok(())
+}
+
+fn put_peer(
+    out: &mut Vec<u8>,
+    repos: &[RepoView],
+    word: &[u8],
+    peer: Option<u32>,
+) -> Result<(), AllocError>
+    ensures { OnOk result (out.new.items ≡ out.old.items ++ peer_text repos.now word.now peer) }
+{
+    if let Some(number) = peer {
+        out.extend_from_slice(word)?;
+        put_name(out, repos, number)?;
+    }
+    Ok(())
+}

@@ -1,0 +1,13 @@
+//! The texts of names, jobs and outcomes that reports and journals print.
+#![tactic(auto)]
+
+mod job;
+mod names;
+mod outcome;
+mod proof;
+mod refusal;
+mod transfer;
+
+pub use job::{put_begun, put_job};
+pub use names::{put_name, put_names};
+pub use outcome::put_outcome;
