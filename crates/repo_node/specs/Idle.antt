@@ -1,0 +1,43 @@
+-- A node that has no job, no session and no owed line; for private contracts.
+use Rattle.std.specs.Prelude.{◌≡◌, true, List, [], Option}
+use Rattle.object_store.specs.Stores.{Contents}
+use Rattle.content_lock.specs.Rows.{Rows}
+use Rattle.run_data.specs.declared.entry.Entry.{Entry}
+use Rattle.run_data.specs.declared.entry.EntryKind.{EntryKind}
+use Rattle.run_data.specs.declared.entry.EntryKind.TheVariants.{Gain, Log, Compact, Fault}
+use Rattle.run_data.specs.declared.entry.By.TheVariants.{Script}
+use Rattle.union_merge.specs.Branch.{Files}
+use Rattle.node_model.specs.AnyTime.{is_scripts}
+use Rattle.node_model.specs.Ends.{EndName, never}
+use Rattle.node_model.specs.Sessions.{new_session}
+use Rattle.node_model.specs.SetUp.{SetUp}
+use Rattle.node_model.specs.State.{State}
+use Rattle.repo_node.specs.declared.setup.Setup.{Setup}
+use Rattle.repo_node.specs.Nodes.{Fits, IsState, state_of}
+
+pub record IsIdle (st : State) : Type 0 where
+  pub begun : st.begun ≡ 0
+  pub works : st.works ≡ []
+  pub owed : st.owed ≡ []
+  pub sessions : (a : EndName) → st.sessions a ≡ new_session
+  pub ends : (a : EndName) → st.ends a ≡ never
+
+-- what a node keeps: it stands as its history leaves it
+pub record IsKept (setup : Setup) (history : List Entry) (rows : Rows) (branch : Files) (contents : Option Contents) : Type 0 where
+  pub state : (s : SetUp) → Fits setup s → IsState s rows branch contents (state_of s history)
+  pub idle : (s : SetUp) → Fits setup s → IsIdle (state_of s history)
+
+-- what a script does to a repository beside its jobs
+abbrev pub IsDirect : EntryKind → Type 0
+IsDirect (Gain Script size key) = Unit {0}
+IsDirect (Log file) = Unit {0}
+IsDirect (Compact file) = Unit {0}
+IsDirect (Fault call Script) = is_scripts call ≡ true
+IsDirect _ = ⊥
+
+-- of that, what changes no content
+abbrev pub IsOfFiles : EntryKind → Type 0
+IsOfFiles (Log file) = Unit {0}
+IsOfFiles (Compact file) = Unit {0}
+IsOfFiles (Fault call Script) = is_scripts call ≡ true
+IsOfFiles _ = ⊥

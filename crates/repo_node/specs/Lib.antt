@@ -1,0 +1,7 @@
+-- The definitions of this crate.
+pub mod Nodes
+pub mod Stored
+pub mod Idle
+pub mod Logs
+pub mod Refusals
+pub mod Pasts

@@ -1,0 +1,43 @@
+-- The past of a node and its next entries; for private contracts.
+use Rattle.std.specs.Prelude.{◌≡◌, ℕ, ◌+◌, ◌<◌, ◌^◌, vec_len, vec_capacity, List, [], ◌∷◌, ◌++◌, Some, None}
+use Rattle.annex_base.specs.declared.kinds.Call.{Call}
+use Rattle.run_data.specs.declared.entry.Entry.{Entry}
+use Rattle.run_data.specs.declared.entry.EntryKind.{EntryKind}
+use Rattle.run_data.specs.declared.entry.EntryKind.TheVariants.{Fault}
+use Rattle.run_data.specs.declared.entry.By.TheVariants.{Script}
+use Rattle.repo_node.specs.declared.past.Past.{Past}
+use Rattle.repo_node.specs.declared.refused.NodeRefused.{NodeRefused}
+use Rattle.repo_node.specs.declared.refused.NodeRefused.TheVariants as refusals
+use Rattle.repo_node.specs.Refusals.{most_entries}
+
+-- it is what it was, but for the room that it has
+pub record SamePast (was now : Past) : Type 0 where
+  pub setup : now.setup ≡ was.setup
+  pub time : now.time ≡ was.time
+  pub count : now.count ≡ was.count
+  pub history : now.history.items ≡ was.history.items
+  pub outcomes : now.outcomes.items ≡ was.outcomes.items
+
+-- one more entry has its place, and its count is below 2 ^ 62
+pub record IsReady (p : Past) : Type 0 where
+  pub room : vec_len p.history < vec_capacity p.history
+  pub few : vec_len p.history < most_entries
+  pub counted : p.count + 1 < 2 ^ 62
+
+abbrev pub entry_of : Past → EntryKind → List (List ℕ) → Entry
+entry_of p kind lines = record { time = p.time; count = p.count + 1; repo = Some p.setup.number; kind = kind; taken = None; sent = []; lines = lines }
+
+-- it has one more entry of this kind
+pub record AddsTo (kind : EntryKind) (lines : List (List ℕ)) (was now : Past) : Type 0 where
+  pub setup : now.setup ≡ was.setup
+  pub time : now.time ≡ was.time
+  pub count : now.count ≡ was.count + 1
+  pub history : now.history.items ≡ was.history.items ++ entry_of was kind lines ∷ []
+  pub outcomes : now.outcomes.items ≡ was.outcomes.items
+
+-- a step that makes this call of the store was refused
+abbrev pub FailsSo : NodeRefused → Call → Past → Past → Type 0
+FailsSo refusals.Full call was now = SamePast was now × (vec_len was.history ≡ most_entries)
+FailsSo refusals.StoreFault call was now = AddsTo (Fault call Script) [] was now
+FailsSo (refusals.BadBundle at) call was now = ⊥
+FailsSo refusals.NoMemory call was now = SamePast was now

@@ -1,0 +1,108 @@
+//! The next entries of a node.
+ghost use Rattle.std.specs.Prelude.{◌≡◌, ℕ, ◌+◌, ◌<◌, ◌≤◌, ◌^◌, [], max, IfErr, IsErrOf, OnOk};
+ghost use Rattle.annex_base.specs.declared.kinds.Call.{Call};
+ghost use Rattle.object_store.specs.declared.keeper.KeeperFault.TheVariants as faults;
+ghost use Rattle.repo_node.specs.Pasts.{AddsTo, FailsSo, IsReady, SamePast};
+
+use crate::past::Past;
+use crate::refused::NodeRefused;
+use crate::setup::Setup;
+use annex_base::{Call, Items, Line};
+use object_store::KeeperFault;
+use run_data::{By, Entry, EntryKind};
+use std::alloc::Global;
+
+/// How many entries a history has at most.
+const MOST_ENTRIES: usize = 100_000;
+
+/// No machine makes so many entries.
+const COUNT_LIMIT: u64 = 4_611_686_018_427_387_904;
+
+impl Past {
+    pub(crate) fn new(alloc: Global, setup: Setup) -> Past
+        ensures setup { result.setup ≡ setup }
+        ensures time { result.time ≡ 0 }
+        ensures count { result.count ≡ 0 }
+        ensures history { result.history.items ≡ [] }
+        ensures outcomes { result.outcomes.items ≡ [] }
+    {
+        Past {
+            alloc,
+            setup,
+            time: 0,
+            count: 0,
+            history: Vec::new(alloc),
+            outcomes: Vec::new(alloc),
+        }
+    }
+
+    pub(crate) fn advance(&mut self, time: u64, count: u64)
+        requires time { time ≤ 1000000000000 }
+        requires count { count < 2 ^ 62 }
+        ensures time { self.new.time ≡ max self.old.time time }
+        ensures count { self.new.count ≡ max self.old.count count }
+        ensures setup { self.new.setup ≡ self.old.setup }
+        ensures history { self.new.history ≡ self.old.history }
+        ensures outcomes { self.new.outcomes ≡ self.old.outcomes }
+    {
+        self.time = self.time.max(time);
+        self.count = self.count.max(count);
+    }
+
+    /// Reserves the place of one more entry.
+    pub(crate) fn ready(&mut self) -> Result<(), NodeRefused>
+        ensures ready { OnOk result (IsReady self.new) }
+        ensures same { SamePast self.old self.new }
+        ensures err { IfErr result (λ e. (call : Call) → FailsSo e call self.old self.new) }
+        ensures no_fault { IsErrOf result NodeRefused.StoreFault → ⊥ }
+    {
+        if self.history.len() >= MOST_ENTRIES {
+            return Err(NodeRefused::Full);
+        }
+        if self.count + 1 >= COUNT_LIMIT {
+            return Err(NodeRefused::NoMemory);
+        }
+        self.history.reserve(1)?;
+        Ok(())
+    }
+
+    /// Adds an entry that takes no frame and sends none.
+    pub(crate) fn add(&mut self, kind: EntryKind, lines: Items<Line>)
+        requires { IsReady self.old }
+        ensures { AddsTo kind lines self.old self.new }
+    {
+        let entry = Entry {
+            time: self.time,
+            count: self.count + 1,
+            repo: Some(self.setup.number),
+            kind,
+            taken: None,
+            sent: Items::new(self.alloc),
+            lines,
+        };
+        self.history.push(entry).unwrap();
+        self.count += 1;
+    }
+
+    /// A call of the store failed in a step of the script: where it wasn't for want of memory, an entry says so.
+    pub(crate) fn fail(&mut self, fault: KeeperFault, call: Call) -> NodeRefused
+        requires { IsReady self.old }
+        ensures entry { FailsSo result call self.old self.new }
+        ensures failed { result ≡ NodeRefused.StoreFault → fault ≡ faults.Failed }
+    {
+        match fault {
+            KeeperFault::NoMemory => NodeRefused::NoMemory,
+            KeeperFault::Failed => {
+                let lines = Items::new(self.alloc);
+                self.add(
+                    EntryKind::Fault {
+                        call,
+                        by: By::Script,
+                    },
+                    lines,
+                );
+                NodeRefused::StoreFault
+            }
+        }
+    }
+}

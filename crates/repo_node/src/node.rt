@@ -1,0 +1,142 @@
+//! A node, and what it shows of itself.
+ghost use Rattle.std.specs.Prelude.{◌≡◌, ◌≢◌, ◌≤◌, ◌<◌, ◌^◌, ◌*◌, ℕ, [], Some, max, length, replicate, slice_get, AllPairs, IfOk, OnOk, OnErr};
+ghost use Rattle.std.specs.Option.{ForSome, option_map};
+ghost use Rattle.content_lock.specs.Stored.{Agrees};
+ghost use Rattle.link_ring.specs.Ends.{fresh};
+ghost use Rattle.object_store.specs.Calls.{one_more};
+ghost use Rattle.node_model.specs.SetUp.{SetUp};
+ghost use Rattle.repo_node.specs.Nodes.{Fits, HasFiles, IsState, state_of};
+ghost use Rattle.repo_node.specs.Refusals.{most_entries};
+ghost use Rattle.repo_node.specs.Stored.{HasNothing};
+
+use crate::past::Past;
+use crate::setup::{Ended, Setup};
+use annex_base::{Call, NoMemory};
+use content_lock::LockTable;
+use link_ring::Links;
+use object_store::{FailingKeeper, Keeper};
+use run_data::Entry;
+use std::alloc::Global;
+use std::marker::Model;
+use union_merge::Branch;
+
+/// A repository of a run (own). It knows its own store, rows and branch, and of the others what reaches it over its ends. What
+/// it has is the state that its history leaves. It has tokens to spend, so it is dissolved and never dropped.
+pub struct Node<K: Keeper> {
+    pub(crate) keeper: K,
+    pub(crate) table: LockTable,
+    pub(crate) branch: Branch,
+    pub(crate) past: Past,
+    links: Links,
+}
+
+impl<K: Keeper> Model for Node<K> {
+    ghost use Rattle.repo_node.specs.Nodes.{NodeView, HasFiles};
+    ghost use Rattle.repo_node.specs.Idle.{IsKept};
+    ghost use Rattle.content_lock.specs.Stored.{Agrees};
+
+    ghost Value = { NodeView K };
+
+    ghost view = { λ n. record { setup = n.past.setup; keeper = n.keeper; table = n.table; branch = n.branch; time = n.past.time; count = n.past.count; history = n.past.history.items; outcomes = n.past.outcomes.items } };
+
+    ghost invariant = { λ n. IsKept n.past.setup n.past.history.items n.table n.branch (K.contents n.keeper) × HasFiles (K.files n.keeper) n.branch × Agrees (K.records n.keeper) n.table.holds };
+}
+
+impl<K: Keeper> Node<K> {
+    /// A node before its first entry. Its store is empty, and its links are those that `make_links` gave for as many
+    /// repositories at its place.
+    pub fn new(alloc: Global, setup: Setup, keeper: K, links: Links) -> Result<Node<K>, NoMemory>
+        requires empty { HasNothing (K.contents keeper) (K.parts keeper) (K.records keeper) (K.files keeper) }
+        requires own { slice_get setup.repos setup.number ≡ Some setup.id }
+        requires apart { AllPairs (λ a b. a ≢ b) setup.repos }
+        requires offset { setup.offset ≤ 100000000000 }
+        requires oldest { 1 ≤ setup.version }
+        requires newest { setup.version ≤ 3 }
+        requires links { links.ends.items ≡ replicate (length setup.repos * 8) fresh }
+        ensures { IfOk result (λ n. n ≡ record { setup = setup; keeper = keeper; table = record { holds = []; bars = []; fills = [] }; branch = []; time = 0; count = 0; history = []; outcomes = [] }) }
+    {
+        let table = LockTable::new(alloc)?;
+        Ok(Node {
+            keeper,
+            table,
+            branch: Branch::new(alloc),
+            past: Past::new(alloc, setup),
+            links,
+        })
+    }
+
+    /// Raises the time, in milliseconds of the script, and the count of the last entry. Neither ever falls.
+    pub fn advance(&mut self, time: u64, count: u64)
+        requires time { time ≤ 1000000000000 }
+        requires count { count < 2 ^ 62 }
+        ensures { self.new ≡ record self.old { time = max self.old.time time; count = max self.old.count count } }
+    {
+        self.past.advance(time, count);
+    }
+
+    /// Its entries, the oldest first. Its rows, its branch and its store are the state that they leave (own).
+    pub fn history(&self) -> &[Entry]
+        ensures value { result.now ≡ self.now.history }
+        ensures few { length self.now.history ≤ most_entries }
+        ensures state { (s : SetUp) → Fits self.now.setup s → IsState s self.now.table self.now.branch (K.contents self.now.keeper) (state_of s self.now.history) }
+        ensures files { HasFiles (K.files self.now.keeper) self.now.branch }
+        ensures records { Agrees (K.records self.now.keeper) self.now.table.holds }
+    {
+        &self.past.history
+    }
+
+    /// Its jobs that have ended, in the order of their ends.
+    pub fn outcomes(&self) -> &[Ended]
+        ensures { result.now ≡ self.now.outcomes }
+    {
+        &self.past.outcomes
+    }
+
+    pub fn keeper(&self) -> &K
+        ensures { result.now ≡ self.now.keeper }
+    {
+        &self.keeper
+    }
+
+    pub fn branch(&self) -> &Branch
+        ensures { result.now ≡ self.now.branch }
+    {
+        &self.branch
+    }
+
+    pub fn table(&self) -> &LockTable
+        ensures { result.now ≡ self.now.table }
+    {
+        &self.table
+    }
+
+    /// Spends what its jobs and sessions have of it, and hands its store back.
+    pub fn dissolve(self) -> K
+        ensures { result ≡ self.keeper }
+    {
+        let Node {
+            keeper,
+            table: _,
+            branch: _,
+            past: _,
+            links: _,
+        } = self;
+        keeper
+    }
+}
+
+impl<K: FailingKeeper> Node<K> {
+    /// Lets one more of the next calls of this kind of its store fail, and changes nothing else.
+    pub fn fail_next(&mut self, call: Call) -> Result<(), NoMemory>
+        ensures ok { OnOk result (K.failing self.new.keeper ≡ option_map (one_more call) (K.failing self.old.keeper)) }
+        ensures err { OnErr result (K.failing self.new.keeper ≡ K.failing self.old.keeper) }
+        ensures contents { K.contents self.new.keeper ≡ K.contents self.old.keeper }
+        ensures parts { K.parts self.new.keeper ≡ K.parts self.old.keeper }
+        ensures records { K.records self.new.keeper ≡ K.records self.old.keeper }
+        ensures files { K.files self.new.keeper ≡ K.files self.old.keeper }
+        ensures faults { K.faults self.new.keeper ≡ K.faults self.old.keeper }
+        ensures rest { self.new ≡ record self.old { keeper = self.new.keeper } }
+    {
+        self.keeper.fail_next(call)
+    }
+}

@@ -1,0 +1,20 @@
+//! What a node has done, and what its next entry is made of.
+ghost use Rattle.std.specs.Prelude.{◌<◌, ◌≤◌, ◌^◌, vec_len};
+
+use crate::setup::{Ended, Setup};
+use run_data::Entry;
+use std::alloc::Global;
+
+/// The entries of a node, the oldest first, and what the next one is made of.
+#[derive(Drop)]
+pub(crate) struct Past {
+    pub alloc: Global,
+    pub setup: Setup,
+    pub time: u64,
+    pub count: u64,
+    pub history: Vec<Entry>,
+    pub outcomes: Vec<Ended>,
+    ghost few: { vec_len history ≤ 100000 },
+    ghost counted: { count < 2 ^ 62 },
+    ghost early: { time ≤ 1000000000000 },
+}

@@ -1,0 +1,28 @@
+//! What a node is given before its first entry, and how its jobs end.
+use annex_base::{Items, RepoId};
+use run_data::Outcome;
+
+/// A repository as it is set up, and the identifiers of all repositories of its run in order of number (own).
+#[derive(Debug, Drop)]
+pub struct Setup {
+    /// Its place among the repositories, from 0.
+    pub number: u32,
+    pub id: RepoId,
+    /// How far its wall clock is ahead of the script's time, in milliseconds; at most 100,000,000,000.
+    pub offset: u64,
+    /// The greatest version of the P2P protocol that it speaks, 1 to 3.
+    pub version: u8,
+    /// Whether it gives holds to its peers.
+    pub locks: bool,
+    pub repos: Items<RepoId>,
+}
+
+/// A job that has ended, and how (own).
+#[derive(Debug, Drop)]
+pub struct Ended {
+    /// The job's number.
+    pub number: u32,
+    /// The place of the entry that ended it in the history of its repository, from 0.
+    pub place: usize,
+    pub outcome: Outcome,
+}

@@ -1,0 +1,170 @@
+//! What a node writes into the files of its branch.
+ghost use Rattle.std.specs.Prelude.{◌≡◌, ◌≤◌, ℕ, List, Some, IfOk, IfErr, IsErrOf, OnOk, OnErr, option_map, IsSome};
+ghost use Rattle.annex_base.specs.Causes.{Rose};
+ghost use Rattle.annex_base.specs.declared.kinds.Call.TheVariants as calls;
+ghost use Rattle.object_store.specs.Stores.{with_at};
+ghost use Rattle.union_merge.specs.Branch.{file_at, lines_at, with_back, with_file};
+ghost use Rattle.union_merge.specs.LineSet.{IsLine, text_of};
+ghost use Rattle.node_model.specs.Files.{lines_after};
+ghost use Rattle.repo_node.specs.Idle.{IsOfFiles};
+ghost use Rattle.repo_node.specs.Nodes.{with_entry};
+ghost use Rattle.repo_node.specs.Pasts.{AddsTo, FailsSo, IsReady, SamePast};
+ghost use Rattle.repo_node.specs.Refusals.{RefusesSo};
+ghost use Rattle.repo_node.specs.Stored.{LeavesRest};
+
+use crate::node::Node;
+use crate::past::Past;
+use crate::refused::NodeRefused;
+use annex_base::{Call, Items, Line, NoMemory};
+use object_store::Keeper;
+use run_data::EntryKind;
+use union_merge::{Branch, LineSet, files_are_changed_alone};
+
+/// What a file of a branch has, as a copy.
+fn file_of(branch: &Branch, path: &[u8]) -> Result<Option<LineSet>, NoMemory>
+    ensures { IfOk result (λ o. o ≡ file_at branch.now path.now) }
+{
+    match branch.file(path) {
+        Some(lines) => Ok(Some(lines.copy()?)),
+        None => Ok(None),
+    }
+}
+
+/// Gives a file of the branch these lines, and answers what gives it back as it was.
+fn replaced(branch: &mut Branch, path: &[u8], all: LineSet) -> Result<Option<LineSet>, NoMemory>
+    requires { IsLine path.now }
+    ensures ok { OnOk result (branch.new ≡ with_file branch.old path.now all) }
+    ensures there { OnOk result (IsSome (file_at branch.new path.now)) }
+    ensures back { IfOk result (λ was. with_back branch.new path.now was ≡ branch.old) }
+    ensures err { OnErr result (branch.new ≡ branch.old) }
+{
+    // For the proof: a law, by which a file that is put back leaves the branch as it was, and that its files are in order.
+    files_are_changed_alone();
+    let _ = branch.files();
+    let was = file_of(branch, path)?;
+    branch.replace_file(path, all)?;
+    Ok(was)
+}
+
+/// Puts the file into the store, and adds the entry that says so, or that the store failed.
+fn put<K: Keeper>(
+    keeper: &mut K,
+    past: &mut Past,
+    path: &[u8],
+    bytes: &[u8],
+    kind: EntryKind,
+    lines: Items<Line>,
+) -> Result<(), NodeRefused>
+    requires { IsReady past.old }
+    ensures past { OnOk result (AddsTo kind lines past.old past.new) }
+    ensures files { OnOk result (K.files keeper.new ≡ option_map (λ f. with_at f path.now (Some bytes.now)) (K.files keeper.old)) }
+    ensures err { IfErr result (λ e. FailsSo e calls.PutFile past.old past.new) }
+    ensures err_files { OnErr result (K.files keeper.new ≡ K.files keeper.old) }
+    ensures rest { LeavesRest (K.contents keeper.old) (K.contents keeper.new) (K.parts keeper.old) (K.parts keeper.new) (K.records keeper.old) (K.records keeper.new) }
+    ensures later { K.faults keeper.old ≤ K.faults keeper.new }
+    ensures cause { IsErrOf result NodeRefused.StoreFault → Rose (K.faults keeper.old) (K.faults keeper.new) }
+{
+    match keeper.put_file(path, bytes) {
+        Ok(()) => {
+            past.add(kind, lines);
+            Ok(())
+        }
+        Err(fault) => Err(past.fail(fault, Call::PutFile)),
+    }
+}
+
+/// A file that the branch has and the store doesn't have yet: its bytes, and what gives it back to the branch as it was.
+#[derive(Drop)]
+struct Draft {
+    bytes: Vec<u8>,
+    was: Option<LineSet>,
+}
+
+/// Gives a file of the branch these lines, with room for the entry that says so. All that takes memory is done.
+fn drafted(
+    branch: &mut Branch,
+    past: &mut Past,
+    path: &[u8],
+    all: LineSet,
+) -> Result<Draft, NodeRefused>
+    requires { IsLine path.now }
+    ensures ready { OnOk result (IsReady past.new) }
+    ensures same { SamePast past.old past.new }
+    ensures bytes { IfOk result (λ d. d.bytes.items ≡ text_of all) }
+    ensures branch { OnOk result (branch.new ≡ with_file branch.old path.now all) }
+    ensures there { OnOk result (IsSome (file_at branch.new path.now)) }
+    ensures back { IfOk result (λ d. with_back branch.new path.now d.was ≡ branch.old) }
+    ensures err { IfErr result (λ e. FailsSo e calls.PutFile past.old past.new) }
+    ensures err_branch { OnErr result (branch.new ≡ branch.old) }
+    ensures no_fault { IsErrOf result NodeRefused.StoreFault → ⊥ }
+{
+    past.ready()?;
+    let bytes = all.to_bytes()?;
+    let was = replaced(branch, path, all)?;
+    Ok(Draft { bytes, was })
+}
+
+/// Gives a file of the branch these lines, in the store too, by an entry of this kind with those that are new. Where the store
+/// fails, the branch has the file back as it was.
+fn write_file<K: Keeper>(
+    keeper: &mut K,
+    branch: &mut Branch,
+    past: &mut Past,
+    path: &[u8],
+    all: LineSet,
+    kind: EntryKind,
+    lines: Items<Line>,
+) -> Result<(), NodeRefused>
+    requires { IsLine path.now }
+    ensures branch { OnOk result (branch.new ≡ with_file branch.old path.now all) }
+    ensures past { OnOk result (AddsTo kind lines past.old past.new) }
+    ensures files { OnOk result (K.files keeper.new ≡ option_map (λ f. with_at f path.now (Some (text_of all))) (K.files keeper.old)) }
+    ensures err { IfErr result (λ e. FailsSo e calls.PutFile past.old past.new) }
+    ensures err_branch { OnErr result (branch.new ≡ branch.old) }
+    ensures err_files { OnErr result (K.files keeper.new ≡ K.files keeper.old) }
+    ensures rest { LeavesRest (K.contents keeper.old) (K.contents keeper.new) (K.parts keeper.old) (K.parts keeper.new) (K.records keeper.old) (K.records keeper.new) }
+    ensures later { K.faults keeper.old ≤ K.faults keeper.new }
+    ensures cause { IsErrOf result NodeRefused.StoreFault → Rose (K.faults keeper.old) (K.faults keeper.new) }
+{
+    let draft = drafted(branch, past, path, all)?;
+    match put(keeper, past, path, &draft.bytes, kind, lines) {
+        Ok(()) => Ok(()),
+        Err(refused) => {
+            branch.put_back(path, draft.was);
+            Err(refused)
+        }
+    }
+}
+
+impl<K: Keeper> Node<K> {
+    /// Gives a file of the branch these lines, by an entry of this kind with those that are new.
+    pub(crate) fn write(
+        &mut self,
+        path: &[u8],
+        all: LineSet,
+        kind: EntryKind,
+        lines: Items<Line>,
+    ) -> Result<(), NodeRefused>
+        requires line { IsLine path.now }
+        requires kind { IsOfFiles kind }
+        requires lines { (p : List ℕ) → lines_at (with_file self.old.branch path.now all) p ≡ lines_after p (lines_at self.old.branch p) kind lines }
+        ensures ok { OnOk result (self.new ≡ with_entry self.old self.new.keeper (with_file self.old.branch path.now all) kind lines) }
+        ensures err { IfErr result (λ e. RefusesSo e calls.PutFile self.old self.new) }
+        ensures contents { K.contents self.new.keeper ≡ K.contents self.old.keeper }
+        ensures parts { K.parts self.new.keeper ≡ K.parts self.old.keeper }
+        ensures later { K.faults self.old.keeper ≤ K.faults self.new.keeper }
+        ensures cause { IsErrOf result NodeRefused.StoreFault → Rose (K.faults self.old.keeper) (K.faults self.new.keeper) }
+    {
+        // A law, for the proof: only the file of this path changes.
+        files_are_changed_alone();
+        write_file(
+            &mut self.keeper,
+            &mut self.branch,
+            &mut self.past,
+            path,
+            all,
+            kind,
+            lines,
+        )
+    }
+}
