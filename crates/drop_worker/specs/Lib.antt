@@ -7,3 +7,4 @@ pub mod Judging
 pub mod Feeding
 pub mod States
 pub mod Leaving
+pub mod Remote

@@ -19,7 +19,7 @@ use drop_proof::{Evidence, Judged, Kind, Need, Side};
 use std::alloc::Global;
 
 /// How long a lock lasts, in milliseconds: ten minutes.
-const LOCK_TIME: u64 = 600_000;
+pub(crate) const LOCK_TIME: u64 = 600_000;
 
 /// Whether a candidate is to be asked.
 fn asks<H: Here>(worker: &Worker, here: &H, candidate: u32) -> bool
