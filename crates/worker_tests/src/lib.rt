@@ -9,3 +9,5 @@ mod ended;
 mod local_tests;
 #[cfg(test)]
 mod peers;
+#[cfg(test)]
+mod row_tests;
