@@ -1,0 +1,132 @@
+//! The lines that a node writes into its logs, and their merge and compaction.
+ghost use Rattle.std.specs.Prelude.{◌≡◌, ◌≤◌, ◌≢◌, ℕ, List, [], ◌∷◌, ◌++◌, Err, nat_lt, if◌then◌else◌, length, IfOk, IfErr, IsErrOf, OnOk, OnErr};
+ghost use Rattle.std.specs.Map.{keys_of};
+ghost use Rattle.annex_base.specs.Causes.{Rose};
+ghost use Rattle.annex_base.specs.Lists.{Each};
+ghost use Rattle.annex_base.specs.declared.kinds.Call.TheVariants as calls;
+ghost use Rattle.branch_bundle.specs.Bundle.{IsBundle, IsFirstWrong};
+ghost use Rattle.run_data.specs.Files.{HasPath, file_of, file_path};
+ghost use Rattle.union_merge.specs.Branch.{Files, lines_at};
+ghost use Rattle.union_merge.specs.LineSet.{IsLine, IsLineSet, difference, union};
+ghost use Rattle.repo_node.specs.Logs.{with_lines, with_log};
+ghost use Rattle.repo_node.specs.Refusals.{RefusesSo};
+
+use crate::node::Node;
+use crate::refused::NodeRefused;
+use annex_base::{Items, Line, NoMemory};
+use object_store::Keeper;
+use run_data::{EntryKind, LogFile, files_have_their_paths};
+use std::alloc::Global;
+use union_merge::{Branch, LineSet};
+
+/// Those of the lines that a file of the branch lacks.
+fn new_lines(
+    alloc: Global,
+    branch: &Branch,
+    path: &[u8],
+    lines: &LineSet,
+) -> Result<LineSet, NoMemory>
+    ensures { IfOk result (λ s. s ≡ difference lines.now (lines_at branch.now path.now)) }
+{
+    match branch.file(path) {
+        Some(known) => lines.difference(known),
+        None => lines.difference(&LineSet::new(alloc)),
+    }
+}
+
+/// The lines of a file of the branch and these.
+fn all_lines(
+    alloc: Global,
+    branch: &Branch,
+    path: &[u8],
+    new: &LineSet,
+) -> Result<LineSet, NoMemory>
+    ensures { IfOk result (λ s. s ≡ union (lines_at branch.now path.now) new.now) }
+{
+    let mut all = match branch.file(path) {
+        Some(known) => known.copy()?,
+        None => LineSet::new(alloc),
+    };
+    all.merge(new)?;
+    Ok(all)
+}
+
+/// The lines as an entry lists them.
+fn listed(alloc: Global, lines: &LineSet) -> Result<Items<Line>, NoMemory>
+    ensures { IfOk result (λ items. items ≡ lines.now) }
+{
+    let mut items = Items::new(alloc);
+    for line in lines.lines() {
+        items.push(line.clone()?)?;
+    }
+    Ok(items)
+}
+
+/// The set of one line.
+fn set_of_line(alloc: Global, line: &[u8]) -> Result<LineSet, NoMemory>
+    requires { IsLine line.now }
+    ensures { IfOk result (λ s. s ≡ line.now ∷ []) }
+{
+    let mut lines = LineSet::new(alloc);
+    lines.insert(line)?;
+    Ok(lines)
+}
+
+impl<K: Keeper> Node<K> {
+    /// Adds these lines, which the file lacks, by one log entry.
+    fn log(&mut self, file: LogFile, path: &[u8], new: &LineSet) -> Result<(), NodeRefused>
+        requires line { IsLine path.now }
+        requires here { path.now ≡ file_path file }
+        requires some { new.now ≢ [] }
+        ensures ok { OnOk result (self.new ≡ with_log self.old self.new.keeper file new.now) }
+        ensures err { IfErr result (λ e. RefusesSo e calls.PutFile self.old self.new) }
+        ensures contents { K.contents self.new.keeper ≡ K.contents self.old.keeper }
+        ensures parts { K.parts self.new.keeper ≡ K.parts self.old.keeper }
+        ensures later { K.faults self.old.keeper ≤ K.faults self.new.keeper }
+        ensures cause { IsErrOf result NodeRefused.StoreFault → Rose (K.faults self.old.keeper) (K.faults self.new.keeper) }
+    {
+        // A law, for the proof: only the file of this path changes.
+        files_are_changed_alone();
+        let alloc = self.past.alloc;
+        let all = all_lines(alloc, &self.branch, path, new)?;
+        let lines = listed(alloc, new)?;
+        self.write(path, all, EntryKind::Log { file }, lines)
+    }
+
+    /// Adds those of these lines that the file lacks, by one log entry; where it lacks none, nothing is done.
+    pub(crate) fn add_lines(&mut self, file: LogFile, lines: &LineSet) -> Result<(), NodeRefused>
+        requires path { HasPath file }
+        ensures ok { OnOk result (self.new ≡ with_lines self.old self.new.keeper file lines.now) }
+        ensures err { IfErr result (λ e. RefusesSo e calls.PutFile self.old self.new) }
+        ensures contents { K.contents self.new.keeper ≡ K.contents self.old.keeper }
+        ensures parts { K.parts self.new.keeper ≡ K.parts self.old.keeper }
+        ensures later { K.faults self.old.keeper ≤ K.faults self.new.keeper }
+        ensures cause { IsErrOf result NodeRefused.StoreFault → Rose (K.faults self.old.keeper) (K.faults self.new.keeper) }
+    {
+        let alloc = self.past.alloc;
+        let path = file.path(alloc)?;
+        let new = new_lines(alloc, &self.branch, path.bytes(), lines)?;
+        if new.lines().is_empty() {
+            return Ok(());
+        }
+        self.log(file, path.bytes(), &new)
+    }
+
+    /// Adds a line to the file of this path, by one log entry; where the file has it, nothing is done (git-annex internals:
+    /// branch files).
+    pub fn write_raw(&mut self, path: &[u8], line: &[u8]) -> Result<(), NodeRefused>
+        requires path { IsLine path.now }
+        requires line { IsLine line.now }
+        ensures ok { OnOk result (self.new ≡ with_lines self.old self.new.keeper (file_of path.now) (line.now ∷ [])) }
+        ensures err { IfErr result (λ e. RefusesSo e calls.PutFile self.old self.new) }
+        ensures contents { K.contents self.new.keeper ≡ K.contents self.old.keeper }
+        ensures parts { K.parts self.new.keeper ≡ K.parts self.old.keeper }
+        ensures later { K.faults self.old.keeper ≤ K.faults self.new.keeper }
+        ensures cause { IsErrOf result NodeRefused.StoreFault → Rose (K.faults self.old.keeper) (K.faults self.new.keeper) }
+    {
+        let alloc = self.past.alloc;
+        let lines = set_of_line(alloc, line)?;
+        let file = LogFile::of_path(alloc, path)?;
+        self.add_lines(file, &lines)
+    }
+}
