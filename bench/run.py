@@ -217,6 +217,7 @@ def main():
         ("rows", "rows of a lock table, each with a hold"),
         ("check", "rows, and 100,000 looks at another"),
         ("bar", "rows, and 100,000 bars that are put on another and taken off"),
+        ("share", "rows, and 100,000 holds that are taken on another and released"),
     ):
         table(title, [(n, n, n) for n in (1, 10, 100, 1000, 10000, 100000)], lambda n: bench("lock_bench", work, n))
 

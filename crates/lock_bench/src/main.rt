@@ -2,10 +2,15 @@
 //! `lock_bench WORK ROWS`.
 #![tactic(auto)]
 
+ghost use Rattle.std.specs.Prelude.{◌≡◌, ◌<◌, true, All, nat_lt};
+ghost use Rattle.std.specs.List.{list_all};
+ghost use Rattle.content_lock.specs.Stored.{Agrees};
+
 use annex_base::NoMemory;
 use annex_key::Key;
-use content_lock::{LockTable, Look};
+use content_lock::{LockTable, Look, records_tell_numbers};
 use object_store::{HoldRecord, Keeper, MemoryKeeper};
+use run_data::By;
 use std::alloc::Global;
 use std::env;
 use std::process::ExitCode;
@@ -64,12 +69,78 @@ fn bars(table: &mut LockTable, keeper: &mut MemoryKeeper, key: &Key) -> u32 {
     count
 }
 
+/// Whether the number is greater than that of each record.
+fn are_below(records: &[HoldRecord], number: u64) -> bool
+    ensures { result ≡ list_all (λ r. nat_lt r.number number) records.now }
+{
+    records.iter().all(|record| record.number < number)
+}
+
+/// Whether the number is greater than that of each hold, as the records tell.
+fn is_fresh(table: &LockTable, keeper: &mut MemoryKeeper, number: u64) -> bool
+    requires agrees { Agrees (⟦<MemoryKeeper as Keeper>⟧.records keeper.old) table.now.holds }
+    ensures records { ⟦<MemoryKeeper as Keeper>⟧.records keeper.new ≡ ⟦<MemoryKeeper as Keeper>⟧.records keeper.old }
+    ensures fresh { result ≡ true → All (λ h. h.number < number) table.now.holds }
+{
+    // For the prover: what the records say of the table's holds.
+    records_tell_numbers();
+    match keeper.holds() {
+        Ok(records) => are_below(&records, number),
+        Err(_) => false,
+    }
+}
+
+/// Takes a hold and releases it. Says whether both were done.
+fn share_once<K: Keeper>(table: &mut LockTable, keeper: &mut K, key: &Key, number: u64) -> bool
+    requires agrees { Agrees (K.records keeper.old) table.old.holds }
+    requires fresh { All (λ h. h.number < number) table.old.holds }
+    ensures agrees { Agrees (K.records keeper.new) table.new.holds }
+    ensures fresh { result ≡ true → All (λ h. h.number < number) table.new.holds }
+{
+    let Ok(share) = table.share(keeper, key, number, 0, By::Script) else {
+        return false;
+    };
+    match table.release(keeper, share) {
+        Ok(()) => true,
+        Err(share) => {
+            table.abandon(share);
+            false
+        }
+    }
+}
+
+/// How many holds are taken, each of which is released again.
+fn shares<K: Keeper>(table: &mut LockTable, keeper: &mut K, key: &Key, number: u64) -> u32
+    requires agrees { Agrees (K.records keeper.old) table.old.holds }
+    requires fresh { All (λ h. h.number < number) table.old.holds }
+{
+    let mut count = 0u32;
+    for _call in 0..CALLS {
+        if !share_once(table, keeper, key, number) {
+            return count;
+        }
+        count = count.saturating_add(1);
+    }
+    count
+}
+
+/// The same, where the number is greater than that of each hold.
+fn fresh_shares(table: &mut LockTable, keeper: &mut MemoryKeeper, key: &Key, number: u64) -> u32
+    requires agrees { Agrees (⟦<MemoryKeeper as Keeper>⟧.records keeper.old) table.old.holds }
+{
+    if is_fresh(table, keeper, number) {
+        return shares(table, keeper, key, number);
+    }
+    0
+}
+
 /// What is done.
 #[derive(Clone, Copy)]
 enum Work {
     Rows,
     Check,
     Bar,
+    Share,
 }
 
 impl Work {
@@ -78,6 +149,7 @@ impl Work {
             "rows" => Some(Work::Rows),
             "check" => Some(Work::Check),
             "bar" => Some(Work::Bar),
+            "share" => Some(Work::Share),
             _ => None,
         }
     }
@@ -93,6 +165,7 @@ fn found(alloc: Global, work: Work, rows: u32) -> Result<u32, NoMemory> {
         Work::Rows => rows,
         Work::Check => looks(&table, &mut keeper, &key),
         Work::Bar => bars(&mut table, &mut keeper, &key),
+        Work::Share => fresh_shares(&mut table, &mut keeper, &key, u64::from(rows)),
     })
 }
 
