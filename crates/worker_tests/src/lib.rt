@@ -1,8 +1,7 @@
 //! Tests of a drop's worker, which call its public functions as a user would; nothing else stands here.
 #![tactic(auto)]
 
-#[cfg(test)]
-mod desk;
+pub mod desk;
 #[cfg(test)]
 mod ended;
 #[cfg(test)]
