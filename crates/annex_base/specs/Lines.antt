@@ -8,6 +8,15 @@ newline = 10
 abbrev pub space : ℕ
 space = 32
 
+abbrev pub dash : ℕ
+dash = 45
+
+abbrev pub slash : ℕ
+slash = 47
+
+abbrev pub colon : ℕ
+colon = 58
+
 abbrev pub is_newline : ℕ → Bool
 is_newline b = b == newline
 

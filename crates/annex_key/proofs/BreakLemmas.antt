@@ -2,12 +2,13 @@
 use Rattle.std.proofs.Common.{◌⊎◌, inl, inr, ◌≡◌, ◌≢◌, ℕ, ◌+◌, ◌-◌, ◌<◌, ◌^◌, Bool, true, false, eqb, ltb, ◌&&◌, is_none, List, [], ◌∷◌, ◌++◌, length, Option, Some, None, Result, Ok, Err, IfSome, refl, sym, ap, subst, ◌∙◌, append_assoc, length-append, arith, true≢false}
 use Rattle.std.specs.Fmt.{decimal}
 use Rattle.std.proofs.lemmas.Bool.{cases_Bool, eqb-true, lt-ltb, le-ltb, and_parts, or_cases, or_parts}
+use Rattle.annex_base.specs.Lines.{dash}
 use Rattle.annex_base.specs.Decimal.{number_of}
 use Rattle.annex_base.proofs.DecimalLemmas.{number_some}
 use Rattle.annex_base.proofs.Options.{none_by}
 use Rattle.annex_key.specs.declared.fault.KeyFault.{KeyFault}
 use Rattle.annex_key.specs.declared.fault.KeyFault.TheVariants.{NoDashes, BadBackend, BadField, EmptyName, TooLong, BadEscape, BadName, NoMemory}
-use Rattle.annex_key.specs.KeyText.{Parts, is_backend, dash, size_letter, mtime_letter, chunk_size_letter, chunk_letter, field_text, chunk_text}
+use Rattle.annex_key.specs.KeyText.{Parts, is_backend, size_letter, mtime_letter, chunk_size_letter, chunk_letter, field_text, chunk_text}
 use Rattle.annex_base.specs.ResultSteps.{◌>>=◌}
 use Rattle.annex_key.specs.Reading.{begins, comes, has_dashes, word_of, backend_at, number_at, field_at, must_at, chunk_at, checked_name, name_at, parts_at, key_at}
 use Rattle.annex_key.specs.Faults.{IsNumber, Front, front_text, IsFront, may_come, HasBadLetter, HasBadNumber, HasName, HasBadName, IsTried, Breaks}

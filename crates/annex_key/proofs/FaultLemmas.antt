@@ -1,13 +1,14 @@
 -- The first fault that reading meets is the first rule that the text breaks.
 use Rattle.std.proofs.Common.{◌⊎◌, inl, inr, ◌≡◌, ◌≢◌, ℕ, ◌+◌, ◌-◌, ◌<◌, ◌≤◌, ◌^◌, Bool, true, false, eqb, ltb, ◌&&◌, ◌||◌, List, [], ◌∷◌, ◌++◌, length, drop, is_none, Option, Some, None, Ok, Err, IfSome, refl, sym, ap, subst, ◌∙◌, append_assoc, length-append, arith, true≢false}
 use Rattle.std.proofs.lemmas.Bool.{eqb-true, ltb-true, ltb-false, and_parts, or_from}
+use Rattle.annex_base.specs.Lines.{dash}
 use Rattle.annex_base.specs.Decimal.{number_of}
 use Rattle.annex_base.proofs.DecimalLemmas.{number_is}
 use Rattle.annex_base.proofs.Conditions.{if_is}
 use Rattle.annex_base.proofs.Results.{bind_err, bind_ok, err_ok, guard_err, ok_err}
 use Rattle.annex_key.specs.declared.fault.KeyFault.{KeyFault}
 use Rattle.annex_key.specs.declared.fault.KeyFault.TheVariants.{NoDashes, BadBackend, BadField, EmptyName, TooLong, BadName}
-use Rattle.annex_key.specs.KeyText.{Parts, is_backend, dash, size_letter, mtime_letter, chunk_size_letter, chunk_letter, field_text, chunk_text}
+use Rattle.annex_key.specs.KeyText.{Parts, is_backend, size_letter, mtime_letter, chunk_size_letter, chunk_letter, field_text, chunk_text}
 use Rattle.annex_base.specs.ResultSteps.{◌>>=◌}
 use Rattle.annex_key.specs.Reading.{begins, comes, has_dashes, is_dash, word_of, after_word, backend_at, number_at, field_at, must_at, chunk_at, name_front, checked_name, name_at, parts_at, key_at}
 use Rattle.annex_key.specs.Faults.{HasDashes, IsNumber, Front, front_text, IsFront, may_follow, HasName, IsTried, Breaks}

@@ -4,10 +4,11 @@ use Rattle.std.specs.Prelude.{if◌then◌else◌}
 use Rattle.std.specs.Str.{bytes_eq}
 use Rattle.std.proofs.lemmas.Bool.{cases_Bool, eqb-true}
 use Rattle.std.proofs.lemmas.Slice.Eq.{bytes_eq-Decides}
+use Rattle.annex_base.specs.Lines.{colon, slash}
 use Rattle.annex_key.specs.declared.fault.KeyFault.{KeyFault}
 use Rattle.annex_key.specs.declared.fault.KeyFault.TheVariants.{NoMemory}
 use Rattle.annex_key.specs.KeyText.{Parts, IsKeyText}
-use Rattle.annex_key.specs.KeyFile.{ampersand, percent, colon, slash, escape_of, file_text}
+use Rattle.annex_key.specs.KeyFile.{ampersand, percent, escape_of, file_text}
 use Rattle.annex_key.specs.Reading.{key_at}
 use Rattle.annex_key.specs.FileKey.{bytes_after, text_in, was_read, is_key, key_by, key_of_file}
 use Rattle.annex_key.proofs.KeyLemmas.{text_takes, text_again}

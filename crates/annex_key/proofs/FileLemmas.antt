@@ -2,9 +2,10 @@
 use Rattle.std.proofs.Common.{◌⊎◌, inl, inr, ◌≡◌, ◌≢◌, ℕ, ◌+◌, true, eqb, ◌||◌, not, List, [], ◌∷◌, ◌++◌, length, Some, None, Result, Ok, Err, IfOk, IsErrAnd, MatchResult, ◌↔◌, refl, sym, ap, subst, ◌∙◌, append_assoc, length-append, true≢false}
 use Rattle.std.proofs.lemmas.Bool.{cases_Bool, eqb-true, and_parts, or_cases}
 use Rattle.std.proofs.lemmas.Option.{none-some, same_Some}
+use Rattle.annex_base.specs.Lines.{colon, slash}
 use Rattle.annex_key.specs.declared.fault.KeyFault.{KeyFault}
 use Rattle.annex_key.specs.declared.fault.KeyFault.TheVariants.{NoDashes, BadBackend, BadField, EmptyName, TooLong, BadEscape, BadName, NoMemory}
-use Rattle.annex_key.specs.KeyFile.{ampersand, percent, colon, slash, ampersand_letter, percent_letter, colon_letter, escape_of, file_text, byte_at, after_ampersand, is_bad_escape, HasBadEscape, BreaksFile, StandsForBroken, FailsEscape}
+use Rattle.annex_key.specs.KeyFile.{ampersand, percent, ampersand_letter, percent_letter, colon_letter, escape_of, file_text, byte_at, after_ampersand, is_bad_escape, HasBadEscape, BreaksFile, StandsForBroken, FailsEscape}
 use Rattle.annex_key.specs.KeyText.{IsKeyText}
 use Rattle.annex_key.specs.Reading.{begins}
 use Rattle.annex_key.specs.Faults.{Breaks}

@@ -1,11 +1,12 @@
 -- What is read is spelled so, and what is spelled so is read.
 use Rattle.std.proofs.Common.{inl, inr, ◌≡◌, ℕ, ◌≤◌, true, false, ltb, List, [], ◌∷◌, ◌++◌, length, Option, Some, None, Result, Ok, Err, refl, sym, ap, subst, ◌∙◌}
 use Rattle.std.proofs.lemmas.Bool.{ltb-false, le-ltb, or_right}
+use Rattle.annex_base.specs.Lines.{dash}
 use Rattle.annex_base.proofs.Conditions.{if_is}
 use Rattle.annex_base.proofs.Results.{bind_ok, err_ok}
 use Rattle.annex_key.specs.declared.fault.KeyFault.{KeyFault}
 use Rattle.annex_key.specs.declared.fault.KeyFault.TheVariants.{NoDashes, TooLong}
-use Rattle.annex_key.specs.KeyText.{Parts, IsKey, IsKeyText, key_text, dash, size_letter, mtime_letter, field_text, chunk_text}
+use Rattle.annex_key.specs.KeyText.{Parts, IsKey, IsKeyText, key_text, size_letter, mtime_letter, field_text, chunk_text}
 use Rattle.annex_base.specs.ResultSteps.{◌>>=◌}
 use Rattle.annex_key.specs.Reading.{begins, comes, has_dashes, backend_at, field_at, chunk_at, name_at, parts_at, key_at}
 use Rattle.annex_key.proofs.Steps.{ok_is}

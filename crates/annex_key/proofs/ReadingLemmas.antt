@@ -1,12 +1,13 @@
 -- Each reader: what it reads is spelled so, what is spelled so is read, and where it fails.
 use Rattle.std.proofs.Common.{inl, inr, ◌≡◌, ℕ, ◌+◌, ◌-◌, ◌<◌, ◌^◌, true, false, eqb, List, ◌∷◌, ◌++◌, length, drop, Option, Some, None, Ok, Err, IfSome, refl, sym, ap, subst, ◌∙◌, append_assoc, arith}
 use Rattle.std.specs.Fmt.{decimal}
+use Rattle.annex_base.specs.Lines.{dash}
 use Rattle.annex_base.specs.Decimal.{number_of}
 use Rattle.annex_base.proofs.DecimalLemmas.{number_is, number_some}
 use Rattle.annex_base.proofs.Conditions.{if_is}
 use Rattle.annex_base.proofs.Results.{bind_ok, err_ok, guard_ok}
 use Rattle.annex_key.specs.declared.fault.KeyFault.TheVariants.{BadBackend, BadField}
-use Rattle.annex_key.specs.KeyText.{is_backend, dash, chunk_size_letter, chunk_letter, field_text, chunk_text, IsName}
+use Rattle.annex_key.specs.KeyText.{is_backend, chunk_size_letter, chunk_letter, field_text, chunk_text, IsName}
 use Rattle.annex_base.specs.ResultSteps.{◌>>=◌}
 use Rattle.annex_key.specs.Reading.{begins, comes, has_dashes, word_of, after_word, backend_at, number_at, field_at, must_at, chunk_at, name_at}
 use Rattle.annex_key.proofs.Steps.{ok_is, option_ok, comes_is}

@@ -2,8 +2,8 @@
 use Rattle.std.proofs.Common.{◌≡◌, ℕ, true, false, eqb, List, [], ◌∷◌, drop, Option, Some, None, Result, Ok, Err, refl, sym, true≢false}
 use Rattle.std.specs.Option.{option_map}
 use Rattle.std.proofs.lemmas.Bool.{eqb-true, and_parts}
+use Rattle.annex_base.specs.Lines.{dash}
 use Rattle.annex_key.specs.declared.fault.KeyFault.{KeyFault}
-use Rattle.annex_key.specs.KeyText.{dash}
 use Rattle.annex_key.specs.Reading.{begins, comes, or_fault}
 
 abbrev done : {A : Type 0} → A → Result A KeyFault

@@ -8,8 +8,9 @@ use Rattle.std.proofs.lemmas.Fmt.{digits_decimal}
 use Rattle.std.proofs.lemmas.Bool.{eqb-true, cases_Bool, and_parts}
 use Rattle.std.proofs.lemmas.Bool.Decides.{nat_tests}
 use Rattle.std.proofs.lemmas.List.{take-append-drop, take_at, drop_at}
+use Rattle.annex_base.specs.Lines.{dash}
 use Rattle.annex_base.proofs.Lists.{list_all_weaker, prefix_len-stops}
-use Rattle.annex_key.specs.KeyText.{is_backend, is_backend_byte, is_upper, dash}
+use Rattle.annex_key.specs.KeyText.{is_backend, is_backend_byte, is_upper}
 use Rattle.annex_key.specs.Reading.{begins, has_dashes, is_dash, word_of, after_word}
 
 abbrev no_dash : ℕ → Bool

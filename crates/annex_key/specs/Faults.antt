@@ -1,9 +1,10 @@
 -- Which rule a text breaks first, from left to right, and at which byte (own).
 use Rattle.std.specs.Prelude.{◌≡◌, ◌≢◌, ℕ, ◌+◌, ◌<◌, ◌≤◌, ◌^◌, ◌==◌, ◌⊎◌, Bool, ◌&&◌, ◌||◌, is_none, IsTrue, IsFalse, IsSome, List, [], ◌∷◌, ◌++◌, length, take, Option, Some, None, IfSome}
 use Rattle.std.specs.Fmt.{decimal}
+use Rattle.annex_base.specs.Lines.{dash}
 use Rattle.annex_key.specs.declared.fault.KeyFault.{KeyFault}
 use Rattle.annex_key.specs.declared.fault.KeyFault.TheVariants.{NoDashes, BadBackend, BadField, EmptyName, TooLong, BadEscape, BadName, NoMemory}
-use Rattle.annex_key.specs.KeyText.{is_backend, dash, size_letter, mtime_letter, chunk_size_letter, chunk_letter, field_text, IsName}
+use Rattle.annex_key.specs.KeyText.{is_backend, size_letter, mtime_letter, chunk_size_letter, chunk_letter, field_text, IsName}
 use Rattle.annex_key.specs.Reading.{word_of}
 
 -- two dashes stand side by side

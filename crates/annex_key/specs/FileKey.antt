@@ -2,9 +2,10 @@
 use Rattle.std.specs.Prelude.{ℕ, ◌==◌, Bool, true, false, ◌&&◌, if◌then◌else◌, List, [], ◌∷◌, Option, Some, None, Result, Ok, Err}
 use Rattle.std.specs.Option.{unwrap_or}
 use Rattle.std.specs.Str.{bytes_eq}
+use Rattle.annex_base.specs.Lines.{slash}
 use Rattle.annex_key.specs.declared.fault.KeyFault.{KeyFault}
 use Rattle.annex_key.specs.KeyText.{Parts}
-use Rattle.annex_key.specs.KeyFile.{ampersand, percent, slash, letter_byte, file_text}
+use Rattle.annex_key.specs.KeyFile.{ampersand, percent, letter_byte, file_text}
 use Rattle.annex_key.specs.Reading.{key_at}
 
 -- the bytes that a file name stands for, after a `&` or not

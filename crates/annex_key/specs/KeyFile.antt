@@ -1,6 +1,7 @@
 -- The file name of a key: its text with four bytes written otherwise, each byte by itself (own).
 use Rattle.std.specs.Prelude.{◌≡◌, ℕ, ◌==◌, Bool, false, ◌&&◌, ◌||◌, not, if◌then◌else◌, IsTrue, List, [], ◌∷◌, ◌++◌, length, flat_map, Option, Some, None}
 use Rattle.std.specs.Option.{option_map}
+use Rattle.annex_base.specs.Lines.{colon, slash}
 use Rattle.annex_key.specs.declared.fault.KeyFault.{KeyFault}
 use Rattle.annex_key.specs.declared.fault.KeyFault.TheVariants.{NoDashes, BadBackend, BadField, EmptyName, TooLong, BadEscape, BadName, NoMemory}
 use Rattle.annex_key.specs.Faults.{Breaks}
@@ -12,12 +13,6 @@ ampersand = 38
 
 abbrev pub percent : ℕ
 percent = 37
-
-abbrev pub colon : ℕ
-colon = 58
-
-abbrev pub slash : ℕ
-slash = 47
 
 -- the letters `a`, `s` and `c`, which stand after a `&` for it, for `%` and for `:`
 abbrev pub ampersand_letter : ℕ

@@ -4,7 +4,7 @@ use Rattle.std.specs.Prelude.{◌≡◌, ℕ, ◌<◌, ◌≤◌, ◌^◌, ◌==
 use Rattle.std.specs.List.{list_all, list_any}
 use Rattle.std.specs.Str.{IsUtf8, bytes_eq}
 use Rattle.std.specs.Fmt.{decimal}
-use Rattle.annex_base.specs.Lines.{IsOneLine}
+use Rattle.annex_base.specs.Lines.{IsOneLine, dash}
 
 -- a key's parts; a chunk's are its size and its number
 pub record Parts : Type 0 where
@@ -15,9 +15,6 @@ pub record Parts : Type 0 where
   pub name : List ℕ
 
 -- the bytes `-` and `_`
-abbrev pub dash : ℕ
-dash = 45
-
 abbrev pub underscore : ℕ
 underscore = 95
 

@@ -6,11 +6,11 @@ use Rattle.std.specs.List.{before_first, position_or_len}
 use Rattle.std.specs.Option.{option_map}
 use Rattle.std.specs.Str.Lossy.{utf8_valid_len}
 use Rattle.annex_base.specs.Decimal.{number_of}
-use Rattle.annex_base.specs.Lines.{is_newline}
+use Rattle.annex_base.specs.Lines.{is_newline, dash}
 use Rattle.annex_base.specs.ResultSteps.{◌>>=◌}
 use Rattle.annex_key.specs.declared.fault.KeyFault.{KeyFault}
 use Rattle.annex_key.specs.declared.fault.KeyFault.TheVariants.{NoDashes, BadBackend, BadField, EmptyName, TooLong, BadName}
-use Rattle.annex_key.specs.KeyText.{Parts, is_backend, dash, size_letter, mtime_letter, chunk_size_letter, chunk_letter}
+use Rattle.annex_key.specs.KeyText.{Parts, is_backend, size_letter, mtime_letter, chunk_size_letter, chunk_letter}
 
 -- what a call returned, seen by view, is what reading gives
 abbrev pub Reads : {X Y : Type 0} → (X → Y) → Result X KeyFault → Result Y KeyFault → Type 0

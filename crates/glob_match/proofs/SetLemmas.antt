@@ -2,8 +2,9 @@
 use Rattle.std.proofs.Common.{◌≡◌, ℕ, ◌<◌, ◌||◌, ◌==◌, Bool, List, [], ◌∷◌, Some, refl, ap, subst, ◌∙◌, ◌⊎◌, arith}
 use Rattle.std.proofs.lemmas.Bool.Decides.{nat_tests}
 use Rattle.std.specs.List.{list_any}
+use Rattle.annex_base.specs.Lines.{dash}
 use Rattle.annex_base.proofs.Conditions.{by_test}
-use Rattle.glob_match.specs.Glob.{dash, ranges, in_range, in_ranges}
+use Rattle.glob_match.specs.Glob.{ranges, in_range, in_ranges}
 use Rattle.glob_match.specs.Walk.{range_at}
 
 -- the first range of what members spell is this one

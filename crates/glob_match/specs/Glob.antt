@@ -2,6 +2,7 @@
 use Rattle.std.specs.Prelude.{◌≡◌, ℕ, ◌==◌, Bool, true, false, nat_le, ◌&&◌, ◌||◌, not, if◌then◌else◌, IsTrue, List, [], ◌∷◌, ◌++◌, length, flat_map}
 use Rattle.std.specs.Str.{encode_utf8_all}
 use Rattle.std.specs.List.{list_all, list_any, concat}
+use Rattle.annex_base.specs.Lines.{dash}
 use Rattle.glob_match.specs.declared.item.Item.{Item}
 use Rattle.glob_match.specs.declared.item.Item.TheVariants.{AnyRun, AnyOne, OneOf, Only}
 
@@ -20,9 +21,6 @@ closing = 93
 
 abbrev pub contrary : ℕ
 contrary = 33
-
-abbrev pub dash : ℕ
-dash = 45
 
 abbrev pub is_close : ℕ → Bool
 is_close c = c == closing

@@ -4,9 +4,10 @@ use Rattle.glob_match.specs.declared.item.Item.{Item}
 use Rattle.glob_match.specs.declared.item.Item.TheVariants.{AnyRun, AnyOne, OneOf, Only}
 use Rattle.std.specs.List.{list_all}
 use Rattle.std.specs.Option.{option_map}
+use Rattle.annex_base.specs.Lines.{dash}
 use Rattle.glob_match.specs.declared.fault.GlobFault.{GlobFault}
 use Rattle.glob_match.specs.declared.fault.GlobFault.TheVariants.{OpenSet, NoMemory}
-use Rattle.glob_match.specs.Glob.{dash, star, question, opening, is_close, is_run, takes, is_item, item_text, IsGlob, HasOpenSet}
+use Rattle.glob_match.specs.Glob.{star, question, opening, is_close, is_run, takes, is_item, item_text, IsGlob, HasOpenSet}
 
 -- the first range of a set, and what follows it
 abbrev pub range_at : List ℕ → Option (ℕ × ℕ × List ℕ)

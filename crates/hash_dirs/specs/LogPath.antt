@@ -1,8 +1,9 @@
 -- Where the location log of a key stands in a branch (git-annex internals: location tracking, hash directories, chunking).
 use Rattle.std.specs.Prelude.{ℕ, List, ◌∷◌, ◌++◌, take, drop, codes}
+use Rattle.annex_base.specs.Lines.{slash}
 use Rattle.hex.specs.Hex.{encode_lower}
 use Rattle.md5.specs.Md5.{md5}
-use Rattle.annex_key.specs.KeyFile.{slash, file_text}
+use Rattle.annex_key.specs.KeyFile.{file_text}
 use Rattle.annex_key.specs.View.{unchunked_text}
 
 -- the first three and the next three digits of the MD5 of the key's text without the two fields of a chunk, and the name of

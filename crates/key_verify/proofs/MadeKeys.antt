@@ -11,7 +11,7 @@ use Rattle.std.proofs.lemmas.Fmt.{length-decimal-le}
 use Rattle.std.proofs.lemmas.List.{take_at}
 use Rattle.std.proofs.lemmas.Option.{same_Some}
 use Rattle.std.proofs.lemmas.Str.{IsUtf8-from_ascii}
-use Rattle.annex_base.specs.Lines.{is_not_newline}
+use Rattle.annex_base.specs.Lines.{is_not_newline, slash}
 use Rattle.annex_base.proofs.Lines.{one_line-by_test}
 use Rattle.annex_base.proofs.Options.{where_some}
 use Rattle.annex_base.proofs.Lists.{list_all_append, list_all_weaker}
@@ -24,7 +24,7 @@ use Rattle.annex_key.specs.View.{backend_part, size_part, name_part}
 use Rattle.key_verify.specs.declared.method.Method.{Method}
 use Rattle.key_verify.specs.declared.method.Method.TheVariants as methods
 use Rattle.key_verify.specs.Digests.{is_dot, told_digest, wanted_digest, key_method, method_of, digest_of, digest_text}
-use Rattle.key_verify.specs.MakingKeys.{dot, slash, is_extension, component_word, with_dot, extension_word, extension_of, made_key}
+use Rattle.key_verify.specs.MakingKeys.{dot, is_extension, component_word, with_dot, extension_word, extension_of, made_key}
 use Rattle.key_verify.specs.Matching.{MatchesKey}
 
 -- ---- the bytes of a name

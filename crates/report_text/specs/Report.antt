@@ -47,16 +47,16 @@ entry_line repos past None = []
 entry_line repos past (Some e) = repo_line repos past e.repo e.kind
 
 -- the lines of the entries from one place up to another: one for each job that ends
-abbrev pub ended : Run → ℕ → ℕ → List ℕ
-ended run from upto = flat_map (λ place. entry_line run.repos (past_at run place) (slice_get run.entries place)) (range_with_len from (upto - from))
+abbrev pub outcome_lines : Run → ℕ → ℕ → List ℕ
+outcome_lines run from upto = flat_map (λ place. entry_line run.repos (past_at run place) (slice_get run.entries place)) (range_with_len from (upto - from))
 
 -- the repositories that have the key before a place
 abbrev pub having : Run → ℕ → List ℕ → List ℕ
 having run place key = filter (λ r. present (past_at run place) r key) (range_with_len 0 (length run.repos))
 
 -- repositories by their names, in order of number, and after them identifiers that no repository of the run has, in byte order
-abbrev pub named : List RepoView → List (List ℕ) → List (List ℕ)
-named repos ids =
+abbrev pub names_of_ids : List RepoView → List (List ℕ) → List (List ℕ)
+names_of_ids repos ids =
     map (λ repo. repo.name) (filter (λ repo. list_any (λ id. bytes_eq id repo.id) ids) repos)
     ++ map repo_text (filter (λ id. not (list_any (λ repo. bytes_eq id repo.id) repos)) ids)
 
@@ -94,35 +94,35 @@ trust_text run r target s =
     ++ codes " groups=" ++ joined 44 (λ group. group) (s.groups (id_of run.repos target)) ++ codes "\n"
 
 abbrev pub claims_text : Run → ℕ → List ℕ → List (List ℕ) → List ℕ
-claims_text run r key ids = codes "claims " ++ name_of run.repos r ++ codes " " ++ printed_word key ++ codes " " ++ joined 32 (λ word. word) (named run.repos ids) ++ codes "\n"
+claims_text run r key ids = codes "claims " ++ name_of run.repos r ++ codes " " ++ printed_word key ++ codes " " ++ joined 32 (λ word. word) (names_of_ids run.repos ids) ++ codes "\n"
 
 -- what a line shows at a place
-abbrev pub shown : Run → ℕ → Command → List ℕ
-shown run place (commands.ShowPresence key) = codes "presence " ++ printed_word key ++ codes " " ++ joined 32 (name_of run.repos) (having run place key) ++ codes "\n"
-shown run place (commands.ShowClaims r key) = claims_text run r key ((settings_at run place r).claims key)
-shown run place (commands.ShowLocation r key) = location_text run r key (lines_at (branch_at run place r) (location_path key))
-shown run place (commands.ShowLog r file) = log_text run r (file_path file) (lines_at (branch_at run place r) (file_path file))
-shown run place (commands.ShowLogs r) = flat_map (λ f. log_text run r f.0 f.1) (branch_at run place r)
-shown run place (commands.ShowNumbers r) = numbers_text run r (settings_at run place r)
-shown run place (commands.ShowLevel r target) = trust_text run r target (settings_at run place r)
-shown run place (commands.Repo name id offset) = []
-shown run place (commands.Have r key size) = []
-shown run place (commands.Numcopies r n) = []
-shown run place (commands.Mincopies r n) = []
-shown run place (commands.Trust r target level) = []
-shown run place (commands.Describe r target text) = []
-shown run place (commands.Group r target groups) = []
-shown run place (commands.Log r file line) = []
-shown run place (commands.Run r job) = []
-shown run place (commands.Merge r other) = []
-shown run place (commands.Compact r) = []
-shown run place (commands.Wait milliseconds) = []
+abbrev pub show_text : Run → ℕ → Command → List ℕ
+show_text run place (commands.ShowPresence key) = codes "presence " ++ printed_word key ++ codes " " ++ joined 32 (name_of run.repos) (having run place key) ++ codes "\n"
+show_text run place (commands.ShowClaims r key) = claims_text run r key ((settings_at run place r).claims key)
+show_text run place (commands.ShowLocation r key) = location_text run r key (lines_at (branch_at run place r) (location_path key))
+show_text run place (commands.ShowLog r file) = log_text run r (file_path file) (lines_at (branch_at run place r) (file_path file))
+show_text run place (commands.ShowLogs r) = flat_map (λ f. log_text run r f.0 f.1) (branch_at run place r)
+show_text run place (commands.ShowNumbers r) = numbers_text run r (settings_at run place r)
+show_text run place (commands.ShowLevel r target) = trust_text run r target (settings_at run place r)
+show_text run place (commands.Repo name id offset) = []
+show_text run place (commands.Have r key size) = []
+show_text run place (commands.Numcopies r n) = []
+show_text run place (commands.Mincopies r n) = []
+show_text run place (commands.Trust r target level) = []
+show_text run place (commands.Describe r target text) = []
+show_text run place (commands.Group r target groups) = []
+show_text run place (commands.Log r file line) = []
+show_text run place (commands.Run r job) = []
+show_text run place (commands.Merge r other) = []
+show_text run place (commands.Compact r) = []
+show_text run place (commands.Wait milliseconds) = []
 
 -- the report from a place on: for each line of the script what ended while it was done, and what it shows then
 abbrev pub report_from : Run → ℕ → List Command → List ℕ → List ℕ
-report_from run from (c ∷ cs) (mark ∷ marks) = ended run from mark ++ shown run mark c ++ report_from run mark cs marks
-report_from run from cs [] = ended run from (length run.entries)
-report_from run from [] marks = ended run from (length run.entries)
+report_from run from (c ∷ cs) (mark ∷ marks) = outcome_lines run from mark ++ show_text run mark c ++ report_from run mark cs marks
+report_from run from cs [] = outcome_lines run from (length run.entries)
+report_from run from [] marks = outcome_lines run from (length run.entries)
 
 abbrev pub report : List Command → Run → List ℕ
 report script run = report_from run 0 script run.marks

@@ -3,7 +3,7 @@
 ghost use Rattle.std.specs.Prelude.{◌≡◌, ◌++◌, OnOk, IsNone, IfSome, Option, Some, reverse, option_copied};
 ghost use Rattle.run_data.specs.declared.job.Job.{Job};
 ghost use Rattle.thin_model.specs.Past.{begun_job};
-ghost use Rattle.report_text.specs.Report.{end_line, entry_line, ended};
+ghost use Rattle.report_text.specs.Report.{end_line, entry_line, outcome_lines};
 ghost use Rattle.report_text.specs.Begun.{begun_after};
 
 use run_data::{Entry, EntryKind, Job, Outcome, RepoView, Run};
@@ -17,7 +17,7 @@ pub(crate) fn put_ended(
     from: usize,
     upto: usize,
 ) -> Result<(), AllocError>
-    ensures { OnOk result (out.new.items ≡ out.old.items ++ ended run.now from upto) }
+    ensures { OnOk result (out.new.items ≡ out.old.items ++ outcome_lines run.now from upto) }
 {
     let repos = run.repos.as_slice();
     let entries = run.entries.as_slice();

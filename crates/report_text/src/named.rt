@@ -4,7 +4,7 @@ ghost use Rattle.std.specs.Prelude.{◌≡◌, ◌++◌, ◌∷◌, IfOk, OnOk, 
 ghost use Rattle.std.specs.List.{flat_map, list_any};
 ghost use Rattle.annex_base.specs.RepoText.{repo_text};
 ghost use Rattle.run_text.specs.Names.{joined};
-ghost use Rattle.report_text.specs.Report.{named};
+ghost use Rattle.report_text.specs.Report.{names_of_ids};
 
 use annex_base::{NoMemory, RepoId, Text};
 use run_data::RepoView;
@@ -60,7 +60,7 @@ pub(crate) fn named(
     repos: &[RepoView],
     ids: &[RepoId],
 ) -> Result<Vec<Text>, NoMemory>
-    ensures { IfOk result (λ words. words.items ≡ named repos.now ids.now) }
+    ensures { IfOk result (λ words. words.items ≡ names_of_ids repos.now ids.now) }
 {
     let mut words = Vec::new(alloc);
     put_known(&mut words, repos, ids)?;

@@ -5,7 +5,7 @@ ghost use Rattle.run_data.specs.declared.entry.Entry.{Entry};
 ghost use Rattle.thin_model.specs.Contents.{Tracks};
 ghost use Rattle.thin_model.specs.Past.{present};
 ghost use Rattle.run_text.specs.Names.{name_of, joined};
-ghost use Rattle.report_text.specs.Report.{branch_at, shown};
+ghost use Rattle.report_text.specs.Report.{branch_at, show_text};
 ghost use Rattle.script_words.specs.Words.{printed_word};
 ghost use Rattle.annex_base.specs.Lists.{Each};
 ghost use Rattle.report_text.specs.Walk.{IsLogged, ShowsKnown, StandsIn, shown_repo};
@@ -34,7 +34,7 @@ pub(crate) fn put_shown(
     requires stands { StandsIn walk.old run.now }
     requires logged { Each IsLogged run.now.entries }
     requires known { ShowsKnown (length run.now.repos) command.now }
-    ensures text { OnOk result (out.new.items ≡ out.old.items ++ shown run.now place command.now) }
+    ensures text { OnOk result (out.new.items ≡ out.old.items ++ show_text run.now place command.now) }
     ensures walk { OnOk result (StandsIn walk.new run.now) }
 {
     if let Command::ShowPresence { key } = command {
@@ -59,7 +59,7 @@ fn put_of_repo(
     requires logged { Each IsLogged run.now.entries }
     requires known { ShowsKnown (length run.now.repos) command.now }
     requires named { shown_repo command.now ≡ Some repo }
-    ensures text { OnOk result (out.new.items ≡ out.old.items ++ shown run.now place command.now) }
+    ensures text { OnOk result (out.new.items ≡ out.old.items ++ show_text run.now place command.now) }
     ensures walk { OnOk result (StandsIn walk.new run.now) }
 {
     let alloc = *out.allocator();

@@ -9,10 +9,10 @@ use Rattle.std.proofs.lemmas.List.{take-append-drop}
 use Rattle.hex.specs.Hex.{lower_digits, encode_with, encode_lower}
 use Rattle.md5.specs.Md5.{md5}
 use Rattle.annex_base.specs.Lists.{Member}
-use Rattle.annex_key.specs.KeyText.{is_backend, is_backend_byte, is_upper, field_text, chunk_text, size_letter, mtime_letter, chunk_size_letter, chunk_letter, dash, IsKeyText}
-use Rattle.annex_key.specs.KeyFile.{ampersand, percent, colon, slash, escape_of, file_text}
+use Rattle.annex_key.specs.KeyText.{is_backend, is_backend_byte, is_upper, field_text, chunk_text, size_letter, mtime_letter, chunk_size_letter, chunk_letter, IsKeyText}
+use Rattle.annex_key.specs.KeyFile.{ampersand, percent, escape_of, file_text}
 use Rattle.annex_key.specs.View.{unchunked_text}
-use Rattle.annex_base.specs.Lines.{newline, is_not_newline, is_one_line}
+use Rattle.annex_base.specs.Lines.{newline, is_not_newline, is_one_line, colon, dash, slash}
 use Rattle.annex_base.proofs.Lists.{list_all_append, list_all_parts, list_all_weaker}
 use Rattle.annex_base.proofs.Lines.{one_line-by_test, one_line-decimal, one_line-members, one_line-passes}
 use Rattle.union_merge.specs.LineSet.{IsLine}

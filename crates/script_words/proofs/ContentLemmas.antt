@@ -11,6 +11,7 @@ use Rattle.std.proofs.lemmas.Bool.Decides.{nat_tests}
 use Rattle.std.proofs.lemmas.List.{take-append-drop, take_at, drop_at}
 use Rattle.std.proofs.lemmas.Option.{cond_some}
 use Rattle.std.proofs.Math.Seq.{drop-append-add}
+use Rattle.annex_base.specs.Lines.{colon}
 use Rattle.hex.specs.Hex.{decode_of}
 use Rattle.annex_base.specs.Decimal.{number_of}
 use Rattle.annex_base.specs.OptionSteps.{◌>>=◌}
@@ -20,7 +21,7 @@ use Rattle.annex_base.proofs.Numbers.{decimal-all}
 use Rattle.annex_base.proofs.Options.{bind_some}
 use Rattle.script_words.specs.Marks.{behind_mark}
 use Rattle.script_words.specs.Numbers.{number_up_to}
-use Rattle.script_words.specs.Contents.{colon, is_colon, fill_bytes, fill_numbers, text_content, hex_content, fill_content, content_of, Describes}
+use Rattle.script_words.specs.Contents.{is_colon, fill_bytes, fill_numbers, text_content, hex_content, fill_content, content_of, Describes}
 use Rattle.script_words.specs.Contents.Describes.{Text, Hex, Fill}
 use Rattle.script_words.proofs.FrontLemmas.{Stops, rest_stops, front_len}
 use Rattle.script_words.proofs.NumberLemmas.{decimal_filled, number_read, number_written}

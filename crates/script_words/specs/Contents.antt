@@ -4,6 +4,7 @@ use Rattle.std.specs.List.{range_with_len, before_first, after_first}
 use Rattle.std.specs.Option.{option_or}
 use Rattle.std.specs.Result.{result_ok}
 use Rattle.std.specs.Fmt.{decimal}
+use Rattle.annex_base.specs.Lines.{colon}
 use Rattle.hex.specs.Hex.{decode_of}
 use Rattle.annex_base.specs.Decimal.{number_of}
 use Rattle.annex_base.specs.OptionSteps.{◌>>=◌}
@@ -17,9 +18,6 @@ range n = range_with_len 0 n
 -- n bytes, of which the byte at place i is (i + s) mod 251
 abbrev pub fill_bytes : ℕ → ℕ → List ℕ
 fill_bytes n s = map (λ i. (i + s) % 251) (range n)
-
-abbrev pub colon : ℕ
-colon = 58
 
 abbrev pub is_colon : ℕ → Bool
 is_colon b = b == colon

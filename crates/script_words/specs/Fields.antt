@@ -3,6 +3,7 @@ use Rattle.std.specs.Prelude.{ℕ, ◌-◌, Bool, false, not, ◌==◌, ◌&&◌
 use Rattle.std.specs.Char.{is_ascii_digit, is_ascii_lowercase}
 use Rattle.std.specs.List.{list_all, find}
 use Rattle.std.specs.Str.{is_utf8}
+use Rattle.annex_base.specs.Lines.{slash}
 use Rattle.annex_base.specs.OptionSteps.{◌>>=◌}
 use Rattle.annex_base.specs.declared.kinds.Call.{Call}
 use Rattle.annex_base.specs.declared.kinds.Call.TheVariants as calls
@@ -63,9 +64,6 @@ abbrev pub call_of : List ℕ → Option Call
 call_of word = find (λ call. bytes_eq (call_word call) word) all_calls
 
 -- ---- paths and keys
-
-abbrev pub slash : ℕ
-slash = 47
 
 -- whether the first byte, or the last one, is this one
 abbrev pub is_this : ℕ → Option ℕ → Bool

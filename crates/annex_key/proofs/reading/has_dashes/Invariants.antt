@@ -1,6 +1,6 @@
 -- What holds at each turn of the loops of `reading::has_dashes`.
 use Rattle.std.proofs.Common.{◌≡◌, ◌&&◌, ◌||◌, drop}
-use Rattle.annex_key.specs.KeyText.{dash}
+use Rattle.annex_base.specs.Lines.{dash}
 use Rattle.annex_key.specs.Reading.{has_dashes, begins}
 use Rattle.annex_key.proofs.reading.has_dashes.Given as goal
 

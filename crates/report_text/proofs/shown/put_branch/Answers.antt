@@ -10,17 +10,17 @@ use Rattle.union_merge.specs.Branch.{Files, lines_at}
 use Rattle.hash_dirs.specs.LogPath.{location_path}
 use Rattle.trust_groups.specs.Settings.{claims, settings}
 use Rattle.run_data.specs.Files.{file_path}
-use Rattle.report_text.specs.Report.{branch_at, shown, claims_text, location_text, log_text, numbers_text, trust_text}
+use Rattle.report_text.specs.Report.{branch_at, show_text, claims_text, location_text, log_text, numbers_text, trust_text}
 use Rattle.report_text.specs.Walk.{shown_repo}
 use Rattle.report_text.proofs.shown.put_branch.Goals as goal
 
 -- the line's branch is that of the repository that the line names
 line_shown : (run : Run) (place repo r : ℕ) (command line : Command) (branch : Files) (text : Files → List ℕ) (old new : List ℕ)
-    → command ≡ line → shown_repo line ≡ Some r → text (branch_at run place r) ≡ shown run place line
-    → shown_repo command ≡ Some repo → branch ≡ branch_at run place repo → new ≡ old ++ text branch → new ≡ old ++ shown run place command
+    → command ≡ line → shown_repo line ≡ Some r → text (branch_at run place r) ≡ show_text run place line
+    → shown_repo command ≡ Some repo → branch ≡ branch_at run place repo → new ≡ old ++ text branch → new ≡ old ++ show_text run place command
 line_shown run place repo r command line branch text old new is names shows named at put =
     let same : r ≡ repo = same_Some r repo (sym names ∙ ap shown_repo (sym is) ∙ named) in
-    put ∙ ap (λ (b : Files). old ++ text b) (at ∙ ap (branch_at run place) (sym same)) ∙ ap (λ (l : List ℕ). old ++ l) (shows ∙ ap (shown run place) (sym is))
+    put ∙ ap (λ (b : Files). old ++ text b) (at ∙ ap (branch_at run place) (sym same)) ∙ ap (λ (l : List ℕ). old ++ l) (shows ∙ ap (show_text run place) (sym is))
 
 pub returns-in_ok-put_claims-in-ShowClaims : goal.returns-in_ok-put_claims-in-ShowClaims
 returns-in_ok-put_claims-in-ShowClaims c = λ place repo named at.
