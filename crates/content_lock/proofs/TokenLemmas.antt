@@ -12,7 +12,7 @@ use Rattle.run_data.specs.declared.entry.By.TheVariants.{Script, Job, Peer}
 use Rattle.run_data.specs.declared.row.Hold.{Hold}
 use Rattle.node_model.specs.Rows.{keep_of, same_owner}
 use Rattle.content_lock.specs.Indexed.{AreFalling}
-use Rattle.content_lock.specs.Tokens.{HasShare, Owns, ShareView, keep_numbered, open_share, others_of, share_of}
+use Rattle.content_lock.specs.Tokens.{HasShare, Owns, ShareView, keep_numbered, open_share, others_of, share_of, without_open}
 
 -- ---- tests
 
@@ -331,3 +331,51 @@ others_own_kept hs s by (Some t) has differ owns =
           where
             both_not : (n : ℕ) → (n == t.number) ≡ true → (n == s.number) ≡ true → ⊥
             both_not n is at = grind arith
+
+-- ---- a hold that is taken off, of an owner who has no other open one
+
+same_filter : (p q : Hold → Bool) (hs : List Hold) → Each (λ h. p h ≡ q h) hs → filter p hs ≡ filter q hs
+same_filter p q [] same = refl
+same_filter p q (h ∷ hs) same =
+    ap (λ (b : Bool). if b then h ∷ filter p hs else filter p hs) same.0 ∙ ap (λ (l : List Hold). if q h then h ∷ l else l) (same_filter p q hs same.1)
+
+-- an owner's hold that keeping changes not is kept
+kept_of : (by : By) (h : Hold) → Stays by h → same_owner h.owner by ≡ true → h.kept ≡ true
+kept_of by h stays is = sym (ap (λ (x : Hold). x.kept) (sym (ap (λ (b : Bool). if b then record h { kept = true } else h) is) ∙ stays))
+
+offing : (s : ShareView) (h x : Hold) → share_of h ≡ s → h.kept ≡ false → ((x.number == s.number) ≡ true → x ≡ h) → (not (x.number == s.number) ≡ true → Stays s.owner x)
+    → not (x.number == s.number) ≡ (x.kept || not (same_owner x.owner s.owner))
+offing s h x it unkept one other = go (x.number == s.number) refl (same_owner x.owner s.owner) refl
+  where
+    go : (b : Bool) → (x.number == s.number) ≡ b → (m : Bool) → same_owner x.owner s.owner ≡ m → not (x.number == s.number) ≡ (x.kept || not (same_owner x.owner s.owner))
+    go true is m mine =
+        let own : same_owner x.owner s.owner ≡ true = ap (λ (y : Hold). same_owner y.owner s.owner) (one is) ∙ ap (λ (t : ShareView). same_owner t.owner s.owner) it ∙ same_itself s.owner in
+        let unkept_x : x.kept ≡ false = ap (λ (y : Hold). y.kept) (one is) ∙ unkept in
+        ap not is ∙ sym ((λ i. unkept_x i || not (own i)))
+    go false is true mine =
+        let kept : x.kept ≡ true = kept_of s.owner x (other (ap not is)) mine in
+        ap not is ∙ sym (ap (λ (k : Bool). k || not (same_owner x.owner s.owner)) kept)
+    go false is false mine = ap not is ∙ sym (ap (λ (m : Bool). x.kept || not m) mine ∙ or_true x.kept)
+
+-- taking the one hold off is taking the owner's open ones off
+pub off_is_owners : (hs : List Hold) (s : ShareView) → AreFalling hs → Owns s.owner (Some s) hs → others_of s.number hs ≡ without_open s.owner hs
+off_is_owners hs s falling owns =
+    let it = found hs s owns.given in
+    let member = find_member (opens s.number) hs it.0 it.1 in
+    let number : it.0.number ≡ s.number = same_number it.0.number s.number (number_of_found s.number it.0 member.1) in
+    let unkept : it.0.kept ≡ false = not_true it.0.kept (and_right (it.0.number == s.number) (not it.0.kept) member.1) in
+    let one = subst (λ (n : ℕ). Each (λ x. (x.number == n) ≡ true → x ≡ it.0) hs) number (alone hs it.0 falling member.0) in
+    let rest = each_passing (Stays s.owner) (λ h. not (h.number == s.number)) hs (stays_each s.owner (others_of s.number hs) owns.kept) in
+    same_filter (λ h. not (h.number == s.number)) (λ h. h.kept || not (same_owner h.owner s.owner)) hs (both hs it.0 it.2 unkept one rest)
+  where
+    same_number : (a b : ℕ) → (a == b) ≡ true → a ≡ b
+    same_number a b e = grind arith
+
+    not_true : (b : Bool) → not b ≡ true → b ≡ false
+    not_true true e = absurd (true≢false (sym e))
+    not_true false e = refl
+
+    both : (hs : List Hold) (h : Hold) → share_of h ≡ s → h.kept ≡ false → Each (λ x. (x.number == s.number) ≡ true → x ≡ h) hs → Each (λ x. not (x.number == s.number) ≡ true → Stays s.owner x) hs
+        → Each (λ x. not (x.number == s.number) ≡ (x.kept || not (same_owner x.owner s.owner))) hs
+    both [] h it unkept one rest = tt
+    both (x ∷ xs) h it unkept one rest = (offing s h x it unkept one.0 rest.0, both xs h it unkept one.1 rest.1)

@@ -3,7 +3,7 @@ use Rattle.std.specs.Prelude.{◌≡◌, ℕ, not, ◌&&◌, ◌||◌, ◌==◌,
 use Rattle.std.specs.Option.{option_map}
 use Rattle.run_data.specs.declared.entry.By.{By}
 use Rattle.run_data.specs.declared.row.Hold.{Hold}
-use Rattle.node_model.specs.Rows.{keep_of}
+use Rattle.node_model.specs.Rows.{keep_of, same_owner}
 use Rattle.content_lock.specs.Rows.{Rows, bar_at}
 
 -- a share: the number of its hold, its key, and for whom it is
@@ -35,6 +35,10 @@ HasBar rows bar = bar_at rows bar.key ≡ Some bar.job
 -- the holds of other numbers
 abbrev pub others_of : ℕ → List Hold → List Hold
 others_of number holds = filter (λ h. not (h.number == number)) holds
+
+-- the holds but those of this owner that are open
+abbrev pub without_open : By → List Hold → List Hold
+without_open owner holds = filter (λ h. h.kept || not (same_owner h.owner owner)) holds
 
 -- the hold is kept from now on, where it has this number
 abbrev pub keep_numbered : ℕ → Hold → Hold

@@ -83,7 +83,8 @@ impl Holds {
 
     /// Takes the hold of this number off.
     pub(crate) fn take_off(&mut self, number: u64)
-        ensures { self.new ≡ others_of number self.old }
+        ensures off { self.new ≡ others_of number self.old }
+        ensures falling { AreFalling self.old }
     {
         take_off(&mut self.by_number, &mut self.numbers, number);
     }

@@ -16,7 +16,7 @@ ghost use Rattle.object_store.specs.Stores.{without_record};
 ghost use Rattle.content_lock.specs.Rows.{AreAfter, bar_at, is_filling};
 ghost use Rattle.content_lock.specs.Stored.{Agrees, AgreesInEnds, AreRecordsOf, HasContent, kept_hold, label_of, ownerless, record_of, with_new, without_content};
 ghost use Rattle.content_lock.specs.Looks.{IsFree, IsOfHold, LooksSo, NotBarred, NotShared, RemovesSo, NotRemoved, IsShareFault, IsRemoveFault};
-ghost use Rattle.content_lock.specs.Tokens.{BarView, HasBar, HasShare, Owns, ShareView, keep_numbered};
+ghost use Rattle.content_lock.specs.Tokens.{BarView, HasBar, HasShare, Owns, ShareView, keep_numbered, without_open};
 ghost use Rattle.content_lock.specs.Turns.{FailInTurn, bar_failed, hold_turns, recover_failed, removal_turns, share_turns};
 
 use crate::hold::HOLD_TIME;
@@ -273,6 +273,9 @@ impl LockTable {
         requires agrees { Agrees (K.records keeper.old) self.old.holds }
         requires given { HasShare self.old.holds share }
         ensures after { OnOk result (AreAfter (kinds.Release share.number share.key) self.old self.new) }
+
+        // Of an owner who has no other open hold: these are the holds that the end of the owner's job leaves.
+        ensures ended { OnOk result (Owns share.owner (Some share) self.old.holds → self.new.holds ≡ without_open share.owner self.old.holds) }
         ensures recorded { OnOk result (K.records keeper.new ≡ option_map (λ rs. without_record rs share.number) (K.records keeper.old)) }
         ensures err { IfErr result (λ s. (s ≡ share) × (self.new ≡ self.old)) }
         ensures err_records { OnErr result (K.records keeper.new ≡ K.records keeper.old) }

@@ -19,7 +19,7 @@ returns-in-Err-clause-err g c =
     let hs = c.self.inside.holds in
     let h : Hold = record { number = n; key = c.in_ok-copy.field-0; end = c.args.stored.end; kept = false; owner = c.args.owner } in
     let less = subst (λ (l : List Hold). All (λ x. x.number < n) l) (sym (ap (λ (r : Rows). r.holds) c.self.view_is)) c.requires.fresh in
-    let back = c.take_off.ensures ∙ ap (others_of n) c.in_ok-add.ensures.ok ∙ off_again h hs less in
+    let back = c.take_off.ensures.off ∙ ap (others_of n) c.in_ok-add.ensures.ok ∙ off_again h hs less in
     (λ i. record { holds = back i; bars = c.self.inside.bars.entries; fills = c.self.inside.fills.keys }) ∙ c.self.view_is
 
 pub returns-in-Err-clause-failing : goal.returns-in-Err-clause-failing
