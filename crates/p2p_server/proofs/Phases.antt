@@ -17,7 +17,7 @@ use Rattle.object_store.specs.declared.keeper.HoldRecord.{HoldRecord}
 use Rattle.object_store.specs.Stores.{AreSmallParts, Contents, Parts, with_at}
 use Rattle.node_model.specs.Sessions as sessions
 use Rattle.node_model.specs.SessionStep.{Here, on_message, on_valid, reply, silent_reply, tries, unexpected_reply}
-use Rattle.content_lock.specs.Rows.{AreAfter, Rows, is_filling}
+use Rattle.content_lock.specs.Rows.{AreAfter, Rows, bar_at, is_filling}
 use Rattle.content_lock.specs.Stored.{Agrees}
 use Rattle.content_lock.specs.Tokens.{Owns, ShareView}
 use Rattle.p2p_server.specs.declared.doing.Doing.{Doing}
@@ -54,6 +54,7 @@ opens_so x s rows contents parts records faults step at agrees is fits =
     subst (λ (t : Step). IsStep x incoming.Opening (moment_of s rows contents parts records faults) (moment_of s rows contents parts records faults) t) (sym is) (record {
       does = λ c told part right sees. talks x rows c contents part right (λ h. on_heard h (session_of s) incoming.Opening) (messages.AuthSuccess x.place.id) (saying (messages.AuthSuccess x.place.id)) refl told refl;
       after = record { holds = refl; bars = λ k. refl };
+      bars = λ k. refl;
       fits = subst (λ (t : Step). Fits x.number t) is fits;
       filled = stays_filled s.doing rows at.fills;
       next = λ size sees. refl;
@@ -86,11 +87,11 @@ guarding_is s share is = λ j. record { place = s.place; spoken = s.spoken; doin
 unlocks : (x : Scene) (key : List ℕ) (place : Place) (spoken : ℕ) (share : ShareView) (was now : Rows) (contents contents' : Option Contents) (parts parts' : Option Parts) (records records' : Option (List HoldRecord))
     (faults faults' : ℕ) (kind : EntryKind)
     → ForSome contents (λ c. (part : ℕ) (right : Bool) → Does x was c contents' part right (λ h. tries h (calls.Unhold ∷ []) [] (silent_reply (Release share.number share.key))) (record { kind = kind; reply = None; close = false }))
-    → bytes_eq key share.key ≡ true → IsNoGain kind → AreAfter kind was now → Fits x.number (record { kind = kind; reply = None; close = false }) → Owns (owner_at place) None now.holds
+    → bytes_eq key share.key ≡ true → IsNoGain kind → AreAfter kind was now → ((key : List ℕ) → bar_at now key ≡ bar_at was key) → Fits x.number (record { kind = kind; reply = None; close = false }) → Owns (owner_at place) None now.holds
     → LeavesOthers (owner_at place) was now → parts' ≡ parts → Agrees records' now.holds → faults ≤ faults' → IfSome (failed_in kind) (λ call. Rose faults faults')
     → IsStep x (incoming.Message (messages.UnlockContent key)) (moment_of (in_phase place spoken (doings.Guards share)) was contents parts records faults) (moment_of (waiting place spoken) now contents' parts' records' faults')
     (record { kind = kind; reply = None; close = false })
-unlocks x key place spoken share was now contents contents' parts parts' records records' faults faults' kind does same_key lost after fits owns others same agrees later cause = record {
+unlocks x key place spoken share was now contents contents' parts parts' records records' faults faults' kind does same_key lost after bars fits owns others same agrees later cause = record {
   does = λ c told part right sees.
       let d = does c told part right in
       let h : Here = here_of x was c (failed_in kind) part right in
@@ -99,6 +100,7 @@ unlocks x key place spoken share was now contents contents' parts parts' records
         changes = d.changes;
       };
   after = record { holds = after.holds; bars = after.bars };
+  bars = bars;
   fits = fits;
   filled = none_filled (sessions.Guards share.number share.key) sessions.Waits (is_filling was) (is_filling now) (λ k. refl) (λ k. refl) (same_filled was.fills now.fills after.fills);
   next = λ size sees. refl;
@@ -131,7 +133,7 @@ released_so x key s s' share was now contents contents' parts parts' records rec
     (subst (λ (t : Step). IsStep x (incoming.Message (messages.UnlockContent key)) (moment_of (going s (doings.Guards share)) was contents parts records faults) (moment_of (waiting s.place s.spoken) now contents' parts' records' faults') t) (sym literal)
     (unlocks x key s.place s.spoken share was now contents contents' parts parts' records records' faults faults' (Release share.number share.key)
     (λ c known part right. record { answers = refl; changes = record { contents = c; told = told ∙ known; present = λ k. refl; sizes = λ k. refl } })
-    same_key tt after (record { hold = tt; reply = tt }) (subst (λ (b : By). Owns b None now.holds) by (owns mine)) (subst (λ (b : By). LeavesOthers b was now) by others) same agrees later tt)))
+    same_key tt after after.bars (record { hold = tt; reply = tt }) (subst (λ (b : By). Owns b None now.holds) by (owns mine)) (subst (λ (b : By). LeavesOthers b was now) by others) same agrees later tt)))
 
 -- ---- a phase that goes on, with nothing said
 
@@ -145,6 +147,7 @@ quiet : (x : Scene) (m : Message) (place : Place) (spoken : ℕ) (d d' : Doing) 
 quiet x m place spoken d d' rows contents parts records faults answer other goes filled shares fills fed owns agrees = record {
   does = λ c told part right sees. quiets x rows c contents part right (λ h. on_message h spoken (doing_of d) m) silent refl told (sym (answer (here_of x rows c None part right)));
   after = record { holds = refl; bars = λ k. refl };
+  bars = λ k. refl;
   fits = record { hold = tt; reply = tt };
   filled = filled;
   next = λ size sees. λ j. record { version = spoken; doing = goes size j };
@@ -200,6 +203,7 @@ piece_put x bytes place spoken t d' rows contents contents' parts parts' records
   does = λ c known part right sees. quiets x rows c contents' part right (λ h. on_heard h (session_of (in_phase place spoken (doings.Takes t))) (incoming.Bytes bytes)) silent refl (told ∙ known)
       (piece_taken (here_of x rows c None part right) t.fill t.size t.left (length bytes.items) refl some fits);
   after = record { holds = refl; bars = λ k. refl };
+  bars = λ k. refl;
   fits = record { hold = tt; reply = tt };
   filled = takes_piece (doings.Takes t) rows (length bytes.items) (doing_of d') at.fills goes;
   next = λ size sees. λ j. record { version = spoken; doing = goes j };
@@ -249,6 +253,7 @@ valid_now : (x : Scene) (place : Place) (spoken : ℕ) (t : Taken) (was now : Ro
 valid_now x place spoken t was now contents contents' parts parts' records records' faults faults' step at does after fits plain judged spent gone agrees later cause = record {
   does = λ c known part right sees. does c known was part right sees;
   after = stays step.kind place.peer place.slot was now at.owns.kept gone.after after;
+  bars = gone.after.bars;
   fits = fits;
   filled = gone.filled;
   next = λ size sees. λ j. sessions.session_left (sym plain.0 j) (record { version = sym (plain.1 spoken) j; doing = sessions.Waits });
@@ -286,6 +291,7 @@ invalid_so x s s' was now contents parts records faults step at phase new gone a
       does = λ c known part right sees. talks x was c contents part right (λ h. on_heard h (session_of s) (incoming.Message messages.Invalid)) messages.Failure (saying messages.Failure) refl known
           (sym (answer (here_of x was c None part right) s.doing phase));
       after = stays (Talk None) s.place.peer s.place.slot was now (nothing_kept (owner_at s.place) s.doing was.holds phase at.owns) gone.after (λ r. record { holds = refl; bars = λ k. refl });
+      bars = gone.after.bars;
       fits = record { hold = tt; reply = tt };
       filled = gone.filled;
       next = λ size sees. refl;

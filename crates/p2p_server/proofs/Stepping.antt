@@ -53,6 +53,7 @@ closes_now x i s was now contents parts records faults m here answer stay short 
     changes = record { contents = c; told = is; present = λ k. refl; sizes = λ k. refl };
   };
   after = gone.after;
+  bars = gone.after.bars;
   fits = record { hold = tt; reply = short };
   filled = gone.filled;
   next = λ size sees. refl;
@@ -122,6 +123,7 @@ answered x m s rows contents contents' parts parts' records records' faults faul
         changes = d.changes;
       };
   after = record { holds = after.holds; bars = after.bars };
+  bars = λ k. refl;
   fits = fits;
   filled = stays_filled s.doing rows at.fills;
   next = λ size sees.
@@ -160,6 +162,7 @@ version_now x n place spoken rows contents parts records faults at agrees fits =
       talks x rows c contents part right (λ h. on_heard h (session_of (waiting place spoken)) (incoming.Message (messages.Version n))) (messages.Version (min n place.version)) (saying (messages.Version (min n place.version))) refl is
       (ap (λ (p : Place). reply (Talk None) (messages.Version (min n p.version))) (sym at.here));
   after = record { holds = refl; bars = λ k. refl };
+  bars = λ k. refl;
   fits = fits;
   filled = stays_filled doings.Waits rows tt;
   next = λ size sees. refl;

@@ -12,7 +12,7 @@ use Rattle.node_model.specs.Sessions.{session_after}
 use Rattle.node_model.specs.SessionStep.{here, is_filled, on_frame}
 use Rattle.node_model.specs.SetUp.{SetUp}
 use Rattle.node_model.specs.State.{State}
-use Rattle.content_lock.specs.Rows.{Rows, is_filling}
+use Rattle.content_lock.specs.Rows.{Rows, bar_at, is_filling}
 use Rattle.content_lock.specs.Stored.{Agrees}
 use Rattle.content_lock.specs.Tokens.{Owns}
 use Rattle.p2p_server.specs.declared.incoming.Incoming.{Incoming}
@@ -52,6 +52,10 @@ next_told x i was now (Err e) goes = tt
 pub after_told : {E : Type 0} (x : Scene) (i : Incoming) (was now : Moment) (r : Result Step E) → Goes x i was now r → IfOk r (λ step. AreAfterStep step.kind was.rows now.rows)
 after_told x i was now (Ok step) goes = goes.after
 after_told x i was now (Err e) goes = tt
+
+pub bars_told : {E : Type 0} (x : Scene) (i : Incoming) (was now : Moment) (r : Result Step E) → Goes x i was now r → IfOk r (λ step. (key : List ℕ) → bar_at now.rows key ≡ bar_at was.rows key)
+bars_told x i was now (Ok step) goes = goes.bars
+bars_told x i was now (Err e) goes = tt
 
 pub reply_told : {E : Type 0} (x : Scene) (i : Incoming) (was now : Moment) (r : Result Step E) → Goes x i was now r → IfOk r (λ step. IsReplyIf step.reply)
 reply_told x i was now (Ok step) goes = goes.fits.reply

@@ -13,7 +13,7 @@ use Rattle.object_store.specs.declared.keeper.HoldRecord.{HoldRecord}
 use Rattle.object_store.specs.Stores.{Contents, Parts}
 use Rattle.node_model.specs.Sessions as sessions
 use Rattle.node_model.specs.SessionStep.{Here, bytes_left, content_of, on_lock, on_put, reply, tries, unexpected_reply}
-use Rattle.content_lock.specs.Rows.{AreAfter, Rows, is_filling}
+use Rattle.content_lock.specs.Rows.{AreAfter, Rows, bar_at, is_filling}
 use Rattle.content_lock.specs.Stored.{Agrees}
 use Rattle.content_lock.specs.Tokens.{Owns, ShareView}
 use Rattle.p2p_server.specs.declared.doing.Doing.{Doing}
@@ -73,13 +73,14 @@ locked : (x : Scene) (key : List ℕ) (place : Place) (spoken : ℕ) (was now : 
     (o : Option ShareView) (step : Step)
     → x.place ≡ place
     → ForSome contents (λ c. (part : ℕ) (right : Bool) → Does x was c contents' part right (λ h. on_lock h key) step)
-    → AreAfter step.kind was now → Fits x.number step → sessions.guards step.kind ≡ doing_of (guarding o)
+    → AreAfter step.kind was now → ((key : List ℕ) → bar_at now key ≡ bar_at was key) → Fits x.number step → sessions.guards step.kind ≡ doing_of (guarding o)
     → Owns (owner_of x) o now.holds → LeavesOthers (owner_of x) was now → IsPlain step → IsNoGain step.kind → parts' ≡ parts → Agrees records' now.holds → faults ≤ faults'
     → IfSome (failed_in step.kind) (λ call. Rose faults faults')
     → IsStep x (incoming.Message (messages.LockContent key)) (moment_of (waiting place spoken) was contents parts records faults) (moment_of (in_phase place spoken (guarding o)) now contents' parts' records' faults') step
-locked x key place spoken was now contents contents' parts parts' records records' faults faults' o step here does after fits guards owns others plain lost same agrees later cause = record {
+locked x key place spoken was now contents contents' parts parts' records records' faults faults' o step here does after bars fits guards owns others plain lost same agrees later cause = record {
   does = λ c is part right sees. does c is part right;
   after = record { holds = after.holds; bars = after.bars };
+  bars = bars;
   fits = fits;
   filled = none_filled sessions.Waits (doing_of (guarding o)) (is_filling was) (is_filling now) (λ k. refl) (guarding_filled o) (same_filled was.fills now.fills after.fills);
   next = λ size sees. λ j. sessions.session_left (sym plain.0 j) (record { version = sym (plain.1 spoken) j; doing = sym guards j });
@@ -99,14 +100,14 @@ pub lock_so : (x : Scene) (key : List ℕ) (s s' : Session) (was now : Rows) (co
     (o : Option ShareView) (step : Step)
     → s.doing ≡ doings.Waits → s' ≡ in_phase s.place s.spoken (guarding o) → x.place ≡ s.place
     → ForSome contents (λ c. (part : ℕ) (right : Bool) → Does x was c contents' part right (λ h. on_lock h key) step)
-    → AreAfter step.kind was now → Fits x.number step
+    → AreAfter step.kind was now → ((key : List ℕ) → bar_at now key ≡ bar_at was key) → Fits x.number step
     → IfSome o (λ v. sessions.guards step.kind ≡ sessions.Guards v.number v.key) → IfNone o (sessions.guards step.kind ≡ sessions.Waits)
     → Owns (owner_of x) o now.holds → LeavesOthers (owner_of x) was now → IsPlain step → IsNoGain step.kind → parts' ≡ parts → Agrees records' now.holds → faults ≤ faults'
     → IfSome (failed_in step.kind) (λ call. Rose faults faults')
     → IsStep x (incoming.Message (messages.LockContent key)) (moment_of s was contents parts records faults) (moment_of s' now contents' parts' records' faults') step
-lock_so x key s s' was now contents contents' parts parts' records records' faults faults' o step waits new here does after fits some none owns others plain lost same agrees later cause =
+lock_so x key s s' was now contents contents' parts parts' records records' faults faults' o step waits new here does after bars fits some none owns others plain lost same agrees later cause =
     from_waiting s s' s.place s.spoken (guarding o) (λ t t'. IsStep x (incoming.Message (messages.LockContent key)) (moment_of t was contents parts records faults) (moment_of t' now contents' parts' records' faults') step) waits new
-    (locked x key s.place s.spoken was now contents contents' parts parts' records records' faults faults' o step here does after fits (guarding_is o step.kind some none) owns others plain lost same agrees later cause)
+    (locked x key s.place s.spoken was now contents contents' parts parts' records records' faults faults' o step here does after bars fits (guarding_is o step.kind some none) owns others plain lost same agrees later cause)
 
 -- ---- GET
 
@@ -167,6 +168,7 @@ got x start file key place spoken rows contents contents' parts parts' records r
         changes = d.changes;
       };
   after = after;
+  bars = λ k. refl;
   fits = fits;
   filled = none_filled sessions.Waits (doing_of (giving_of o)) (is_filling rows) (is_filling rows) (λ k. refl) (giving_filled o) (λ k. refl);
   next = λ size sees. giving_next o contents start file key step spoken size given lost plain sees;
@@ -220,16 +222,17 @@ putting : (x : Scene) (file key : List ℕ) (place : Place) (spoken : ℕ) (was 
     (o : Option Wanting) (step : Step)
     → IsAt x (waiting place spoken) was → nat_le 1 spoken ≡ true
     → ForSome contents (λ c. (part : ℕ) (right : Bool) → Tells parts (λ p. part ≡ length (p key)) → Does x was c contents' part right (λ h. on_put h key) step)
-    → AreAfterStep step.kind was now → Fits x.number step → IfSome o (λ w. is_filling now w.fill ≡ true) → FillsSo sessions.Waits (wanted_in o) (is_filling was) (is_filling now)
+    → AreAfterStep step.kind was now → ((key : List ℕ) → bar_at now key ≡ bar_at was key) → Fits x.number step → IfSome o (λ w. is_filling now w.fill ≡ true) → FillsSo sessions.Waits (wanted_in o) (is_filling was) (is_filling now)
     → sessions.wants key step.reply ≡ wanted_in o → IsPlain step → IsNoGain step.kind → ForSome parts (λ p. IfSome o (λ w. IsFedBy w.digester w.fill (p w.fill))) → now.holds ≡ was.holds
     → parts' ≡ parts → Agrees records' now.holds → faults ≤ faults' → IfSome (failed_in step.kind) (λ call. Rose faults faults')
     → IsStep x (incoming.Message (messages.Put file key)) (moment_of (waiting place spoken) was contents parts records faults) (moment_of (in_phase place spoken (wanting_of o)) now contents' parts' records' faults') step
-putting x file key place spoken was now contents contents' parts parts' records records' faults faults' o step at speaks does after fits given filled next plain lost fed holds same agrees later cause = record {
+putting x file key place spoken was now contents contents' parts parts' records records' faults faults' o step at speaks does after bars fits given filled next plain lost fed holds same agrees later cause = record {
   does = λ c is part right sees.
       let d = does c is part right sees in
       let h : Here = here_of x was c (failed_in step.kind) part right in
       record { answers = d.answers ∙ (λ j. if (sym speaks j) then on_put h key else unexpected_reply h); changes = d.changes };
   after = after;
+  bars = bars;
   fits = fits;
   filled = subst (λ (w : sessions.Doing). FillsSo sessions.Waits w (is_filling was) (is_filling now)) (sym (wanting_doing o)) filled;
   next = λ size sees. λ j. sessions.session_left (sym plain.0 j) (record { version = sym (plain.1 spoken) j; doing = (wanting_doing o ∙ sym next) j });
@@ -249,11 +252,11 @@ pub put_so : (x : Scene) (file key : List ℕ) (s s' : Session) (was now : Rows)
     (o : Option Wanting) (step : Step)
     → s.doing ≡ doings.Waits → s' ≡ in_phase s.place s.spoken (wanting_of o) → IsAt x s was → nat_le 1 s.spoken ≡ true
     → ForSome contents (λ c. (part : ℕ) (right : Bool) → Tells parts (λ p. part ≡ length (p key)) → Does x was c contents' part right (λ h. on_put h key) step)
-    → AreAfterStep step.kind was now → Fits x.number step → IfSome o (λ w. is_filling now w.fill ≡ true) → FillsSo sessions.Waits (wanted_in o) (is_filling was) (is_filling now)
+    → AreAfterStep step.kind was now → ((key : List ℕ) → bar_at now key ≡ bar_at was key) → Fits x.number step → IfSome o (λ w. is_filling now w.fill ≡ true) → FillsSo sessions.Waits (wanted_in o) (is_filling was) (is_filling now)
     → sessions.wants key step.reply ≡ wanted_in o → IsPlain step → IsNoGain step.kind → ForSome parts (λ p. IfSome o (λ w. IsFedBy w.digester w.fill (p w.fill))) → now.holds ≡ was.holds
     → parts' ≡ parts → Agrees records' now.holds → faults ≤ faults' → IfSome (failed_in step.kind) (λ call. Rose faults faults')
     → IsStep x (incoming.Message (messages.Put file key)) (moment_of s was contents parts records faults) (moment_of s' now contents' parts' records' faults') step
-put_so x file key s s' was now contents contents' parts parts' records records' faults faults' o step waits new at speaks does after fits given filled next plain lost fed holds same agrees later cause =
+put_so x file key s s' was now contents contents' parts parts' records records' faults faults' o step waits new at speaks does after bars fits given filled next plain lost fed holds same agrees later cause =
     from_waiting s s' s.place s.spoken (wanting_of o) (λ t t'. IsStep x (incoming.Message (messages.Put file key)) (moment_of t was contents parts records faults) (moment_of t' now contents' parts' records' faults') step) waits new
     (putting x file key s.place s.spoken was now contents contents' parts parts' records records' faults faults' o step (subst (λ (t : Session). IsAt x t was) (waits_is s waits) at) speaks
-    does after fits given filled next plain lost fed holds same agrees later cause)
+    does after bars fits given filled next plain lost fed holds same agrees later cause)

@@ -1,5 +1,5 @@
 -- What a session sends of a content (git-annex P2P protocol; pieces are the project's own).
-use Rattle.std.specs.Prelude.{◌≡◌, ℕ, ◌<◌, ◌≤◌, false, List, [], ◌∷◌, length, take, drop, Option, Some, None}
+use Rattle.std.specs.Prelude.{◌≡◌, ℕ, ◌<◌, ◌≤◌, Bool, true, false, List, [], ◌∷◌, length, take, drop, Option, Some, None}
 use Rattle.annex_base.specs.declared.kinds.Call.{Call}
 use Rattle.run_data.specs.declared.entry.EntryKind.TheVariants as kinds
 use Rattle.run_data.specs.declared.entry.FrameText.TheVariants.{Closing, Bytes, Line}
@@ -11,6 +11,11 @@ use Rattle.p2p_server.specs.declared.more.More.{More}
 use Rattle.p2p_server.specs.declared.more.More.TheVariants as more
 use Rattle.p2p_server.specs.declared.place.Place.{Place}
 use Rattle.p2p_server.specs.Answers.{owner_at}
+
+-- a content is being sent
+abbrev pub is_giving : Doing → Bool
+is_giving (Gives key at left good) = true
+is_giving doing = false
 
 -- the reply that this is, if any
 abbrev pub reply_more : Place → More → Option Reply

@@ -9,7 +9,7 @@ use Rattle.object_store.specs.Stores.{Contents, Parts}
 use Rattle.node_model.specs.Rows.{same_owner}
 use Rattle.node_model.specs.Sessions as sessions
 use Rattle.node_model.specs.SessionStep.{Here, unexpected_reply}
-use Rattle.content_lock.specs.Rows.{Rows, is_filling}
+use Rattle.content_lock.specs.Rows.{Rows, bar_at, is_filling}
 use Rattle.content_lock.specs.Stored.{Agrees}
 use Rattle.content_lock.specs.Tokens.{Owns, ShareView}
 use Rattle.p2p_server.specs.declared.doing.Doing.{Doing}
@@ -59,6 +59,7 @@ pub record IsLetGo (place : Place) (doing : Doing) (was now : Rows) : Type 0 whe
 pub record IsStep (x : Scene) (i : Incoming) (was now : Moment) (step : Step) : Type 0 where
   pub does : ForSome was.contents (λ c. (part : ℕ) (right : Bool) → SeesPart was.parts was.session.doing i part right → Does x was.rows c now.contents part right (λ h. on_heard h (session_of was.session) i) step)
   pub after : AreAfterStep step.kind was.rows now.rows
+  pub bars : (key : List ℕ) → bar_at now.rows key ≡ bar_at was.rows key
   pub fits : Fits x.number step
   pub filled : FillsSo (doing_of was.session.doing) (doing_of now.session.doing) (is_filling was.rows) (is_filling now.rows)
   pub next : (size : List ℕ → Option ℕ) → SeesSize was.contents i size → session_of now.session ≡ next_session size step (session_of was.session) i

@@ -1,5 +1,5 @@
 //! Answers by the row of a key: whether its content is there, a hold on it, and its removal.
-ghost use Rattle.std.specs.Prelude.{◌≡◌, ◌≤◌, ◌+◌, ◌/◌, ◌<◌, ◌^◌, ℕ, Bool, [], ◌∷◌, false, Some, None, All, IfOk, OnOk, OnErr, IfSome, IfNone};
+ghost use Rattle.std.specs.Prelude.{◌≡◌, ◌≤◌, ◌+◌, ◌/◌, ◌<◌, ◌^◌, ℕ, Bool, List, [], ◌∷◌, false, Some, None, All, IfOk, OnOk, OnErr, IfSome, IfNone};
 ghost use Rattle.std.specs.declared.option.Option.{Option};
 ghost use Rattle.std.specs.Option.{ForSome};
 ghost use Rattle.annex_base.specs.Causes.{Rose};
@@ -8,7 +8,7 @@ ghost use Rattle.run_data.specs.declared.entry.By.{By};
 ghost use Rattle.node_model.specs.SessionStep.{tries, refuses, check_answer, is_here, bar_on, on_lock, on_remove, on_remove_before};
 ghost use Rattle.node_model.specs.Rows.{same_owner};
 ghost use Rattle.node_model.specs.Sessions.{guards, Waits};
-ghost use Rattle.content_lock.specs.Rows.{AreAfter};
+ghost use Rattle.content_lock.specs.Rows.{AreAfter, bar_at};
 ghost use Rattle.content_lock.specs.Stored.{Agrees};
 ghost use Rattle.content_lock.specs.Tokens.{Owns, ShareView};
 ghost use Rattle.p2p_server.specs.Answers.{Does, failed_in, owner_of};
@@ -167,6 +167,7 @@ pub(crate) fn lock<K: Keeper>(
     requires free { Owns (owner_of scene) None table.old.holds }
     ensures does { IfOk result (λ r. ForSome (K.contents keeper.old) (λ c. (part : ℕ) (right : Bool) → Does scene table.old c (K.contents keeper.new) part right (λ h. on_lock h key) r.0)) }
     ensures after { IfOk result (λ r. AreAfter r.0.kind table.old table.new) }
+    ensures bars { (k : List ℕ) → bar_at table.new k ≡ bar_at table.old k }
     ensures fits { IfOk result (λ r. Fits scene.number r.0) }
     ensures shared { IfOk result (λ r. IfSome r.1 (λ s. guards r.0.kind ≡ guards (EntryKind.Share s.number 0 (owner_of scene) s.key))) }
     ensures refused { IfOk result (λ r. IfNone r.1 (guards r.0.kind ≡ Waits)) }

@@ -52,6 +52,7 @@ pub(crate) fn next_of<K: Keeper>(
     ensures does { IfOk result (λ more. ForSome (K.contents keeper.old) (λ c. (h : Here) → h.at ≡ server_end place.peer place.slot → h.content giving.now.key ≡ size_in c giving.now.key → h.fails ≡ failed_more more
         → gives_next h (sessions.Gives giving.now.key giving.now.at (giving.now.end - giving.now.at) giving.now.good) ≡ reply_more place more)) }
     ensures bytes { IfOk result (λ more. ForSome (K.contents keeper.old) (λ c. IsPiece c giving.now.key giving.now.at more)) }
+    ensures some { IfOk result (λ more. more ≡ More.Nothing → ⊥) }
     ensures short { IfOk result FitsMore }
     ensures within { IfOk result (λ more. IsWithin more (giving.now.end - giving.now.at)) }
     ensures contents { K.contents keeper.new ≡ K.contents keeper.old }

@@ -16,12 +16,12 @@ ghost use Rattle.node_model.specs.Sessions.{gave_bytes, new_session, session_aft
 ghost use Rattle.node_model.specs.SessionStep.{gives_next, here, is_filled, on_frame};
 ghost use Rattle.node_model.specs.SetUp.{SetUp};
 ghost use Rattle.node_model.specs.State.{State};
-ghost use Rattle.content_lock.specs.Rows.{Rows, is_filling};
+ghost use Rattle.content_lock.specs.Rows.{Rows, bar_at, is_filling};
 ghost use Rattle.content_lock.specs.Stored.{Agrees};
 ghost use Rattle.content_lock.specs.Tokens.{Owns, ShareView, given_in};
 ghost use Rattle.p2p_server.specs.Answers.{failed_in, owner_at, reply_of, size_in};
 ghost use Rattle.p2p_server.specs.Bounds.{Fits, FitsMore, IsReplyIf};
-ghost use Rattle.p2p_server.specs.Giving.{IsPieceOf, failed_more, reply_more, session_sent};
+ghost use Rattle.p2p_server.specs.Giving.{IsPieceOf, failed_more, is_giving, reply_more, session_sent};
 ghost use Rattle.p2p_server.specs.Phases.{HasLeft, HasRoom, IsBare, IsGave, IsGuarding, IsLonger, IsMoving, IsTook, IsWanting, WithinOf};
 ghost use Rattle.p2p_server.specs.States.{IsScene, Keeps, Stand, stand_after, stand_of};
 ghost use Rattle.p2p_server.specs.Stepping.{Goes, IsAt, IsLetGo, IsStep, IsUnexpected, guards_key, moment_of};
@@ -63,6 +63,23 @@ impl Session {
             place,
             spoken: 0,
             doing: Doing::Waits,
+        }
+    }
+
+    /// Where it stands.
+    pub fn place(&self) -> Place
+        ensures { result ≡ place_of self.now }
+    {
+        self.place
+    }
+
+    /// Whether it is sending a content.
+    pub fn is_giving(&self) -> bool
+        ensures { result ≡ is_giving (session_of self.now).doing }
+    {
+        match &self.doing {
+            Doing::Gives(_) => true,
+            _ => false,
         }
     }
 
@@ -552,6 +569,7 @@ impl Session {
         // The holds and bars are those that its entry leaves, also where the store doesn't tell its contents. Numbers of holds
         // stay below that of the next entry; replies are short.
         ensures after { IfOk result (λ step. AreAfterStep step.kind table.old table.new) }
+        ensures bars { IfOk result (λ step. (key : List ℕ) → bar_at table.new key ≡ bar_at table.old key) }
         ensures reply { IfOk result (λ step. IsReplyIf step.reply) }
         ensures numbers { (n : ℕ) → number < n → All (λ h. h.number < n) table.new.holds }
 
@@ -595,6 +613,7 @@ impl Session {
             → st.sessions a ≡ session_of self.old → k.fails ≡ failed_more more
             → gives_next (here s st k a) (st.sessions a).doing ≡ reply_more (place_of self.old) more) }
         ensures bytes { IfOk result (λ more. ForSome (K.contents keeper.old) (λ c. IsPieceOf c (session_of self.old).doing more)) }
+        ensures some { is_giving (session_of self.old).doing ≡ true → IfOk result (λ more. more ≡ More.Nothing → ⊥) }
         ensures short { IfOk result FitsMore }
         ensures next { IfOk result (λ more. session_of self.new ≡ session_sent more (session_of self.old)) }
         ensures place { place_of self.new ≡ place_of self.old }

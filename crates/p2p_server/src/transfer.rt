@@ -10,7 +10,7 @@ ghost use Rattle.key_verify.specs.Sums.{HasTaken, bytes_taken};
 ghost use Rattle.node_model.specs.Ends.{server_end};
 ghost use Rattle.node_model.specs.Sessions.{Gives, Waits, gives, reaches, takes_more, version_told, wants};
 ghost use Rattle.node_model.specs.SessionStep.{Here, bytes_left, content_of, on_put, on_valid, reply, tries};
-ghost use Rattle.content_lock.specs.Rows.{Rows, is_filling};
+ghost use Rattle.content_lock.specs.Rows.{Rows, bar_at, is_filling};
 ghost use Rattle.p2p_server.specs.Answers.{Changes, Does, failed_in, owner_of, reply_of, size_in};
 ghost use Rattle.p2p_server.specs.Bounds.{Fits};
 ghost use Rattle.p2p_server.specs.Phases.{IsJudged, IsNoGain, wanted_in};
@@ -123,6 +123,7 @@ pub(crate) fn put<K: Keeper>(
     ensures next { IfOk result (λ r. wants key.now r.0.reply ≡ wanted_in r.1) }
     ensures plain { IfOk result (λ r. IsPlain r.0) }
     ensures fed { IfOk result (λ r. ForSome (K.parts keeper.old) (λ p. IfSome r.1 (λ w. IsFedBy w.digester w.fill (p w.fill)))) }
+    ensures bars { (k : List ℕ) → bar_at table.new k ≡ bar_at table.old k }
     ensures holds { table.new.holds ≡ table.old.holds }
     ensures err { OnErr result (table.new ≡ table.old) }
     ensures contents { K.contents keeper.new ≡ K.contents keeper.old }
@@ -169,6 +170,7 @@ fn ask<K: Keeper>(
     ensures next { IfOk result (λ r. wants key.now r.0.reply ≡ wanted_in r.1) }
     ensures plain { IfOk result (λ r. IsPlain r.0) }
     ensures fed { IfOk result (λ r. ForSome (K.parts keeper.old) (λ p. IfSome r.1 (λ w. IsFedBy w.digester w.fill (p w.fill)))) }
+    ensures bars { (k : List ℕ) → bar_at table.new k ≡ bar_at table.old k }
     ensures holds { table.new.holds ≡ table.old.holds }
     ensures err { OnErr result (table.new ≡ table.old) }
     ensures contents { K.contents keeper.new ≡ K.contents keeper.old }

@@ -10,7 +10,7 @@ returns-in-Some g c =
     rw (← c.in_ok-key.ensures) (
     lock_so c.args.scene c.in_ok-key.key s _ c.args.table.now c.lock.new.table _ _ _ _ _ _ _ _ c.in_ok-step.share c.in_ok-step.step c.requires.waits
     ((λ j. in_phase s.place s.spoken (c.begin.ensures j)) ∙ ap (λ o. in_phase s.place s.spoken (guarding o)) (sym c.in-Some.is))
-    c.requires.at.here r.does r.after r.fits r.shared r.refused r.owns c.lock.ensures.others r.plain r.still c.lock.ensures.parts c.lock.ensures.agrees c.lock.ensures.later r.cause)
+    c.requires.at.here r.does r.after c.lock.ensures.bars r.fits r.shared r.refused r.owns c.lock.ensures.others r.plain r.still c.lock.ensures.parts c.lock.ensures.agrees c.lock.ensures.later r.cause)
 
 pub returns-in-None : goal.returns-in-None
 returns-in-None g c =
@@ -19,4 +19,4 @@ returns-in-None g c =
     rw (← c.in_ok-key.ensures) (
     lock_so c.args.scene c.in_ok-key.key s s c.args.table.now c.lock.new.table _ _ _ _ _ _ _ _ c.in_ok-step.share c.in_ok-step.step c.requires.waits
     ((λ j. in_phase s.place s.spoken (c.requires.waits j)) ∙ ap (λ o. in_phase s.place s.spoken (guarding o)) (sym c.in-None.is))
-    c.requires.at.here r.does r.after r.fits r.shared r.refused r.owns c.lock.ensures.others r.plain r.still c.lock.ensures.parts c.lock.ensures.agrees c.lock.ensures.later r.cause)
+    c.requires.at.here r.does r.after c.lock.ensures.bars r.fits r.shared r.refused r.owns c.lock.ensures.others r.plain r.still c.lock.ensures.parts c.lock.ensures.agrees c.lock.ensures.later r.cause)

@@ -10,7 +10,7 @@ returns-in-Some g c = λ file.
     let r = c.in_ok-step.ensures in
     put_so c.args.scene file c.args.key.now s _ c.args.table.now c.put.new.table _ _ _ _ _ _ _ _ c.in_ok-step.wanting c.in_ok-step.step c.requires.waits
     ((λ j. in_phase s.place s.spoken (c.begin.ensures j)) ∙ ap (λ o. in_phase s.place s.spoken (wanting_of o)) (sym c.in-Some.is))
-    c.requires.at (le-leb 1 s.spoken c.requires.spoken) r.does r.after r.fits r.given r.filled r.next r.plain r.still r.fed c.put.ensures.holds c.put.ensures.parts
+    c.requires.at (le-leb 1 s.spoken c.requires.spoken) r.does r.after c.put.ensures.bars r.fits r.given r.filled r.next r.plain r.still r.fed c.put.ensures.holds c.put.ensures.parts
     (rw (c.put.ensures.records, c.put.ensures.holds) c.requires.agrees) c.put.ensures.later r.cause
 
 pub returns-in-None : goal.returns-in-None
@@ -19,5 +19,5 @@ returns-in-None g c = λ file.
     let r = c.in_ok-step.ensures in
     put_so c.args.scene file c.args.key.now s s c.args.table.now c.put.new.table _ _ _ _ _ _ _ _ c.in_ok-step.wanting c.in_ok-step.step c.requires.waits
     ((λ j. in_phase s.place s.spoken (c.requires.waits j)) ∙ ap (λ o. in_phase s.place s.spoken (wanting_of o)) (sym c.in-None.is))
-    c.requires.at (le-leb 1 s.spoken c.requires.spoken) r.does r.after r.fits r.given r.filled r.next r.plain r.still r.fed c.put.ensures.holds c.put.ensures.parts
+    c.requires.at (le-leb 1 s.spoken c.requires.spoken) r.does r.after c.put.ensures.bars r.fits r.given r.filled r.next r.plain r.still r.fed c.put.ensures.holds c.put.ensures.parts
     (rw (c.put.ensures.records, c.put.ensures.holds) c.requires.agrees) c.put.ensures.later r.cause
