@@ -20,7 +20,7 @@ use Rattle.node_model.specs.Evidence.{Offer, Gives, Fails, candidates, failures,
 use Rattle.node_model.specs.Jobs.{drop_side, target_of}
 use Rattle.node_model.specs.JobStep.{Turn}
 use Rattle.node_model.specs.DropStep.{lacking, removal_outcome}
-use Rattle.node_model.specs.Knows.{Reading, cause_heard, known_by, proof_by}
+use Rattle.node_model.specs.Knows.{Reading, candidates_by, cause_by, cause_heard, known_by, proof_by}
 use Rattle.content_lock.specs.Rows.{Rows}
 use Rattle.drop_worker.specs.declared.here.Standing.{Standing}
 use Rattle.drop_worker.specs.declared.here.Standing.TheVariants as standings
@@ -28,7 +28,7 @@ use Rattle.drop_worker.specs.declared.phase.Heard.{Heard}
 use Rattle.drop_worker.specs.declared.phase.Heard.TheVariants as heards
 use Rattle.drop_worker.specs.Standings.{standing_of}
 use Rattle.drop_worker.specs.Worker.{Worker}
-use Rattle.drop_worker.specs.Working.{Rest, Sight, heard_as, heard_in, newest_of, turn_in, word_in, work_of}
+use Rattle.drop_worker.specs.Working.{Rest, Sight, heard_as, heard_in, is_target, newest_of, turn_in, word_in, words_of, work_of}
 use Rattle.drop_worker.specs.Judging.{asks_of, cause_at, cause_told, gathered, offer_of, others_in}
 use Rattle.drop_worker.proofs.Heards.{heard_same}
 use Rattle.drop_worker.proofs.Partings.{from_none}
@@ -99,7 +99,12 @@ module _ (x : Sight) (rows : Rows) (p : List ℕ → Bool) (fails : Option Call)
   pub dropped_is : Dropped proof ≡ removal_outcome (drop_side w.job.kind w.job.peer) turn
   dropped_is = (λ i. Dropped (proof_is i)) ∙ sym (ap (λ (side : Side). removal_outcome side turn) local)
 
+  -- a local drop has no target that answers an order
+  local_words : (c : ℕ) → word_in (newest_of w.heard c) ≡ words_of w c
+  local_words c = sym (λ i. if is_target (local i) w.job.peer c then w.word else word_in (newest_of w.heard c))
+
   pub lacks_is : (causes : List CandidateCause) → causes ≡ failures (offer_of x.read w) (cause_at x.read w) (others_in x.read) → Refused (refusals.Lacking proof causes) ≡ lacking turn
   lacks_is causes told =
       (λ i. Refused (refusals.Lacking (proof_is i) (told i)))
       ∙ (λ i. Refused (refusals.Lacking (proof_by x.read (work_of rest w)) (failures (offer_of x.read w) (cause_at x.read w) (candidates (sym local i) x.read.count x.read.repo (target_of x.read.repo (work_of rest w))))))
+      ∙ (λ i. Refused (refusals.Lacking (proof_by x.read (work_of rest w)) (failures (offer_of x.read w) (λ c. cause_by (local_words c i) (x.read.standing c) (heard_in w.heard c)) (candidates_by x.read (work_of rest w)))))

@@ -1,5 +1,5 @@
 -- To which peers the next step may send more than a Close.
-use Rattle.std.proofs.Common.{◌≡◌, ℕ, Bool, List, filter, Option, Result, Ok, Err, Vec, Global, refl, sym, ap, ◌∙◌}
+use Rattle.std.proofs.Common.{◌≡◌, ℕ, Bool, List, [], ◌∷◌, filter, Option, Result, Ok, Err, Vec, Global, refl, sym, ap, ◌∙◌}
 use Rattle.std.specs.Prelude.{IfOk}
 use Rattle.annex_base.specs.declared.kinds.Call.{Call}
 use Rattle.annex_base.specs.declared.memory.NoMemory.{NoMemory}
@@ -45,6 +45,12 @@ module _ (read : Reading) (ends_at : EndName → End) (time : ℕ) (w : Worker) 
   pub locked_lacks : (v : Verdict) → v ≡ verdicts.Lacks → Judges v → (r : Result (Vec ℕ Global) NoMemory)
       → IfOk r (λ peers. peers.items ≡ filter (is_owing ends_at w) (others_in read)) → IfOk r (λ peers. Needs (λ t. next_needs t Drops) peers.items)
   locked_lacks v is = locked_by v (λ t. ap (λ (u : Verdict). needs_by u t) (sym is))
+
+  pub asked_one : (v : Verdict) (peer : ℕ) → v ≡ verdicts.Asks peer → Judges v → (r : Result (Vec ℕ Global) NoMemory)
+      → IfOk r (λ peers. peers.items ≡ peer ∷ []) → IfOk r (λ peers. Needs (λ t. next_needs t Drops) peers.items)
+  asked_one v peer is judges (Ok peers) one = λ number rows p fails rest.
+      one ∙ (ap (λ (u : Verdict). needs_by u (turn_in (sight read ends_at time number) rows p fails rest w)) (sym is) ∙ judges number rows p fails rest)
+  asked_one v peer is judges (Err e) one = tt
 
   -- the same where the job stands
   pub needs_next : w.phase ≡ phases.Next → (r : Result (Vec ℕ Global) NoMemory) → IfOk r (λ peers. Needs (λ t. next_needs t Drops) peers.items)

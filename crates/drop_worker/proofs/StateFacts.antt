@@ -1,14 +1,16 @@
 -- What a job reads of a state that it is, and the step of its slot.
 use Rattle.std.specs.Prelude.{if◌then◌else◌}
-use Rattle.std.proofs.Common.{◌≡◌, ℕ, Bool, true, Option, Some, None, refl, sym, ap, ◌∙◌}
+use Rattle.std.proofs.Common.{◌≡◌, ℕ, Bool, true, Option, Some, None, refl, sym, ap, ◌∙◌, subst}
 use Rattle.annex_base.specs.declared.kinds.Call.{Call}
+use Rattle.drop_proof.specs.declared.rule.Side.{Side}
 use Rattle.run_data.specs.declared.entry.FrameView.{FrameView}
 use Rattle.node_model.specs.SetUp.{SetUp}
 use Rattle.node_model.specs.Jobs as Jobs
-use Rattle.node_model.specs.Jobs.{Work, drop_side}
-use Rattle.node_model.specs.Look.{Look, Made}
+use Rattle.node_model.specs.Jobs.{Work, drop_side, work_after}
+use Rattle.node_model.specs.Look.{Look, Made, entry_of}
 use Rattle.node_model.specs.State.{State}
 use Rattle.node_model.specs.JobStep.{Turn, end_with, turn_of}
+use Rattle.node_model.specs.Knows.{Reading, reading}
 use Rattle.node_model.specs.Rows.{option_is}
 use Rattle.node_model.specs.Slots.{job_of}
 use Rattle.node_model.specs.Turns.{by_partner, is_awaiting}
@@ -20,8 +22,10 @@ use Rattle.drop_worker.specs.declared.turn.Taken.{Taken}
 use Rattle.drop_worker.specs.declared.turn.Output.{Output}
 use Rattle.drop_worker.specs.Worker.{Worker}
 use Rattle.drop_worker.specs.Working.{Rest, Sight, end_in, failed_in, made_of, phase_as, present_in, turn_in, work_of}
-use Rattle.drop_worker.specs.Doing.{Does, moved}
+use Rattle.drop_worker.specs.Doing.{moved}
 use Rattle.drop_worker.specs.Feeding.{FedAt, FindsAt, step_of}
+use Rattle.drop_worker.specs.Sides.{IsNext, side_in}
+use Rattle.drop_worker.specs.Stepping.{DoesSo}
 use Rattle.drop_worker.specs.States.{IsSight, Keeps, Sees, StepsSo, rest_of}
 use Rattle.annex_base.proofs.Conditions.{eqb_refl}
 
@@ -73,17 +77,22 @@ fed_open x t slot None f taken e same fed = tt
 fed_open x t slot (Some peer) None taken e same fed = tt
 fed_open x t slot (Some peer) (Some f) taken e same fed = sym (λ i. (e i (end_in (same i) peer)).opened) ∙ fed.live
 
+-- the next work, by what is the same
+next_at : (side : Side) (r q : Reading) (u v v' : Work) → r ≡ q → v ≡ v' → IsNext side r u v → IsNext side q u v'
+next_at side r q u v v' same is next = subst (λ (m : Work). IsNext side q u m) is (subst (λ (m : Reading). IsNext side m u v) same next)
+
 -- a step that does this, at a look that sees it, is the slot's
 pub steps_so : (x : Sight) (rows rows' : Rows) (contents : Contents) (w w' : Worker) (taken : Taken) (out : Output) (s : SetUp) (st : State) (k : Look) (v : Work) (f : Option FrameView)
-    → Sees x rows contents w taken (failed_in out.kind) s st k v f → Does x rows rows' (present_in contents) w w' f (step_of (Jobs.partner w.job.peer (phase_as w.phase)) f) out
+    → Sees x rows contents w taken (failed_in out.kind) s st k v f → DoesSo x rows rows' (present_in contents) w w' f (step_of (Jobs.partner w.job.peer (phase_as w.phase)) f) out
     → StepsSo x w w' out s st k v f
 steps_so x rows rows' contents w w' taken out s st k v f sees d =
     record {
       made = (λ i. by_partner now (Jobs.partner (sym work i).what.peer (sym work i).phase))
           ∙ (found_step now o f (ap (λ (u : Work). is_awaiting u.phase) (sym work) ∙ awaiting w.phase) sees.finds (fed_open x now w.slot o f taken sees.sight.ends (ap (λ (u : Work). u.slot) work) sees.fed)
           ∙ ap (λ (m : Made). Some m) (sym (d.makes rest ∙ ap (step_of o f) is)));
-      next = λ going. d.next going rest
-          ∙ (ap (moved turned) (sym (d.makes rest)) ∙ (ap (λ (t : Turn). moved t made) is ∙ sym (own_entry (option_is (job_of out.kind) v.number) whose)));
+      next = λ going. next_at (side_in w) x.read (reading s st v) (work_of rest w') (moved turned (step_of o f turned))
+          (work_after (record { present = st.present; bar = st.bar; ends = st.ends }) s.number (entry_of s.number k made) v) sees.sight.read
+          (ap (moved turned) (sym (d.makes rest)) ∙ (ap (λ (t : Turn). moved t made) is ∙ sym (own_entry (option_is (job_of out.kind) v.number) whose))) (d.next going rest);
     }
   where
     o : Option ℕ

@@ -7,8 +7,8 @@ use Rattle.node_model.specs.Slots.{job_of}
 use Rattle.node_model.specs.Jobs.{Work, work_kind}
 use Rattle.node_model.specs.Look.{Made, entry_of}
 use Rattle.node_model.specs.JobStep.{Turn, attempts, by_me, key_of, me, quietly}
-use Rattle.p2p_wire.specs.declared.message.Message.TheVariants.{CheckPresent, LockContent, Version}
-use Rattle.p2p_wire.specs.Messages.{message_of, text_of}
+use Rattle.p2p_wire.specs.declared.message.Message.TheVariants.{CheckPresent, LockContent, UnlockContent, Version}
+use Rattle.p2p_wire.specs.Streams.{IsLine}
 use Rattle.node_model.specs.Ends.{End as EndState, EndName, takes_at}
 use Rattle.node_model.specs.Knows.{Reading}
 use Rattle.p2p_wire.specs.declared.message.Message.{Message}
@@ -91,11 +91,12 @@ OthersStay number rows rows' = (job : ℕ) (key : List ℕ) (token : Token) → 
 
 -- ---- what it says
 
--- the lines of a drop are read as they were said
+-- what a drop says are lines of the protocol, which are read as they were said
 pub record Reads (key : List ℕ) : Type 0 where
-  pub version : message_of (text_of (Version 3)) ≡ Some (Version 3)
-  pub lock : message_of (text_of (LockContent key)) ≡ Some (LockContent key)
-  pub look : message_of (text_of (CheckPresent key)) ≡ Some (CheckPresent key)
+  pub version : IsLine (Version 3)
+  pub lock : IsLine (LockContent key)
+  pub look : IsLine (CheckPresent key)
+  pub unlock : IsLine (UnlockContent key)
 
 -- the frame is what the worker is told of, at the end of an open connection with this peer
 pub record Comes (x : Sight) (slot peer : ℕ) (f : FrameView) (taken : Taken) : Type 0 where

@@ -1,4 +1,4 @@
--- What a step of a local drop is told of its frame, and which token goes with which phase (the project's own).
+-- What a step of a drop is told of its frame, and which token goes with which phase (the project's own).
 use Rattle.std.specs.Prelude.{◌≡◌, ℕ, Bool, true, false, ◌==◌, List, ◌∷◌, Option, Some, None}
 use Rattle.std.specs.List.{list_all}
 use Rattle.run_data.specs.declared.entry.FrameView.{FrameView}
@@ -17,7 +17,7 @@ use Rattle.drop_worker.specs.declared.turn.Taken.TheVariants as takens
 use Rattle.drop_worker.specs.Working.{Sight, end_in}
 use Rattle.drop_worker.specs.Doing.{Comes, Does, IsBar}
 use Rattle.annex_base.specs.declared.kinds.Word.{Word}
-use Rattle.p2p_wire.specs.declared.message.Message.TheVariants.{Failure}
+use Rattle.p2p_wire.specs.declared.message.Message.TheVariants.{Failure, Success}
 use Rattle.drop_worker.specs.declared.phase.Heard.TheVariants as heards
 use Rattle.drop_worker.specs.declared.turn.Output.{Output}
 use Rattle.drop_worker.specs.Worker.{Worker}
@@ -55,6 +55,16 @@ FitsLocal phases.Denied token = ⊥
 FitsLocal (phases.Late time) token = ⊥
 FitsLocal (phases.Ends why) token = FitsEnding why token
 
+-- the job has no bar
+abbrev pub HasNoBar : Token → Type 0
+HasNoBar (tokens.Bar bar) = ⊥
+HasNoBar token = Unit {0}
+
+-- a remote drop in this phase has this token
+abbrev pub FitsRemote : Phase → Token → Type 0
+FitsRemote phases.Fresh token = IsBare token
+FitsRemote phase token = HasNoBar token
+
 -- ---- frames
 
 -- the step of a turn whose job stands on the connection with this peer, or on none, and takes this frame, or none
@@ -76,6 +86,16 @@ TakesFed time peer taken w w' out =
 -- the word beside a refused look is kept
 abbrev pub KeepsWord : Taken → Option Word → Worker → Worker → Type 0
 KeepsWord taken word w w' = (peer : ℕ) → w.phase ≡ phases.AsksLook peer → taken ≡ takens.Message Failure → w'.heard ≡ (peer, heards.Unseen word) ∷ w.heard
+
+-- the answer to an order
+abbrev pub IsAnswer : Taken → Type 0
+IsAnswer (takens.Message Success) = Unit {0}
+IsAnswer (takens.Message Failure) = Unit {0}
+IsAnswer taken = ⊥
+
+-- the word beside it is kept
+abbrev pub KeepsAnswer : Taken → Option Word → Worker → Worker → Type 0
+KeepsAnswer taken word w w' = w.phase ≡ phases.Orders → IsAnswer taken → w'.word ≡ word
 
 -- with a frame that is no message; with a Close; with a connection that was closed here
 abbrev pub TakesOther : ℕ → Worker → Worker → Output → Type 0

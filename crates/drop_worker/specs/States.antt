@@ -20,6 +20,7 @@ use Rattle.drop_worker.specs.declared.turn.Output.{Output}
 use Rattle.drop_worker.specs.declared.turn.Taken.{Taken}
 use Rattle.drop_worker.specs.Working.{Rest, Sight, made_of, phase_as, words_of, work_of}
 use Rattle.drop_worker.specs.Feeding.{FedAt, FindsAt}
+use Rattle.drop_worker.specs.Sides.{IsNext, side_in}
 
 -- the table and the store have the rows and contents of this state
 pub record Keeps (rows : Rows) (contents : Contents) (st : State) : Type 0 where
@@ -48,7 +49,8 @@ pub record Sees (x : Sight) (rows : Rows) (contents : Contents) (w : Worker) (ta
   pub finds : FindsAt (turn_of s st k v) (partner w.job.peer (phase_as w.phase)) f
   pub fed : FedAt x w.slot (partner w.job.peer (phase_as w.phase)) f taken
 
--- the step is that of the job's slot, and the worker after it is the job's work after the entry
+-- the step is that of the job's slot, and the worker after it is the job's work after the entry, or of a remote drop alike
 pub record StepsSo (x : Sight) (w w' : Worker) (out : Output) (s : SetUp) (st : State) (k : Look) (v : Work) (f : Option FrameView) : Type 0 where
   pub made : slot_step s st k (Some v) ≡ Some (made_of x w f out)
-  pub next : out.ended ≡ false → work_of (rest_of s st k v) w' ≡ work_after (record { present = st.present; bar = st.bar; ends = st.ends }) s.number (entry_of s.number k (made_of x w f out)) v
+  pub next : out.ended ≡ false → IsNext (side_in w) (reading s st v) (work_of (rest_of s st k v) w')
+      (work_after (record { present = st.present; bar = st.bar; ends = st.ends }) s.number (entry_of s.number k (made_of x w f out)) v)

@@ -19,7 +19,9 @@ use Rattle.node_model.specs.Rows.{option_is}
 use Rattle.node_model.specs.Evidence.{but}
 use Rattle.node_model.specs.Ends.{EndName, End, frames}
 use Rattle.node_model.specs.Jobs
-use Rattle.node_model.specs.Jobs.{Work, Drops, job_end}
+use Rattle.node_model.specs.Jobs.{Work, Drops, drop_side, job_end}
+use Rattle.drop_proof.specs.declared.rule.Side.{Side}
+use Rattle.drop_proof.specs.declared.rule.Side.TheVariants.{Local, Remote}
 use Rattle.node_model.specs.Knows.{Reading}
 use Rattle.node_model.specs.Look.{Look, Made}
 use Rattle.p2p_wire.specs.declared.message.Message.TheVariants.{UnlockContent}
@@ -96,7 +98,7 @@ work_of rest w =
 abbrev pub learnt : Worker → ℕ → ℕ → Worker
 learnt w peer n = record w { version = (if option_is w.job.peer peer then n else w.version) }
 
--- the newest that was heard of a repository, and the word that it told
+-- the newest that was heard of a repository, and the word beside a refused look
 abbrev pub newest_of : List (ℕ × Heard) → ℕ → Option Heard
 newest_of heard peer = option_map (λ (x : ℕ × Heard). x.1) (find (λ x. x.0 == peer) heard)
 
@@ -104,8 +106,14 @@ abbrev pub word_in : Option Heard → Option Word
 word_in (Some (heards.Unseen word)) = word
 word_in _ = None
 
+-- the target of a remote drop
+abbrev pub is_target : Side → Option ℕ → ℕ → Bool
+is_target Remote peer c = option_is peer c
+is_target Local peer c = false
+
+-- the words that it was told: the target's beside its answer to an order
 abbrev pub words_of : Worker → ℕ → Option Word
-words_of w c = word_in (newest_of w.heard c)
+words_of w c = if is_target (drop_side w.job.kind w.job.peer) w.job.peer c then w.word else word_in (newest_of w.heard c)
 
 -- ---- the turn
 

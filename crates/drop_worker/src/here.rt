@@ -31,9 +31,10 @@ pub trait Here {
     fn repo(&self) -> u32
         ensures { result ≡ (reading self.now).repo };
 
-    /// How many repositories there are.
+    /// How many repositories there are; it is one of them.
     fn count(&self) -> u32
-        ensures { result ≡ (reading self.now).count };
+        ensures same { result ≡ (reading self.now).count }
+        ensures among { (reading self.now).repo < result };
 
     /// Its clock at a time, as it was set last, in milliseconds.
     fn clock(&self, time: Time) -> u64

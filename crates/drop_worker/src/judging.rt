@@ -8,6 +8,7 @@ ghost use Rattle.node_model.specs.Jobs.{Drops, drop_side};
 ghost use Rattle.node_model.specs.Turns.{next_needs, next_step};
 ghost use Rattle.content_lock.specs.Rows.{Rows};
 ghost use Rattle.drop_worker.specs.Working.{Rest, sight, turn_in};
+ghost use Rattle.drop_worker.specs.Begun.{IsOther};
 ghost use Rattle.drop_worker.specs.Judging.{step_by, needs_by, asks_of, gathered, offer_as, offer_heard, offer_of, others_in};
 
 use crate::here::{Here, Standing};
@@ -19,7 +20,7 @@ use drop_proof::{Evidence, Judged, Kind, Need, Side};
 use std::alloc::Global;
 
 /// How long a lock lasts, in milliseconds: ten minutes.
-const LOCK_TIME: u64 = 600_000;
+pub(crate) const LOCK_TIME: u64 = 600_000;
 
 /// Whether a candidate is to be asked.
 fn asks<H: Here>(worker: &Worker, here: &H, candidate: u32) -> bool
@@ -170,6 +171,7 @@ pub fn judge<H: Here>(
     requires few { length items.now < 2 ^ 32 }
     ensures step { (number : ℕ) (rows : Rows) (p : List ℕ → Bool) (fails : Option Call) (rest : Rest) → step_by result (turn_in (sight (H.reading here.now) (H.ends here.now) time number) rows p fails rest worker.now) ≡ next_step (turn_in (sight (H.reading here.now) (H.ends here.now) time number) rows p fails rest worker.now) Drops }
     ensures needs { (number : ℕ) (rows : Rows) (p : List ℕ → Bool) (fails : Option Call) (rest : Rest) → needs_by result (turn_in (sight (H.reading here.now) (H.ends here.now) time number) rows p fails rest worker.now) ≡ next_needs (turn_in (sight (H.reading here.now) (H.ends here.now) time number) rows p fails rest worker.now) Drops }
+    ensures other { (peer : ℕ) → result ≡ Verdict.Asks peer → IsOther (H.reading here.now) peer }
 {
     match drop_proof::judge(items, here.need(), Side::Local) {
         Judged::Enough { end: None } => Verdict::Removes,

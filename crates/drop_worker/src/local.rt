@@ -4,12 +4,14 @@ ghost use Rattle.drop_proof.specs.declared.rule.Side.TheVariants as sides;
 ghost use Rattle.node_model.specs.Rows.{is_lost_ordered};
 ghost use Rattle.node_model.specs.Jobs.{drop_side, partner};
 ghost use Rattle.node_model.specs.JobStep.{ends};
+ghost use Rattle.node_model.specs.Knows.{Reading};
 ghost use Rattle.node_model.specs.DropStep.{lacking};
 ghost use Rattle.node_model.specs.Requests.{goes_to};
 ghost use Rattle.content_lock.specs.Rows.{Rows, bar_at};
 ghost use Rattle.drop_worker.specs.Working.{Sight, phase_as, sight};
 ghost use Rattle.drop_worker.specs.Doing.{HasToken, IsBar, OthersStay, is_barring, removes_now};
 ghost use Rattle.drop_worker.specs.Feeding.{FitsLocal, IsOfLocal};
+ghost use Rattle.drop_worker.specs.Begun.{HasEnded, HasGone, IsOther};
 ghost use Rattle.drop_worker.specs.Judging.{gathered, others_in};
 ghost use Rattle.drop_worker.specs.Leaving.{ActsOver, Did, GoesSo, Store, Unbarred, store};
 
@@ -17,6 +19,7 @@ use crate::evidence::{failures, proof};
 use crate::here::Here;
 use crate::judging::{Verdict, gather, judge, others};
 use crate::phase::{Ending, Phase, Token};
+use crate::said::Said;
 use crate::time::Time;
 use crate::turn::{Input, Output, Parcel, ParcelBody};
 use crate::worker::{Worker, ending, quietly, reads, telling};
@@ -41,8 +44,9 @@ pub(crate) fn act<K: Keeper, H: Here>(
     requires fits { FitsLocal worker.old.phase worker.old.token }
     requires awaits { partner worker.old.job.peer (phase_as worker.old.phase) ≡ None }
     requires owns { HasToken worker.old.number worker.old.job.key worker.old.token table.old }
-    ensures { Did table.old table.new (store (K.contents keeper.old) (K.records keeper.old) (K.faults keeper.old)) (store (K.contents keeper.new) (K.records keeper.new) (K.faults keeper.new)) worker.old worker.new
+    ensures does { Did table.old table.new (store (K.contents keeper.old) (K.records keeper.old) (K.faults keeper.old)) (store (K.contents keeper.new) (K.records keeper.new) (K.faults keeper.new)) worker.old worker.new
         (GoesSo (sight (H.reading here.now) (H.ends here.now) input.now.time input.now.number) (K.contents keeper.old) table.old table.new worker.old worker.new) result }
+    ensures begun { IfOk result (HasGone (H.reading here.now) worker.old worker.new) }
 {
     match worker.phase() {
         Phase::Fresh => begin(worker, alloc, here, table, keeper, input),
@@ -68,8 +72,9 @@ fn begin<K: Keeper, H: Here>(
     requires local { drop_side worker.old.job.kind worker.old.job.peer ≡ sides.Local }
     requires bare { worker.old.token ≡ Token.Nothing }
     requires owns { HasToken worker.old.number worker.old.job.key worker.old.token table.old }
-    ensures { Did table.old table.new (store (K.contents keeper.old) (K.records keeper.old) (K.faults keeper.old)) (store (K.contents keeper.new) (K.records keeper.new) (K.faults keeper.new)) worker.old worker.new
+    ensures does { Did table.old table.new (store (K.contents keeper.old) (K.records keeper.old) (K.faults keeper.old)) (store (K.contents keeper.new) (K.records keeper.new) (K.faults keeper.new)) worker.old worker.new
         (GoesSo (sight (H.reading here.now) (H.ends here.now) input.now.time input.now.number) (K.contents keeper.old) table.old table.new worker.old worker.new) result }
+    ensures begun { IfOk result (HasGone (H.reading here.now) worker.old worker.new) }
 {
     let sends = worker.partings(alloc, here, false)?;
     let key = worker.key().copy()?;
@@ -131,8 +136,9 @@ fn go_on<K: Keeper, H: Here>(
     requires next { worker.old.phase ≡ Phase.Next }
     requires bars { IsBar worker.old.token }
     requires owns { HasToken worker.old.number worker.old.job.key worker.old.token table.old }
-    ensures { (number : ℕ) → Did table.old table.new (store (K.contents keeper.old) (K.records keeper.old) (K.faults keeper.old)) (store (K.contents keeper.new) (K.records keeper.new) (K.faults keeper.new)) worker.old worker.new
+    ensures does { (number : ℕ) → Did table.old table.new (store (K.contents keeper.old) (K.records keeper.old) (K.faults keeper.old)) (store (K.contents keeper.new) (K.records keeper.new) (K.faults keeper.new)) worker.old worker.new
         (GoesSo (sight (H.reading here.now) (H.ends here.now) time number) (K.contents keeper.old) table.old table.new worker.old worker.new) result }
+    ensures begun { IfOk result (HasGone (H.reading here.now) worker.old worker.new) }
 {
     let candidates = others(alloc, here)?;
     let items = gather(worker, alloc, here, Side::Local, &candidates)?;
@@ -155,8 +161,9 @@ fn remove<K: Keeper>(
     requires next { worker.old.phase ≡ Phase.Next }
     requires bars { IsBar worker.old.token }
     requires owns { HasToken worker.old.number worker.old.job.key worker.old.token table.old }
-    ensures { (x : Sight) → Did table.old table.new (store (K.contents keeper.old) (K.records keeper.old) (K.faults keeper.old)) (store (K.contents keeper.new) (K.records keeper.new) (K.faults keeper.new)) worker.old worker.new
+    ensures does { (x : Sight) → Did table.old table.new (store (K.contents keeper.old) (K.records keeper.old) (K.faults keeper.old)) (store (K.contents keeper.new) (K.records keeper.new) (K.faults keeper.new)) worker.old worker.new
         (ActsOver x (K.contents keeper.old) table.old table.new worker.old worker.new removes_now) result }
+    ensures begun { IfOk result (λ out. (r : Reading) → HasGone r worker.old worker.new out) }
 {
     let key = worker.key().copy()?;
     match worker.take_token() {
@@ -187,8 +194,10 @@ fn ask<H: Here>(
     requires local { drop_side worker.old.job.kind worker.old.job.peer ≡ sides.Local }
     requires next { worker.old.phase ≡ Phase.Next }
     requires bars { IsBar worker.old.token }
-    ensures { (number : ℕ) (rows : Rows) (k : Store) → HasToken worker.old.number worker.old.job.key worker.old.token rows → Did rows rows k k worker.old worker.new
+    requires other { IsOther (H.reading here.now) peer }
+    ensures does { (number : ℕ) (rows : Rows) (k : Store) → HasToken worker.old.number worker.old.job.key worker.old.token rows → Did rows rows k k worker.old worker.new
         (ActsOver (sight (H.reading here.now) (H.ends here.now) time number) k.contents rows rows worker.old worker.new (λ t. goes_to t peer)) result }
+    ensures begun { IfOk result (HasGone (H.reading here.now) worker.old worker.new) }
 {
     if !here.is_open(peer, worker.slot()) {
         let out = telling(alloc, worker.number(), peer, ParcelBody::Open)?;
@@ -196,7 +205,8 @@ fn ask<H: Here>(
         return Ok(out);
     }
     reads(worker.key());
-    let said = ParcelBody::Message(Message::LockContent(worker.key().copy()?));
+    let said = Said::new(alloc, Message::LockContent(worker.key().copy()?))?;
+    let said = ParcelBody::Message(said);
     let out = telling(alloc, worker.number(), peer, said)?;
     worker.go_to(Phase::AsksLock { peer, since: time });
     Ok(out)
@@ -215,8 +225,9 @@ fn expire<H: Here>(
 ) -> Result<Output, NoMemory>
     requires local { IsOfLocal worker.old.token }
     requires owns { HasToken worker.old.number worker.old.job.key worker.old.token table.old }
-    ensures { (time : ℕ) (number : ℕ) (k : Store) → Did table.old table.new k k worker.old worker.new
+    ensures does { (time : ℕ) (number : ℕ) (k : Store) → Did table.old table.new k k worker.old worker.new
         (ActsOver (sight (H.reading here.now) (H.ends here.now) time number) k.contents table.old table.new worker.old worker.new (λ t. ends t None (Outcome.Refused (DropRefusal.Expired end clock)))) result }
+    ensures ended { IfOk result (HasEnded worker.old worker.new) }
 {
     let why = DropRefusal::Expired { end, clock };
     finish(worker, alloc, here, table, Outcome::Refused(why))
@@ -236,8 +247,9 @@ fn lack<H: Here>(
     requires all { candidates.now ≡ others_in (H.reading here.now) }
     requires known { items.now ≡ gathered sides.Local (H.reading here.now) worker.old candidates.now [] }
     requires owns { HasToken worker.old.number worker.old.job.key worker.old.token table.old }
-    ensures { (time : ℕ) (number : ℕ) (k : Store) → Did table.old table.new k k worker.old worker.new
+    ensures does { (time : ℕ) (number : ℕ) (k : Store) → Did table.old table.new k k worker.old worker.new
         (ActsOver (sight (H.reading here.now) (H.ends here.now) time number) k.contents table.old table.new worker.old worker.new (λ t. ends t None (lacking t))) result }
+    ensures ended { IfOk result (HasEnded worker.old worker.new) }
 {
     let proof = proof(alloc, here, items)?;
     let causes = failures(worker, alloc, here, candidates)?;
@@ -259,8 +271,9 @@ fn drop_done<H: Here>(
     requires at { worker.old.phase ≡ Phase.Removed }
     requires local { IsOfLocal worker.old.token }
     requires owns { HasToken worker.old.number worker.old.job.key worker.old.token table.old }
-    ensures { (time : ℕ) (number : ℕ) (k : Store) → Did table.old table.new k k worker.old worker.new
+    ensures does { (time : ℕ) (number : ℕ) (k : Store) → Did table.old table.new k k worker.old worker.new
         (GoesSo (sight (H.reading here.now) (H.ends here.now) time number) k.contents table.old table.new worker.old worker.new) result }
+    ensures ended { IfOk result (HasEnded worker.old worker.new) }
 {
     let candidates = others(alloc, here)?;
     let items = gather(worker, alloc, here, Side::Local, &candidates)?;
@@ -279,8 +292,9 @@ fn end_so<H: Here>(
     requires at { worker.old.phase ≡ Phase.Ends why }
     requires fits { FitsLocal worker.old.phase worker.old.token }
     requires owns { HasToken worker.old.number worker.old.job.key worker.old.token table.old }
-    ensures { (time : ℕ) (number : ℕ) (k : Store) → Did table.old table.new k k worker.old worker.new
+    ensures does { (time : ℕ) (number : ℕ) (k : Store) → Did table.old table.new k k worker.old worker.new
         (GoesSo (sight (H.reading here.now) (H.ends here.now) time number) k.contents table.old table.new worker.old worker.new) result }
+    ensures ended { IfOk result (HasEnded worker.old worker.new) }
 {
     match why {
         Ending::StoreFault => {
@@ -303,8 +317,9 @@ fn finish<H: Here>(
     requires plain { is_lost_ordered outcome ≡ false }
     requires local { IsOfLocal worker.old.token }
     requires owns { HasToken worker.old.number worker.old.job.key worker.old.token table.old }
-    ensures { (time : ℕ) (number : ℕ) (k : Store) → Did table.old table.new k k worker.old worker.new
+    ensures does { (time : ℕ) (number : ℕ) (k : Store) → Did table.old table.new k k worker.old worker.new
         (ActsOver (sight (H.reading here.now) (H.ends here.now) time number) k.contents table.old table.new worker.old worker.new (λ t. ends t None outcome)) result }
+    ensures ended { IfOk result (HasEnded worker.old worker.new) }
 {
     let sends = worker.partings(alloc, here, false)?;
     give_up(worker, table);

@@ -4,9 +4,11 @@ ghost use Rattle.drop_proof.specs.declared.rule.Side.TheVariants as sides;
 ghost use Rattle.node_model.specs.Jobs.{drop_side, partner};
 ghost use Rattle.drop_worker.specs.Working.{phase_as};
 ghost use Rattle.drop_worker.specs.Doing.{Shuts, Takes, Talks};
+ghost use Rattle.drop_worker.specs.Begun.{StaysWith};
 ghost use Rattle.drop_worker.specs.Feeding.{FindsClosed, FitsLocal, KeepsWord, TakesClose, TakesFed, TakesOther};
 
 use crate::phase::{Heard, Phase};
+use crate::said::Said;
 use crate::time::Time;
 use crate::turn::{Input, Output, ParcelBody, Taken};
 use crate::worker::{Worker, quietly, reads, telling};
@@ -30,6 +32,7 @@ pub(crate) fn hear(
     ensures word { IfOk result (λ out. KeepsWord input.now.taken input.now.word worker.old worker.new) }
     ensures talks { IfOk result (Talks worker.old worker.new) }
     ensures err { OnErr result (worker.new ≡ worker.old) }
+    ensures stays { IfOk result (StaysWith peer worker.old worker.new) }
 {
     match &input.taken {
         Taken::Message(message) => {
@@ -57,6 +60,7 @@ fn take_message(
     ensures word { IfOk result (λ out. KeepsWord (Taken.Message message.now) word worker.old worker.new) }
     ensures talks { IfOk result (Talks worker.old worker.new) }
     ensures err { OnErr result (worker.new ≡ worker.old) }
+    ensures stays { IfOk result (StaysWith peer worker.old worker.new) }
 {
     match worker.phase() {
         Phase::Opens { peer: _ } => take_opened(worker, alloc, time, message, peer),
@@ -83,6 +87,7 @@ fn take_lock(
     ensures does { IfOk result (Takes time peer message.now worker.old worker.new) }
     ensures talks { IfOk result (Talks worker.old worker.new) }
     ensures err { OnErr result (worker.new ≡ worker.old) }
+    ensures stays { IfOk result (StaysWith peer worker.old worker.new) }
 {
     match message {
         Message::Success => {
@@ -92,7 +97,7 @@ fn take_lock(
         Message::Failure => {
             reads(worker.key());
             let key = worker.key().copy()?;
-            let said = ParcelBody::Message(Message::CheckPresent(key));
+            let said = ParcelBody::Message(Said::new(alloc, Message::CheckPresent(key))?);
             let out = telling(alloc, worker.number(), peer, said)?;
             worker.go_to(Phase::AsksLook { peer });
             Ok(out)
@@ -116,6 +121,7 @@ fn take_look(
     ensures word { IfOk result (λ out. KeepsWord (Taken.Message message.now) word worker.old worker.new) }
     ensures talks { IfOk result (Talks worker.old worker.new) }
     ensures err { OnErr result (worker.new ≡ worker.old) }
+    ensures stays { IfOk result (StaysWith peer worker.old worker.new) }
 {
     match message {
         Message::Success => {
@@ -143,11 +149,12 @@ fn take_opened(
     ensures does { IfOk result (Takes time peer message.now worker.old worker.new) }
     ensures talks { IfOk result (Talks worker.old worker.new) }
     ensures err { OnErr result (worker.new ≡ worker.old) }
+    ensures stays { IfOk result (StaysWith peer worker.old worker.new) }
 {
     match message {
         Message::AuthSuccess(_) => {
             reads(worker.key());
-            let said = ParcelBody::Message(Message::Version(3));
+            let said = ParcelBody::Message(Said::new(alloc, Message::Version(3))?);
             let out = telling(alloc, worker.number(), peer, said)?;
             worker.go_to(Phase::Greets { peer });
             Ok(out)
@@ -169,6 +176,7 @@ fn take_version(
     ensures does { IfOk result (Takes time peer message.now worker.old worker.new) }
     ensures talks { IfOk result (Talks worker.old worker.new) }
     ensures err { OnErr result (worker.new ≡ worker.old) }
+    ensures stays { IfOk result (StaysWith peer worker.old worker.new) }
 {
     match message {
         Message::Version(version) => greet(worker, alloc, time, *version, peer),
@@ -189,6 +197,7 @@ fn greet(
     ensures does { IfOk result (Takes time peer (Message.Version version) worker.old worker.new) }
     ensures talks { IfOk result (Talks worker.old worker.new) }
     ensures err { OnErr result (worker.new ≡ worker.old) }
+    ensures stays { IfOk result (StaysWith peer worker.old worker.new) }
 {
     if version > 3 {
         let out = shut(worker, alloc, peer)?;
@@ -196,7 +205,8 @@ fn greet(
         return Ok(out);
     }
     reads(worker.key());
-    let said = ParcelBody::Message(Message::LockContent(worker.key().copy()?));
+    let said = Said::new(alloc, Message::LockContent(worker.key().copy()?))?;
+    let said = ParcelBody::Message(said);
     let out = telling(alloc, worker.number(), peer, said)?;
     worker.learn(peer, version);
     worker.go_to(Phase::AsksLock { peer, since: time });
@@ -210,6 +220,7 @@ fn take_other(worker: &mut Worker, alloc: Global, peer: u32) -> Result<Output, N
     ensures does { IfOk result (TakesOther peer worker.old worker.new) }
     ensures talks { IfOk result (Talks worker.old worker.new) }
     ensures err { OnErr result (worker.new ≡ worker.old) }
+    ensures stays { IfOk result (StaysWith peer worker.old worker.new) }
 {
     shut(worker, alloc, peer)
 }
@@ -222,6 +233,7 @@ fn close(worker: &mut Worker, alloc: Global, peer: u32) -> Result<Output, NoMemo
     ensures here { IfOk result (FindsClosed peer worker.old worker.new) }
     ensures talks { IfOk result (Talks worker.old worker.new) }
     ensures err { OnErr result (worker.new ≡ worker.old) }
+    ensures stays { IfOk result (StaysWith peer worker.old worker.new) }
 {
     worker.hear(peer, Heard::Lacks(Cause::Closed))?;
     Ok(quietly(alloc, talk(worker.number())))
@@ -232,6 +244,7 @@ fn shut(worker: &mut Worker, alloc: Global, peer: u32) -> Result<Output, NoMemor
     ensures shuts { IfOk result (Shuts peer worker.old worker.new) }
     ensures talks { IfOk result (Talks worker.old worker.new) }
     ensures err { OnErr result (worker.new ≡ worker.old) }
+    ensures stays { IfOk result (StaysWith peer worker.old worker.new) }
 {
     let out = telling(alloc, worker.number(), peer, ParcelBody::Close)?;
     worker.hear(peer, Heard::Lacks(Cause::Closed))?;

@@ -1,4 +1,5 @@
 //! What a step takes and gives.
+use crate::said::Said;
 use crate::time::Time;
 use annex_base::Word;
 use p2p_wire::Message;
@@ -36,9 +37,9 @@ pub struct Parcel {
 pub enum ParcelBody {
     Open,
     Close,
-    Message(Message),
+    Message(Said),
     /// A message, and then Close.
-    Last(Message),
+    Last(Said),
 }
 
 /// What a step does: an entry, and what is sent with it. The last step ends the job.

@@ -6,16 +6,18 @@ ghost use Rattle.node_model.specs.Jobs.{drop_side, partner};
 ghost use Rattle.node_model.specs.Rows.{option_is};
 ghost use Rattle.node_model.specs.JobStep.{is_held};
 ghost use Rattle.drop_worker.specs.Doing.{Reads};
+ghost use Rattle.drop_worker.specs.Sides.{side_in, target_on};
 ghost use Rattle.drop_worker.specs.Working.{frames_of, heard_in, is_lock, learnt, newest_of, parting, partings, phase_as, texts_of};
 
 use crate::here::Here;
 use crate::phase::{Ending, Heard, Phase, Token};
+use crate::said::Said;
 use crate::turn::{Output, Parcel, ParcelBody};
-use annex_base::{Call, NoMemory};
+use annex_base::{Call, NoMemory, Word};
 use annex_key::{Key, key_texts_have_no_fault};
-use content_lock::{Bar, LockTable};
+use content_lock::{Bar, LockTable, Share};
 use drop_proof::Side;
-use p2p_wire::{Message, sent_messages_are_read};
+use p2p_wire::{Message, sent_messages_have_lines};
 use run_data::{By, DropRefusal, EntryKind, Job, JobKind, Outcome};
 use std::alloc::Global;
 use std::marker::Model;
@@ -31,6 +33,8 @@ pub struct Worker {
     pub(crate) version: u64,
     /// What it heard of each candidate's copy, the newest first.
     pub(crate) heard: Vec<(u32, Heard)>,
+    /// The word beside the target's answer to an order.
+    pub(crate) word: Option<Word>,
     pub(crate) phase: Phase,
     pub(crate) token: Token,
 }
@@ -40,14 +44,14 @@ impl Model for Worker {
 
     ghost Value = { Worker };
 
-    ghost view = { λ w. record { number = w.number; slot = w.slot; job = w.job; version = w.version; heard = w.heard.items; phase = w.phase; token = w.token } };
+    ghost view = { λ w. record { number = w.number; slot = w.slot; job = w.job; version = w.version; heard = w.heard.items; word = w.word; phase = w.phase; token = w.token } };
 }
 
 impl Worker {
     /// The drop of a job that begins it: of a begun job, or of a move that is done with its transfer. The version is what the job's
     /// peer answered, or 3 where it wasn't asked.
     pub fn start(alloc: Global, number: u32, slot: u32, job: Job, version: u64) -> Worker
-        ensures { result ≡ record { number = number; slot = slot; job = job; version = version; heard = []; phase = Phase.Fresh; token = Token.Nothing } }
+        ensures { result ≡ record { number = number; slot = slot; job = job; version = version; heard = []; word = None; phase = Phase.Fresh; token = Token.Nothing } }
     {
         Worker {
             number,
@@ -55,6 +59,7 @@ impl Worker {
             job,
             version,
             heard: Vec::new(alloc),
+            word: None,
             phase: Phase::Fresh,
             token: Token::Nothing,
         }
@@ -90,6 +95,18 @@ impl Worker {
         self.phase
     }
 
+    pub(crate) fn version(&self) -> u64
+        ensures { result ≡ self.now.version }
+    {
+        self.version
+    }
+
+    pub(crate) fn word(&self) -> Option<Word>
+        ensures { result ≡ self.now.word }
+    {
+        self.word
+    }
+
     /// Goes on so.
     pub(crate) fn go_to(&mut self, phase: Phase)
         ensures { self.new ≡ record self.old { phase = phase } }
@@ -107,6 +124,7 @@ impl Worker {
             job: _,
             version: _,
             heard: _,
+            word: _,
             phase: _,
             token,
         } = self;
@@ -163,6 +181,16 @@ impl Worker {
         }
     }
 
+    /// The repository from which a remote drop removes.
+    pub fn target(&self) -> Option<u32>
+        ensures { result ≡ target_on (side_in self.now) self.now.job.peer }
+    {
+        match self.side() {
+            Side::Local => None,
+            Side::Remote => self.job.peer,
+        }
+    }
+
     /// Whether a peer gave it a lock.
     pub(crate) fn has_lock(&self, peer: u32) -> bool
         ensures { result ≡ is_held (heard_in self.now.heard peer) }
@@ -171,14 +199,16 @@ impl Worker {
     }
 
     /// What is sent to a peer at the end, on an open connection.
-    fn parting(&self, peer: u32, lost: bool) -> Result<Parcel, NoMemory>
+    fn parting(&self, alloc: Global, peer: u32, lost: bool) -> Result<Parcel, NoMemory>
         ensures { IfOk result (λ p. (p.peer ≡ peer) × (texts_of p.body ≡ parting self.now lost peer true)) }
     {
         if self.has_lock(peer) && !lost {
+            reads(self.key());
             let key = self.key().copy()?;
+            let said = Said::new(alloc, Message::UnlockContent(key))?;
             return Ok(Parcel {
                 peer,
-                body: ParcelBody::Last(Message::UnlockContent(key)),
+                body: ParcelBody::Last(said),
             });
         }
         Ok(Parcel {
@@ -201,7 +231,7 @@ impl Worker {
         let repo = here.repo();
         for peer in 0..count {
             if peer != repo && here.is_open(peer, self.slot()) {
-                parcels.push(self.parting(peer, lost)?)?;
+                parcels.push(self.parting(alloc, peer, lost)?)?;
             }
         }
         Ok(parcels)
@@ -233,6 +263,40 @@ impl Worker {
         Ok(())
     }
 
+    /// Hears another thing in place of what it heard last.
+    pub(crate) fn rehear(&mut self, heard: Heard)
+        ensures { (peer : ℕ) (before : Heard) (rest : List (ℕ × Heard)) → self.old.heard ≡ (peer, before) ∷ rest → self.new ≡ record self.old { heard = (peer, heard) ∷ rest } }
+    {
+        rehear(&mut self.heard, heard);
+    }
+
+    /// Takes back what it heard last, and stands as before.
+    pub(crate) fn unhear(&mut self, phase: Phase)
+        ensures { (x : ℕ × Heard) (rest : List (ℕ × Heard)) → self.old.heard ≡ x ∷ rest → self.new ≡ record self.old { heard = rest; phase = phase } }
+    {
+        unhear(&mut self.heard);
+        self.phase = phase;
+    }
+
+    /// Keeps the word beside the target's answer to an order.
+    pub(crate) fn keep_word(&mut self, word: Option<Word>)
+        ensures { self.new ≡ record self.old { word = word } }
+    {
+        self.word = word;
+    }
+
+    /// Has a share.
+    pub(crate) fn take_share(&mut self, share: Share)
+        requires bare { self.old.token ≡ Token.Nothing }
+        ensures { self.new ≡ record self.old { token = Token.Share share } }
+    {
+        match mem::replace(&mut self.token, Token::Share(share)) {
+            Token::Nothing => {}
+            Token::Bar(_before) => unreachable!(),
+            Token::Share(_before) => unreachable!(),
+        }
+    }
+
     /// Has a bar.
     pub(crate) fn take_bar(&mut self, bar: Bar)
         requires bare { self.old.token ≡ Token.Nothing }
@@ -243,6 +307,23 @@ impl Worker {
             Token::Bar(_before) => unreachable!(),
             Token::Share(_before) => unreachable!(),
         }
+    }
+}
+
+fn rehear(all: &mut Vec<(u32, Heard)>, heard: Heard)
+    ensures { (peer : ℕ) (before : Heard) (rest : List (ℕ × Heard)) → all.old.items ≡ (peer, before) ∷ rest → all.new.items ≡ (peer, heard) ∷ rest }
+{
+    if !all.is_empty() {
+        let peer = all[0].0;
+        all[0] = (peer, heard);
+    }
+}
+
+fn unhear(all: &mut Vec<(u32, Heard)>)
+    ensures { (x : ℕ × Heard) (rest : List (ℕ × Heard)) → all.old.items ≡ x ∷ rest → all.new.items ≡ rest }
+{
+    if !all.is_empty() {
+        all.remove(0);
     }
 }
 
@@ -308,11 +389,11 @@ pub(crate) fn quietly(alloc: Global, kind: EntryKind) -> Output
     }
 }
 
-// For the proof: that the lines of a drop are read as they were said.
+// For the proof: that what a drop says are lines of the protocol.
 pub(crate) fn reads(key: &Key)
     ensures { Reads key.now }
 {
     key_texts_have_no_fault();
-    sent_messages_are_read();
+    sent_messages_have_lines();
     let _text = key.text();
 }

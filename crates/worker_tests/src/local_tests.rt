@@ -1,10 +1,11 @@
 //! Local drops by hand, against peers that answer by a script: how each ends.
 ghost use Rattle.std.specs.Prelude.{◌≡◌, ◌≤◌, ◌<◌, ◌+◌, ◌*◌, ◌^◌, ℕ, List};
 ghost use Rattle.drop_proof.specs.declared.rule.Side.TheVariants as sides;
-ghost use Rattle.node_model.specs.Jobs.{drop_side, partner};
+ghost use Rattle.node_model.specs.Jobs.{partner};
 ghost use Rattle.drop_worker.specs.Working.{phase_as};
 ghost use Rattle.drop_worker.specs.Doing.{HasToken};
-ghost use Rattle.drop_worker.specs.Feeding.{FitsLocal, ToldAt};
+ghost use Rattle.drop_worker.specs.Feeding.{ToldAt};
+ghost use Rattle.drop_worker.specs.Sides.{Fits, side_in};
 
 use crate::desk::Desk;
 use crate::ended::{Ended, ended_so};
@@ -48,8 +49,8 @@ fn run<K: Keeper>(
     pace: u64,
 ) -> Result<Option<EntryKind>, NoMemory>
     requires slow { pace ≤ 1000000 }
-    requires local { drop_side worker.old.job.kind worker.old.job.peer ≡ sides.Local }
-    requires fits { FitsLocal worker.old.phase worker.old.token }
+    requires local { side_in worker.old ≡ sides.Local }
+    requires fits { Fits (side_in worker.old) worker.old.phase worker.old.token }
     requires owns { HasToken worker.old.number worker.old.job.key worker.old.token table.old }
     ensures owns { HasToken worker.new.number worker.new.job.key worker.new.token table.new }
 {

@@ -24,7 +24,7 @@ pub enum Peer {
 pub fn reply(peer: Peer, said: &ParcelBody, me: RepoId) -> Answer {
     match said {
         ParcelBody::Open => Answer::Plain(Message::AuthSuccess(me)),
-        ParcelBody::Message(message) => answer_to(peer, message),
+        ParcelBody::Message(said) => answer_to(peer, said.message()),
         ParcelBody::Close | ParcelBody::Last(_) => Answer::Closed,
     }
 }

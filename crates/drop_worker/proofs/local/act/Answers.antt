@@ -1,14 +1,21 @@
 -- Where it goes on from.
 use Rattle.drop_worker.specs.Leaving.{store}
+use Rattle.drop_worker.proofs.Goings.{ended_gone}
 use Rattle.drop_worker.proofs.local.act.Goals as goal
 
-pub returns-in-Next : goal.returns-in-Next
-returns-in-Next g c = c.go_on.ensures c.args.input.now.number
+pub returns-in-Next-clause-does : goal.returns-in-Next-clause-does
+returns-in-Next-clause-does g c = c.go_on.ensures.does c.args.input.now.number
 
-pub returns-in-Removed : goal.returns-in-Removed
-returns-in-Removed g c =
-    c.drop_done.ensures c.args.input.now.time c.args.input.now.number (store (g.K.Keeper.contents c.args.keeper.now) (g.K.Keeper.records c.args.keeper.now) (g.K.Keeper.faults c.args.keeper.now))
+pub returns-in-Removed-clause-does : goal.returns-in-Removed-clause-does
+returns-in-Removed-clause-does g c =
+    c.drop_done.ensures.does c.args.input.now.time c.args.input.now.number (store (g.K.Keeper.contents c.args.keeper.now) (g.K.Keeper.records c.args.keeper.now) (g.K.Keeper.faults c.args.keeper.now))
 
-pub returns-in-Ends : goal.returns-in-Ends
-returns-in-Ends g c =
-    c.end_so.ensures c.args.input.now.time c.args.input.now.number (store (g.K.Keeper.contents c.args.keeper.now) (g.K.Keeper.records c.args.keeper.now) (g.K.Keeper.faults c.args.keeper.now))
+pub returns-in-Ends-clause-does : goal.returns-in-Ends-clause-does
+returns-in-Ends-clause-does g c =
+    c.end_so.ensures.does c.args.input.now.time c.args.input.now.number (store (g.K.Keeper.contents c.args.keeper.now) (g.K.Keeper.records c.args.keeper.now) (g.K.Keeper.faults c.args.keeper.now))
+
+pub returns-in-Removed-clause-begun : goal.returns-in-Removed-clause-begun
+returns-in-Removed-clause-begun g c = ended_gone (g.H.Here.reading c.args.here.now) c.args.worker.now c.drop_done.new.worker c.drop_done.result c.drop_done.ensures.ended
+
+pub returns-in-Ends-clause-begun : goal.returns-in-Ends-clause-begun
+returns-in-Ends-clause-begun g c = ended_gone (g.H.Here.reading c.args.here.now) c.args.worker.now c.end_so.new.worker c.end_so.result c.end_so.ensures.ended

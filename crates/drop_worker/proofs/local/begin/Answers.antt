@@ -6,10 +6,11 @@ use Rattle.drop_worker.specs.Worker.{Worker}
 use Rattle.drop_worker.specs.Working.{sight}
 use Rattle.drop_worker.specs.Leaving.{store}
 use Rattle.drop_worker.proofs.Firsts.{barred_did, unbarred_did}
+use Rattle.drop_worker.proofs.Goings.{unbarred_gone}
 use Rattle.drop_worker.proofs.local.begin.Goals as goal
 
-pub returns-in-Ok : goal.returns-in-Ok
-returns-in-Ok g c =
+pub returns-in-Ok-clause-does : goal.returns-in-Ok-clause-does
+returns-in-Ok-clause-does g c =
     let next = c.go_to.ensures ∙ ap (λ (u : Worker). record u { phase = phases.Next }) c.take_bar.ensures in
     barred_did (sight (g.H.Here.reading c.args.here.now) (g.H.Here.ends c.args.here.now) c.args.input.now.time c.args.input.now.number) c.args.table.now c.bar.new.self
     (store (g.K.Keeper.contents c.args.keeper.now) (g.K.Keeper.records c.args.keeper.now) (g.K.Keeper.faults c.args.keeper.now)) (store (g.K.Keeper.contents c.bar.new.keeper) (g.K.Keeper.records c.bar.new.keeper) (g.K.Keeper.faults c.bar.new.keeper))
@@ -19,9 +20,13 @@ returns-in-Ok g c =
     c.quietly.ensures.1 next (rw (c.key-2.ensures, c.number.ensures) at c.in-Ok.ensures.after) (rw (c.key-2.ensures, c.clock-clock.ensures.same) at c.in-Ok.ensures.free)
     c.in-Ok.ensures.holds c.in-Ok.ensures.contents c.in-Ok.ensures.records c.in-Ok.ensures.later
 
-pub returns-in-Err : goal.returns-in-Err
-returns-in-Err g c =
+pub returns-in-Err-clause-does : goal.returns-in-Err-clause-does
+returns-in-Err-clause-does g c =
     unbarred_did (sight (g.H.Here.reading c.args.here.now) (g.H.Here.ends c.args.here.now) c.args.input.now.time c.args.input.now.number) c.args.table.now c.bar.new.self
     (store (g.K.Keeper.contents c.args.keeper.now) (g.K.Keeper.records c.args.keeper.now) (g.K.Keeper.faults c.args.keeper.now)) (store (g.K.Keeper.contents c.bar.new.keeper) (g.K.Keeper.records c.bar.new.keeper) (g.K.Keeper.faults c.bar.new.keeper))
     c.args.worker.now c.unbarred.new.worker c.requires.local c.requires.fresh c.requires.bare c.requires.owns c.in_ok-sends.sends c.in_ok-sends.ensures c.in-Err.ensures.err c.in-Err.ensures.contents c.in-Err.ensures.records
     c.in-Err.ensures.later c.in-Err.why c.unbarred.result (rw (c.key-2.ensures, c.clock-clock.ensures.same) at c.in-Err.ensures.why) (λ e. c.in-Err.ensures.cause (ap Err e)) c.unbarred.ensures
+
+pub returns-in-Err-clause-begun : goal.returns-in-Err-clause-begun
+returns-in-Err-clause-begun g c =
+    unbarred_gone (g.H.Here.reading c.args.here.now) c.args.worker.now c.unbarred.new.worker c.in_ok-sends.sends c.in-Err.why c.unbarred.result c.requires.bare c.unbarred.ensures

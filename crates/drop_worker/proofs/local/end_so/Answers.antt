@@ -6,7 +6,7 @@ use Rattle.drop_worker.specs.Working.{sight}
 use Rattle.drop_worker.proofs.Finishings.{so_did}
 use Rattle.drop_worker.proofs.local.end_so.Goals as goal
 
-pub returns : goal.returns
-returns g c = λ time number k.
+pub returns-clause-does : goal.returns-clause-does
+returns-clause-does g c = λ time number k.
     so_did (sight (g.H.Here.reading c.args.here.now) (g.H.Here.ends c.args.here.now) time number) c.args.table.now c.finish.new.table k c.args.worker.now c.finish.new.worker endings.StoreFault c.finish.result
-    (c.requires.at ∙ ap phases.Ends c.in-StoreFault.is) (c.finish.ensures time number k)
+    (c.requires.at ∙ ap phases.Ends c.in-StoreFault.is) (c.finish.ensures.does time number k)

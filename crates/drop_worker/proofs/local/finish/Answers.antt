@@ -6,8 +6,8 @@ use Rattle.drop_worker.specs.Working.{sight}
 use Rattle.drop_worker.proofs.Finishings.{finish_did}
 use Rattle.drop_worker.proofs.local.finish.Goals as goal
 
-pub returns : goal.returns
-returns g c = λ time number k.
+pub returns-clause-does : goal.returns-clause-does
+returns-clause-does g c = λ time number k.
     finish_did (sight (g.H.Here.reading c.args.here.now) (g.H.Here.ends c.args.here.now) time number) c.args.table.now c.give_up.new.table k c.args.worker.now c.give_up.new.worker c.args.outcome c.in_ok-sends.sends c.ending.result
     c.requires.plain c.requires.local c.requires.owns c.give_up.ensures.bare c.give_up.ensures.off c.give_up.ensures.holds c.give_up.ensures.fills c.give_up.ensures.owns c.give_up.ensures.others
     (c.ending.ensures ∙ (λ i. record { kind = End ((c.number.ensures ∙ ap (λ (w : Worker). w.number) c.give_up.ensures.bare) i) c.args.outcome; sends = c.in_ok-sends.sends; ended = true })) c.in_ok-sends.ensures

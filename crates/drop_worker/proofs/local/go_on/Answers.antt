@@ -3,28 +3,41 @@ use Rattle.drop_worker.specs.declared.judging.Verdict.TheVariants as verdicts
 use Rattle.drop_worker.specs.Leaving.{store}
 use Rattle.drop_worker.specs.Working.{sight}
 use Rattle.drop_worker.proofs.Leavings.{judged_did}
+use Rattle.drop_worker.proofs.Goings.{ended_gone, removed_gone}
 use Rattle.drop_worker.proofs.local.go_on.Goals as goal
 
-pub returns-in-Asks : goal.returns-in-Asks
-returns-in-Asks g c = λ number.
+pub returns-in-Asks-clause-does : goal.returns-in-Asks-clause-does
+returns-in-Asks-clause-does g c = λ number.
     judged_did (g.H.Here.reading c.args.here.now) (g.H.Here.ends c.args.here.now) c.args.time number c.args.table.now c.args.table.now
     (store (g.K.Keeper.contents c.args.keeper.now) (g.K.Keeper.records c.args.keeper.now) (g.K.Keeper.faults c.args.keeper.now)) (store (g.K.Keeper.contents c.args.keeper.now) (g.K.Keeper.records c.args.keeper.now) (g.K.Keeper.faults c.args.keeper.now))
-    c.args.worker.now c.ask.new.worker c.judge.result (verdicts.Asks c.in-Asks.peer) c.ask.result c.requires.next c.in-Asks.is c.judge.ensures.step (c.ask.ensures number c.args.table.now (store (g.K.Keeper.contents c.args.keeper.now) (g.K.Keeper.records c.args.keeper.now) (g.K.Keeper.faults c.args.keeper.now)) c.requires.owns)
+    c.args.worker.now c.ask.new.worker c.judge.result (verdicts.Asks c.in-Asks.peer) c.ask.result c.requires.next c.in-Asks.is c.judge.ensures.step (c.ask.ensures.does number c.args.table.now (store (g.K.Keeper.contents c.args.keeper.now) (g.K.Keeper.records c.args.keeper.now) (g.K.Keeper.faults c.args.keeper.now)) c.requires.owns)
 
-pub returns-in-Removes : goal.returns-in-Removes
-returns-in-Removes g c = λ number.
+pub returns-in-Removes-clause-does : goal.returns-in-Removes-clause-does
+returns-in-Removes-clause-does g c = λ number.
     judged_did (g.H.Here.reading c.args.here.now) (g.H.Here.ends c.args.here.now) c.args.time number c.args.table.now c.remove.new.table
     (store (g.K.Keeper.contents c.args.keeper.now) (g.K.Keeper.records c.args.keeper.now) (g.K.Keeper.faults c.args.keeper.now)) (store (g.K.Keeper.contents c.remove.new.keeper) (g.K.Keeper.records c.remove.new.keeper) (g.K.Keeper.faults c.remove.new.keeper))
-    c.args.worker.now c.remove.new.worker c.judge.result verdicts.Removes c.remove.result c.requires.next c.in-Removes.is c.judge.ensures.step (c.remove.ensures (sight (g.H.Here.reading c.args.here.now) (g.H.Here.ends c.args.here.now) c.args.time number))
+    c.args.worker.now c.remove.new.worker c.judge.result verdicts.Removes c.remove.result c.requires.next c.in-Removes.is c.judge.ensures.step (c.remove.ensures.does (sight (g.H.Here.reading c.args.here.now) (g.H.Here.ends c.args.here.now) c.args.time number))
 
-pub returns-in-Late : goal.returns-in-Late
-returns-in-Late g c = λ number.
+pub returns-in-Late-clause-does : goal.returns-in-Late-clause-does
+returns-in-Late-clause-does g c = λ number.
     judged_did (g.H.Here.reading c.args.here.now) (g.H.Here.ends c.args.here.now) c.args.time number c.args.table.now c.expire.new.table
     (store (g.K.Keeper.contents c.args.keeper.now) (g.K.Keeper.records c.args.keeper.now) (g.K.Keeper.faults c.args.keeper.now)) (store (g.K.Keeper.contents c.args.keeper.now) (g.K.Keeper.records c.args.keeper.now) (g.K.Keeper.faults c.args.keeper.now))
-    c.args.worker.now c.expire.new.worker c.judge.result (verdicts.Late c.in-Late.end c.in-Late.clock) c.expire.result c.requires.next c.in-Late.is c.judge.ensures.step (c.expire.ensures c.args.time number (store (g.K.Keeper.contents c.args.keeper.now) (g.K.Keeper.records c.args.keeper.now) (g.K.Keeper.faults c.args.keeper.now)))
+    c.args.worker.now c.expire.new.worker c.judge.result (verdicts.Late c.in-Late.end c.in-Late.clock) c.expire.result c.requires.next c.in-Late.is c.judge.ensures.step (c.expire.ensures.does c.args.time number (store (g.K.Keeper.contents c.args.keeper.now) (g.K.Keeper.records c.args.keeper.now) (g.K.Keeper.faults c.args.keeper.now)))
 
-pub returns : goal.returns
-returns g c = λ number.
+pub returns-clause-does : goal.returns-clause-does
+returns-clause-does g c = λ number.
     judged_did (g.H.Here.reading c.args.here.now) (g.H.Here.ends c.args.here.now) c.args.time number c.args.table.now c.lack.new.table
     (store (g.K.Keeper.contents c.args.keeper.now) (g.K.Keeper.records c.args.keeper.now) (g.K.Keeper.faults c.args.keeper.now)) (store (g.K.Keeper.contents c.args.keeper.now) (g.K.Keeper.records c.args.keeper.now) (g.K.Keeper.faults c.args.keeper.now))
-    c.args.worker.now c.lack.new.worker c.judge.result verdicts.Lacks c.lack.result c.requires.next c.in-Lacks.is c.judge.ensures.step (c.lack.ensures c.args.time number (store (g.K.Keeper.contents c.args.keeper.now) (g.K.Keeper.records c.args.keeper.now) (g.K.Keeper.faults c.args.keeper.now)))
+    c.args.worker.now c.lack.new.worker c.judge.result verdicts.Lacks c.lack.result c.requires.next c.in-Lacks.is c.judge.ensures.step (c.lack.ensures.does c.args.time number (store (g.K.Keeper.contents c.args.keeper.now) (g.K.Keeper.records c.args.keeper.now) (g.K.Keeper.faults c.args.keeper.now)))
+
+pub ask-requires-clause-other : goal.ask-requires-clause-other
+ask-requires-clause-other g c = c.judge.ensures.other c.in-Asks.peer c.in-Asks.is
+
+pub returns-in-Removes-clause-begun : goal.returns-in-Removes-clause-begun
+returns-in-Removes-clause-begun g c = removed_gone (g.H.Here.reading c.args.here.now) c.args.worker.now c.remove.new.worker c.remove.result c.remove.ensures.begun
+
+pub returns-in-Late-clause-begun : goal.returns-in-Late-clause-begun
+returns-in-Late-clause-begun g c = ended_gone (g.H.Here.reading c.args.here.now) c.args.worker.now c.expire.new.worker c.expire.result c.expire.ensures.ended
+
+pub returns-clause-begun : goal.returns-clause-begun
+returns-clause-begun g c = ended_gone (g.H.Here.reading c.args.here.now) c.args.worker.now c.lack.new.worker c.lack.result c.lack.ensures.ended

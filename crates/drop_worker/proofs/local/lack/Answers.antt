@@ -7,10 +7,10 @@ use Rattle.drop_worker.specs.Working.{sight}
 use Rattle.drop_worker.proofs.Stated.{lacks_did}
 use Rattle.drop_worker.proofs.local.lack.Goals as goal
 
-pub returns : goal.returns
-returns g c = λ time number k.
+pub returns-clause-does : goal.returns-clause-does
+returns-clause-does g c = λ time number k.
     let r = g.H.Here.reading c.args.here.now in
     let w = c.args.worker.now in
     lacks_did (sight r (g.H.Here.ends c.args.here.now) time number) c.args.table.now c.finish.new.table k w c.finish.new.worker c.finish.result c.args.items.now c.in_ok-proof.proof c.requires.side
     (c.requires.known ∙ ap (λ l. gathered Local r w l []) c.requires.all) c.in_ok-proof.ensures c.from_vec.result
-    (c.from_vec.ensures ∙ (c.in_ok-causes.ensures ∙ ap (λ l. failures (offer_of r w) (cause_at r w) l) c.requires.all)) (c.finish.ensures time number k)
+    (c.from_vec.ensures ∙ (c.in_ok-causes.ensures ∙ ap (λ l. failures (offer_of r w) (cause_at r w) l) c.requires.all)) (c.finish.ensures.does time number k)

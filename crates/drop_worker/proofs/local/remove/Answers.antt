@@ -8,8 +8,8 @@ use Rattle.drop_worker.specs.Leaving.{store}
 use Rattle.drop_worker.proofs.Removals.{removed_did}
 use Rattle.drop_worker.proofs.local.remove.Goals as goal
 
-pub returns-in-Ok : goal.returns-in-Ok
-returns-in-Ok g c = λ x.
+pub returns-in-Ok-clause-does : goal.returns-in-Ok-clause-does
+returns-in-Ok-clause-does g c = λ x.
     let next = c.go_to.ensures ∙ ap (λ (u : Worker). record u { phase = phases.Removed }) c.take_token.ensures.bare in
     removed_did x c.args.table.now c.remove.new.self
     (store (g.K.Keeper.contents c.args.keeper.now) (g.K.Keeper.records c.args.keeper.now) (g.K.Keeper.faults c.args.keeper.now)) (store (g.K.Keeper.contents c.remove.new.keeper) (g.K.Keeper.records c.remove.new.keeper) (g.K.Keeper.faults c.remove.new.keeper))

@@ -1,19 +1,49 @@
--- Told of a frame, or of none.
-use Rattle.std.proofs.Common.{sym, ◌∙◌}
+-- Of a local drop, or of a remote one.
+use Rattle.std.proofs.Common.{sym, ◌∙◌, subst}
+use Rattle.drop_proof.specs.declared.rule.Side.{Side}
 use Rattle.drop_worker.specs.Leaving.{store}
+use Rattle.drop_worker.specs.Sides.{CanShare, Fits, side_in}
 use Rattle.drop_worker.specs.Working.{sight}
-use Rattle.drop_worker.proofs.Doings.{talks_barred}
-use Rattle.drop_worker.proofs.Machines.{acts_did, hears_did}
+use Rattle.drop_worker.proofs.Machines.{local_did, no_target, remote_did, target_apart, target_peer, target_remote}
 use Rattle.drop_worker.proofs.machine.advance.Goals as goal
 
-pub returns-in-Some : goal.returns-in-Some
-returns-in-Some g c =
-    let w = c.args.worker.now in
-    let at = sym c.awaits.ensures ∙ c.in-Some.is in
-    hears_did (sight (g.H.Here.reading c.args.here.now) (g.H.Here.ends c.args.here.now) c.args.input.now.time c.args.input.now.number) c.args.table.now (store (g.K.Keeper.contents c.args.keeper.now) (g.K.Keeper.records c.args.keeper.now) (g.K.Keeper.faults c.args.keeper.now)) w c.hear.new.worker
-    c.in-Some.peer c.args.input.now.taken c.args.input.now.word c.hear.result at (talks_barred w.job.peer c.in-Some.peer w.phase w.token at c.requires.fits) c.requires.owns c.hear.ensures.does c.hear.ensures.word c.hear.ensures.talks c.hear.ensures.err
+pub step_local-requires-clause-local : goal.step_local-requires-clause-local
+step_local-requires-clause-local g c = no_target (side_in c.args.worker.now) c.args.worker.now.job.peer (g.H.Here.reading c.args.here.now).repo c.requires.target (sym c.target.ensures ∙ c.in-None.is)
 
-pub returns-in-None : goal.returns-in-None
-returns-in-None g c =
-    acts_did (sight (g.H.Here.reading c.args.here.now) (g.H.Here.ends c.args.here.now) c.args.input.now.time c.args.input.now.number) c.args.table.now c.act.new.table (store (g.K.Keeper.contents c.args.keeper.now) (g.K.Keeper.records c.args.keeper.now) (g.K.Keeper.faults c.args.keeper.now)) (store (g.K.Keeper.contents c.act.new.keeper) (g.K.Keeper.records c.act.new.keeper) (g.K.Keeper.faults c.act.new.keeper))
-    c.args.worker.now c.act.new.worker c.args.input.now.taken c.args.input.now.word c.act.result (sym c.awaits.ensures ∙ c.in-None.is) c.act.ensures
+pub step_local-requires-clause-fits : goal.step_local-requires-clause-fits
+step_local-requires-clause-fits g c =
+    subst (λ (s : Side). Fits s c.args.worker.now.phase c.args.worker.now.token)
+    (no_target (side_in c.args.worker.now) c.args.worker.now.job.peer (g.H.Here.reading c.args.here.now).repo c.requires.target (sym c.target.ensures ∙ c.in-None.is)) c.requires.fits
+
+pub step_remote-requires-clause-stands : goal.step_remote-requires-clause-stands
+step_remote-requires-clause-stands g c =
+    let w = c.args.worker.now in
+    let is = target_remote (side_in c.args.worker.now) c.args.worker.now.job.peer c.in-Some.target (sym c.target.ensures ∙ c.in-Some.is) in
+    record {
+      remote = record { side = is; peer = target_peer (side_in w) w.job.peer c.in-Some.target (sym c.target.ensures ∙ c.in-Some.is) };
+      owns = c.requires.owns;
+      fits = subst (λ (s : Side). Fits s w.phase w.token) is c.requires.fits;
+      agrees = (subst (λ (s : Side). CanShare s (g.K.Keeper.records c.args.keeper.now) c.args.table.now.holds c.args.input.now.number) is c.requires.shares).0;
+    }
+
+pub step_remote-requires-clause-apart : goal.step_remote-requires-clause-apart
+step_remote-requires-clause-apart g c =
+    target_apart (side_in c.args.worker.now) c.args.worker.now.job.peer c.in-Some.target (g.H.Here.reading c.args.here.now).repo c.requires.target (sym c.target.ensures ∙ c.in-Some.is)
+
+pub step_remote-requires-clause-fresh : goal.step_remote-requires-clause-fresh
+step_remote-requires-clause-fresh g c =
+    (subst (λ (s : Side). CanShare s (g.K.Keeper.records c.args.keeper.now) c.args.table.now.holds c.args.input.now.number)
+    (target_remote (side_in c.args.worker.now) c.args.worker.now.job.peer c.in-Some.target (sym c.target.ensures ∙ c.in-Some.is)) c.requires.shares).1
+
+pub returns-in-None-clause-does : goal.returns-in-None-clause-does
+returns-in-None-clause-does g c =
+    let w = c.args.worker.now in
+    let local = no_target (side_in c.args.worker.now) c.args.worker.now.job.peer (g.H.Here.reading c.args.here.now).repo c.requires.target (sym c.target.ensures ∙ c.in-None.is) in
+    local_did (sight (g.H.Here.reading c.args.here.now) (g.H.Here.ends c.args.here.now) c.args.input.now.time c.args.input.now.number) c.args.table.now c.step_local.new.table (store (g.K.Keeper.contents c.args.keeper.now) (g.K.Keeper.records c.args.keeper.now) (g.K.Keeper.faults c.args.keeper.now)) (store (g.K.Keeper.contents c.step_local.new.keeper) (g.K.Keeper.records c.step_local.new.keeper) (g.K.Keeper.faults c.step_local.new.keeper))
+    w c.step_local.new.worker c.args.input.now.taken c.args.input.now.word c.step_local.result local (subst (λ (s : Side). Fits s w.phase w.token) local c.requires.fits) c.step_local.ensures.does
+
+pub returns-in-Some-clause-does : goal.returns-in-Some-clause-does
+returns-in-Some-clause-does g c =
+    let w = c.args.worker.now in
+    remote_did (sight (g.H.Here.reading c.args.here.now) (g.H.Here.ends c.args.here.now) c.args.input.now.time c.args.input.now.number) c.args.table.now c.step_remote.new.table (store (g.K.Keeper.contents c.args.keeper.now) (g.K.Keeper.records c.args.keeper.now) (g.K.Keeper.faults c.args.keeper.now)) (store (g.K.Keeper.contents c.step_remote.new.keeper) (g.K.Keeper.records c.step_remote.new.keeper) (g.K.Keeper.faults c.step_remote.new.keeper))
+    w c.step_remote.new.worker c.args.input.now.taken c.args.input.now.word c.step_remote.result (target_remote (side_in c.args.worker.now) c.args.worker.now.job.peer c.in-Some.target (sym c.target.ensures ∙ c.in-Some.is)) c.step_remote.ensures

@@ -7,15 +7,18 @@ use Rattle.drop_worker.proofs.machine.step.Goals as goal
 pub returns : goal.returns
 returns g c =
     let a = all_of (sight (g.H.Here.reading c.args.here.now) (g.H.Here.ends c.args.here.now) c.args.input.now.time c.args.input.now.number) c.args.table.now c.advance.new.table (store (g.K.Keeper.contents c.args.keeper.now) (g.K.Keeper.records c.args.keeper.now) (g.K.Keeper.faults c.args.keeper.now))
-    (store (g.K.Keeper.contents c.advance.new.keeper) (g.K.Keeper.records c.advance.new.keeper) (g.K.Keeper.faults c.advance.new.keeper)) c.args.worker.now c.advance.new.worker c.args.input.now.taken c.args.input.now.word c.advance.result c.requires.owns c.advance.ensures in
+    (store (g.K.Keeper.contents c.advance.new.keeper) (g.K.Keeper.records c.advance.new.keeper) (g.K.Keeper.faults c.advance.new.keeper)) c.args.worker.now c.advance.new.worker c.args.input.now.taken c.args.input.now.word c.advance.result c.requires.owns c.advance.ensures.does in
     record {
       step = a.step;
       word = a.told;
+      answer = a.answer;
       heard = a.heard;
       after = a.after;
       contents = a.contents;
+      agrees = a.agrees;
       owns = a.owns;
       fits = a.fits;
+      begun = c.advance.ensures.begun;
       job = (a.number, a.job);
       others = a.others;
       holds = a.holds;

@@ -10,7 +10,7 @@ use Rattle.drop_worker.proofs.taking.take_lock.Goals as goal
 pub returns-in_ok-out-in-Failure-clause-does : goal.returns-in_ok-out-in-Failure-clause-does
 returns-in_ok-out-in-Failure-clause-does c = λ x rows p f time comes.
     say_does x rows p c.args.worker.now _ f c.args.peer c.args.message.now c.args.worker.now.version c.in_ok-out-in-Failure.out (rw c.number-in-Failure.ensures at c.in_ok-out-in-Failure.ensures.0) comes (λ rest. rw c.requires.at refl) (rw c.requires.at refl)
-    (messages.CheckPresent c.args.worker.now.job.key) (rw (c.in_ok-key-in-Failure.ensures, c.key-in-Failure.ensures) at c.in_ok-out-in-Failure.ensures.1) (rw c.key.ensures at c.reads.ensures.look)
+    (messages.CheckPresent c.args.worker.now.job.key) (rw (c.in_ok-new-in-Failure.ensures, c.in_ok-key-in-Failure.ensures, c.key-in-Failure.ensures) at c.in_ok-out-in-Failure.ensures.1) (rw c.key.ensures at c.reads.ensures.look.0)
     (λ rest. rw (c.requires.at, c.in-Failure.is) refl) (λ rest. rw c.go_to.ensures refl)
 
 pub returns-in_default : goal.returns-in_default
@@ -22,4 +22,5 @@ returns-in_default c =
           (λ rest. rw c.requires.at (sym (lock_else (turn_in x rows p None rest w) f c.args.peer c.args.peer c.args.since c.args.message.now c.in_default.not-Success c.in_default.not-Failure))));
       talks = c.shut.ensures.talks;
       err = c.shut.ensures.err;
+      stays = c.shut.ensures.stays;
     }

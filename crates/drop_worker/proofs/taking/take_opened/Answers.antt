@@ -16,9 +16,10 @@ returns-in_default c =
           (λ rest. rw c.requires.at (sym (opens_else (turn_in x rows p None rest w) f c.args.peer c.args.peer c.args.message.now refl c.in_default.not-AuthSuccess))));
       talks = c.shut.ensures.talks;
       err = c.shut.ensures.err;
+      stays = c.shut.ensures.stays;
     }
 
 pub returns-in_ok-out-in-AuthSuccess-clause-does : goal.returns-in_ok-out-in-AuthSuccess-clause-does
 returns-in_ok-out-in-AuthSuccess-clause-does c = λ x rows p f time comes.
     say_does x rows p c.args.worker.now _ f c.args.peer c.args.message.now c.args.worker.now.version c.in_ok-out-in-AuthSuccess.out (rw c.number.ensures at c.in_ok-out-in-AuthSuccess.ensures.0) comes (λ rest. rw c.requires.at refl) (rw c.requires.at refl)
-    (messages.Version 3) c.in_ok-out-in-AuthSuccess.ensures.1 c.reads.ensures.version (λ rest. rw (c.requires.at, c.in-AuthSuccess.is) refl) (λ rest. rw c.go_to.ensures refl)
+    (messages.Version 3) (rw c.in_ok-new-in-AuthSuccess.ensures at c.in_ok-out-in-AuthSuccess.ensures.1) c.reads.ensures.version.0 (λ rest. rw (c.requires.at, c.in-AuthSuccess.is) refl) (λ rest. rw c.go_to.ensures refl)

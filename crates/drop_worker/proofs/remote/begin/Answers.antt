@@ -1,0 +1,28 @@
+-- Its own repository isn't asked.
+use Rattle.std.proofs.Common.{refl, subst, sym, ap, ◌∙◌}
+use Rattle.node_model.specs.Evidence as seen
+use Rattle.drop_worker.specs.declared.phase.Phase.{Phase}
+use Rattle.drop_worker.specs.Leaving.{store}
+use Rattle.drop_worker.specs.Feeding.{FitsRemote}
+use Rattle.drop_worker.specs.Standings.{standing_of}
+use Rattle.drop_worker.specs.Working.{sight}
+use Rattle.drop_worker.proofs.Sharings.{skipped_did}
+use Rattle.drop_worker.proofs.remote.begin.Goals as goal
+
+pub returns-in-Claimed : goal.returns-in-Claimed
+returns-in-Claimed g c =
+    let read = g.H.Here.reading c.args.here.now in
+    let w = c.args.worker.now in
+    skipped_did (sight read (g.H.Here.ends c.args.here.now) c.args.input.now.time c.args.input.now.number) c.args.table.now c.args.table.now
+    (store (g.K.Keeper.contents c.args.keeper.now) (g.K.Keeper.records c.args.keeper.now) (g.K.Keeper.faults c.args.keeper.now)) (store (g.K.Keeper.contents c.args.keeper.now) (g.K.Keeper.records c.args.keeper.now) (g.K.Keeper.faults c.args.keeper.now)) w c.pass_by.new.worker
+    c.args.target c.requires.stands.remote c.requires.at (subst (λ (ph : Phase). FitsRemote ph w.token) c.requires.at c.requires.stands.fits) c.requires.stands.owns seen.Claimed c.pass_by.result refl (λ t. refl)
+    (ap read.standing (sym c.repo.ensures) ∙ (sym c.standing.ensures ∙ ap standing_of c.in-Claimed.is)) c.pass_by.ensures.says.0 c.pass_by.ensures.says.1 c.pass_by.ensures.next refl refl c.requires.stands.agrees
+
+pub returns-in-Ignored : goal.returns-in-Ignored
+returns-in-Ignored g c =
+    let read = g.H.Here.reading c.args.here.now in
+    let w = c.args.worker.now in
+    skipped_did (sight read (g.H.Here.ends c.args.here.now) c.args.input.now.time c.args.input.now.number) c.args.table.now c.args.table.now
+    (store (g.K.Keeper.contents c.args.keeper.now) (g.K.Keeper.records c.args.keeper.now) (g.K.Keeper.faults c.args.keeper.now)) (store (g.K.Keeper.contents c.args.keeper.now) (g.K.Keeper.records c.args.keeper.now) (g.K.Keeper.faults c.args.keeper.now)) w c.pass_by-in-Ignored.new.worker
+    c.args.target c.requires.stands.remote c.requires.at (subst (λ (ph : Phase). FitsRemote ph w.token) c.requires.at c.requires.stands.fits) c.requires.stands.owns (seen.Ignored c.in-Ignored.field-0) c.pass_by-in-Ignored.result refl (λ t. refl)
+    (ap read.standing (sym c.repo.ensures) ∙ (sym c.standing.ensures ∙ ap standing_of c.in-Ignored.is)) c.pass_by-in-Ignored.ensures.says.0 c.pass_by-in-Ignored.ensures.says.1 c.pass_by-in-Ignored.ensures.next refl refl c.requires.stands.agrees

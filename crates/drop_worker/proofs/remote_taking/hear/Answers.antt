@@ -1,0 +1,27 @@
+-- What the proof of `remote_taking::hear` needs beside the tactics.
+use Rattle.drop_worker.specs.declared.turn.Taken.TheVariants as takens
+use Rattle.drop_worker.specs.Leaving.{store}
+use Rattle.drop_worker.specs.Remote.{TakesRemote}
+use Rattle.drop_worker.proofs.Feedings.{closed_so, other_so, speaks_did}
+use Rattle.drop_worker.proofs.remote_taking.hear.Goals as goal
+
+pub returns-in-Message-clause-did : goal.returns-in-Message-clause-did
+returns-in-Message-clause-did g c = rw c.in-Message.is c.take_message.ensures.did
+
+pub returns-in-Other-clause-did : goal.returns-in-Other-clause-did
+returns-in-Other-clause-did g c =
+    let w = c.args.worker.now in
+    let w' = c.take_other.new.worker in
+    let read = g.H.Here.reading c.args.here.now in
+    let ends = g.H.Here.ends c.args.here.now in
+    rw c.in-Other.is (speaks_did c.args.target c.args.table.now (store (g.K.Keeper.contents c.args.keeper.now) (g.K.Keeper.records c.args.keeper.now) (g.K.Keeper.faults c.args.keeper.now)) w w'
+    (TakesRemote read ends c.args.input.now.time c.args.table.now c.args.table.now c.args.peer takens.Other w w') c.take_other.result c.requires.stands (other_so read ends c.args.input.now.time c.args.table.now c.args.peer w w' c.take_other.result c.take_other.ensures.does) c.take_other.ensures.speaks c.take_other.ensures.err)
+
+pub returns-in-Closed-clause-did : goal.returns-in-Closed-clause-did
+returns-in-Closed-clause-did g c =
+    let w = c.args.worker.now in
+    let w' = c.close.new.worker in
+    let read = g.H.Here.reading c.args.here.now in
+    let ends = g.H.Here.ends c.args.here.now in
+    rw c.in-Closed.is (speaks_did c.args.target c.args.table.now (store (g.K.Keeper.contents c.args.keeper.now) (g.K.Keeper.records c.args.keeper.now) (g.K.Keeper.faults c.args.keeper.now)) w w'
+    (TakesRemote read ends c.args.input.now.time c.args.table.now c.args.table.now c.args.peer takens.Closed w w') c.close.result c.requires.stands (closed_so read ends c.args.input.now.time c.args.table.now c.args.peer w w' c.close.result c.close.ensures.does c.close.ensures.here) c.close.ensures.speaks c.close.ensures.err)

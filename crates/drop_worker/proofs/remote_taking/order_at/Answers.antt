@@ -1,0 +1,26 @@
+-- What the proof of `remote_taking::order_at` needs beside the tactics.
+use Rattle.std.proofs.Common.{None, sym, ◌∙◌}
+use Rattle.p2p_wire.specs.declared.message.Message.TheVariants.{Timestamp}
+use Rattle.drop_worker.specs.declared.turn.Taken.TheVariants as takens
+use Rattle.drop_worker.specs.Leaving.{store}
+use Rattle.drop_worker.specs.Remote.{Says, Speaks, TakesRemote, order_of}
+use Rattle.drop_worker.proofs.Feedings.{speaks_did}
+use Rattle.drop_worker.proofs.Takings.{if_ok}
+use Rattle.drop_worker.proofs.Timing.{order_plain, order_speaks, order_takes}
+use Rattle.drop_worker.proofs.remote_taking.order_at.Goals as goal
+
+pub returns-in-None : goal.returns-in-None
+returns-in-None g c =
+    let w = c.args.worker.now in
+    let w' = c.order.new.worker in
+    let read = g.H.Here.reading c.args.here.now in
+    let ends = g.H.Here.ends c.args.here.now in
+    let target = c.args.target in
+    let remote = c.requires.stands.remote in
+    let lines = rw c.key.ensures at c.reads_all.ensures in
+    speaks_did target c.args.table.now (store (g.K.Keeper.contents c.args.keeper.now) (g.K.Keeper.records c.args.keeper.now) (g.K.Keeper.faults c.args.keeper.now)) w w'
+    (TakesRemote read ends c.args.time c.args.table.now c.args.table.now target (takens.Message (Timestamp c.args.now)) w w') c.order.result c.requires.stands
+    (if_ok c.order.result (Says (order_of read.need w target None) target w w') (TakesRemote read ends c.args.time c.args.table.now c.args.table.now target (takens.Message (Timestamp c.args.now)) w w') c.order.ensures.says (λ out s.
+    order_takes read ends c.args.time w target c.args.now remote c.requires.at w' None out c.args.table.now c.requires.early lines.order.0 s
+    (λ number p rest f. order_plain read ends c.args.time w target c.args.now remote c.requires.at (sym c.in-None.is ∙ c.in_ok-locks_end.ensures) number c.args.table.now p rest f)))
+    (if_ok c.order.result (Says (order_of read.need w target None) target w w') (Speaks w w') c.order.ensures.says (λ out s. order_speaks read w w' target None out s)) c.order.ensures.err

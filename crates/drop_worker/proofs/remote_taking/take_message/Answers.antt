@@ -1,0 +1,62 @@
+-- What the proof of `remote_taking::take_message` needs beside the tactics.
+use Rattle.std.proofs.Common.{ℕ, sym, ◌∙◌, subst}
+use Rattle.std.specs.Prelude.{IfOk}
+use Rattle.drop_worker.specs.declared.turn.Taken.TheVariants as takens
+use Rattle.drop_worker.specs.Doing.{Takes}
+use Rattle.drop_worker.specs.Leaving.{store}
+use Rattle.drop_worker.specs.Remote.{TakesRemote}
+use Rattle.drop_worker.proofs.Feedings.{at_rows, ordered_peer, speaks_did, takes_so}
+use Rattle.drop_worker.proofs.remote_taking.take_message.Goals as goal
+
+pub returns-in-Opens-clause-did : goal.returns-in-Opens-clause-did
+returns-in-Opens-clause-did g c =
+    let w = c.args.worker.now in
+    let w' = c.take_opened.new.worker in
+    let read = g.H.Here.reading c.args.here.now in
+    let ends = g.H.Here.ends c.args.here.now in
+    let m = c.args.message.now in
+    speaks_did c.args.target c.args.table.now (store (g.K.Keeper.contents c.args.keeper.now) (g.K.Keeper.records c.args.keeper.now) (g.K.Keeper.faults c.args.keeper.now)) w w'
+    (TakesRemote read ends c.args.input.now.time c.args.table.now c.args.table.now c.args.peer (takens.Message m) w w') c.take_opened.result c.requires.stands (takes_so read ends c.args.input.now.time c.args.table.now c.args.peer m w w' c.take_opened.result c.take_opened.ensures.does) c.take_opened.ensures.speaks c.take_opened.ensures.err
+
+pub returns-in-AsksLock-clause-did : goal.returns-in-AsksLock-clause-did
+returns-in-AsksLock-clause-did g c =
+    let w = c.args.worker.now in
+    let w' = c.take_lock.new.worker in
+    let read = g.H.Here.reading c.args.here.now in
+    let ends = g.H.Here.ends c.args.here.now in
+    let m = c.args.message.now in
+    speaks_did c.args.target c.args.table.now (store (g.K.Keeper.contents c.args.keeper.now) (g.K.Keeper.records c.args.keeper.now) (g.K.Keeper.faults c.args.keeper.now)) w w'
+    (TakesRemote read ends c.args.input.now.time c.args.table.now c.args.table.now c.args.peer (takens.Message m) w w') c.take_lock.result c.requires.stands (takes_so read ends c.args.input.now.time c.args.table.now c.args.peer m w w' c.take_lock.result c.take_lock.ensures.does) c.take_lock.ensures.speaks c.take_lock.ensures.err
+
+pub returns-in-AsksLook-clause-did : goal.returns-in-AsksLook-clause-did
+returns-in-AsksLook-clause-did g c =
+    let w = c.args.worker.now in
+    let w' = c.take_look.new.worker in
+    let read = g.H.Here.reading c.args.here.now in
+    let ends = g.H.Here.ends c.args.here.now in
+    let m = c.args.message.now in
+    speaks_did c.args.target c.args.table.now (store (g.K.Keeper.contents c.args.keeper.now) (g.K.Keeper.records c.args.keeper.now) (g.K.Keeper.faults c.args.keeper.now)) w w'
+    (TakesRemote read ends c.args.input.now.time c.args.table.now c.args.table.now c.args.peer (takens.Message m) w w') c.take_look.result c.requires.stands (takes_so read ends c.args.input.now.time c.args.table.now c.args.peer m w w' c.take_look.result c.take_look.ensures.does) c.take_look.ensures.speaks c.take_look.ensures.err
+
+pub returns-in-Greets-clause-did : goal.returns-in-Greets-clause-did
+returns-in-Greets-clause-did g c =
+    let w = c.args.worker.now in
+    let w' = c.take_version.new.worker in
+    let read = g.H.Here.reading c.args.here.now in
+    let ends = g.H.Here.ends c.args.here.now in
+    let m = c.args.message.now in
+    speaks_did c.args.target c.args.table.now (store (g.K.Keeper.contents c.args.keeper.now) (g.K.Keeper.records c.args.keeper.now) (g.K.Keeper.faults c.args.keeper.now)) w w'
+    (TakesRemote read ends c.args.input.now.time c.args.table.now c.args.table.now c.args.peer (takens.Message m) w w') c.take_version.result c.requires.stands (at_rows read ends c.args.input.now.time c.args.table.now c.args.peer (takens.Message m) w w' c.take_version.result c.take_version.ensures.does) c.take_version.ensures.speaks c.take_version.ensures.err
+
+pub returns-in-Orders-clause-did : goal.returns-in-Orders-clause-did
+returns-in-Orders-clause-did g c =
+    let w = c.args.worker.now in
+    let w' = c.take_answer.new.worker in
+    let read = g.H.Here.reading c.args.here.now in
+    let ends = g.H.Here.ends c.args.here.now in
+    let m = c.args.message.now in
+    speaks_did c.args.target c.args.table.now (store (g.K.Keeper.contents c.args.keeper.now) (g.K.Keeper.records c.args.keeper.now) (g.K.Keeper.faults c.args.keeper.now)) w w'
+    (TakesRemote read ends c.args.input.now.time c.args.table.now c.args.table.now c.args.peer (takens.Message m) w w') c.take_answer.result c.requires.stands
+    (takes_so read ends c.args.input.now.time c.args.table.now c.args.peer m w w' c.take_answer.result
+    (subst (λ (q : ℕ). IfOk c.take_answer.result (Takes c.args.input.now.time q m w w')) (ordered_peer w c.args.target c.args.peer c.requires.stands.remote.peer (sym c.phase.ensures ∙ c.in-Orders.is) c.requires.awaits) c.take_answer.ensures.does))
+    c.take_answer.ensures.speaks c.take_answer.ensures.err

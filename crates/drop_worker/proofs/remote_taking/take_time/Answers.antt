@@ -1,0 +1,27 @@
+-- What the proof of `remote_taking::take_time` needs beside the tactics.
+use Rattle.std.proofs.Common.{None, refl}
+use Rattle.drop_worker.specs.declared.turn.Taken.TheVariants as takens
+use Rattle.drop_worker.specs.Leaving.{store}
+use Rattle.drop_worker.specs.Remote.{TakesRemote}
+use Rattle.drop_worker.specs.Working.{turn_in}
+use Rattle.drop_worker.proofs.Feedings.{at_rows, lost_takes, speaks_did, time_else}
+use Rattle.drop_worker.proofs.Losses.{shuts_speaks}
+use Rattle.drop_worker.proofs.remote_taking.take_time.Goals as goal
+
+pub returns-in-Timestamp : goal.returns-in-Timestamp
+returns-in-Timestamp g c = rw c.in-Timestamp.is c.take_timestamp.ensures
+
+pub returns-in_default : goal.returns-in_default
+returns-in_default g c =
+    let w = c.args.worker.now in
+    let w' = c.shut.new.worker in
+    let read = g.H.Here.reading c.args.here.now in
+    let ends = g.H.Here.ends c.args.here.now in
+    let target = c.args.target in
+    let m = c.args.message.now in
+    speaks_did target c.args.table.now (store (g.K.Keeper.contents c.args.keeper.now) (g.K.Keeper.records c.args.keeper.now) (g.K.Keeper.faults c.args.keeper.now)) w w'
+    (TakesRemote read ends c.args.time c.args.table.now c.args.table.now target (takens.Message m) w w') c.shut.result c.requires.stands
+    (at_rows read ends c.args.time c.args.table.now target (takens.Message m) w w' c.shut.result
+    (lost_takes read ends c.args.time w w' target target m c.shut.result c.requires.stands.remote c.shut.ensures.shuts (λ rest f line. rw c.requires.at refl) (rw c.requires.at c.requires.stands.remote.peer)
+    (λ x rows p rest f. rw c.requires.at (time_else (turn_in x rows p None rest w) f target m c.in_default.not-Timestamp))))
+    (shuts_speaks w w' target target c.shut.result c.shut.ensures.shuts) c.shut.ensures.err

@@ -1,0 +1,64 @@
+-- What a step of a drop does and leaves on either side, in one fact, for private contracts (the project's own).
+use Rattle.std.specs.Prelude.{◌≡◌, ◌≤◌, ℕ, Bool, false, List, Option, Some, IfSome, Result, Ok, Err}
+use Rattle.std.specs.Option.{ForSome}
+use Rattle.annex_base.specs.Causes.{Rose}
+use Rattle.annex_base.specs.declared.kinds.Word.{Word}
+use Rattle.annex_base.specs.declared.memory.NoMemory.{NoMemory}
+use Rattle.drop_proof.specs.declared.rule.Side.TheVariants.{Local}
+use Rattle.run_data.specs.declared.entry.FrameView.{FrameView}
+use Rattle.object_store.specs.Stores.{Contents}
+use Rattle.node_model.specs.JobStep.{Turn}
+use Rattle.node_model.specs.Look.{Made}
+use Rattle.node_model.specs.Slots.{job_of}
+use Rattle.content_lock.specs.Rows.{AreAfter, Rows}
+use Rattle.content_lock.specs.Stored.{Agrees}
+use Rattle.drop_worker.specs.declared.turn.Output.{Output}
+use Rattle.drop_worker.specs.declared.turn.Taken.{Taken}
+use Rattle.drop_worker.specs.Worker.{Worker}
+use Rattle.drop_worker.specs.Working.{Rest, Sight, failed_in, made_of, present_in, turn_in, work_of}
+use Rattle.drop_worker.specs.Doing.{Grows, HasToken, OthersStay, contents_after, moved}
+use Rattle.drop_worker.specs.Feeding.{FedAt, KeepsAnswer, KeepsWord, step_of}
+use Rattle.drop_worker.specs.Leaving.{Stays, Store, stands_on}
+use Rattle.drop_worker.specs.Remote.{DoesAlike}
+use Rattle.drop_worker.specs.Sides.{Fits, IsNext, side_in}
+
+-- a step makes what is asked, its entry changes the rows, and the work that follows is the next one
+pub record DoesSo (x : Sight) (rows rows' : Rows) (present : List ℕ → Bool) (w w' : Worker) (taken : Option FrameView) (asked : Turn → Made) (out : Output) : Type 0 where
+  pub makes : (rest : Rest) → made_of x w taken out ≡ asked (turn_in x rows present (failed_in out.kind) rest w)
+  pub next : out.ended ≡ false → (rest : Rest)
+      → IsNext (side_in w) x.read (work_of rest w') (moved (turn_in x rows present (failed_in out.kind) rest w) (asked (turn_in x rows present (failed_in out.kind) rest w)))
+  pub after : AreAfter out.kind rows rows'
+  pub whose : job_of out.kind ≡ Some w.number
+
+-- what a step leaves of the rows, the store and the worker
+pub record LeavesSo (rows rows' : Rows) (k k' : Store) (w w' : Worker) (out : Output) : Type 0 where
+  pub after : AreAfter out.kind rows rows'
+  pub contents : k'.contents ≡ contents_after k.contents out.kind
+  pub agrees : Agrees k.records rows.holds → Agrees k'.records rows'.holds
+  pub later : k.faults ≤ k'.faults
+  pub cause : IfSome (failed_in out.kind) (λ call. Rose k.faults k'.faults)
+  pub owns : HasToken w'.number w'.job.key w'.token rows'
+  pub fits : out.ended ≡ false → Fits (side_in w) w'.phase w'.token
+  pub heard : Grows w.heard w'.heard
+  pub number : w'.number ≡ w.number
+  pub job : w'.job ≡ w.job
+  pub others : OthersStay w.number rows rows'
+  pub holds : side_in w ≡ Local → rows'.holds ≡ rows.holds
+  pub records : side_in w ≡ Local → k'.records ≡ k.records
+
+-- a step did this, and left that; or nothing changed
+abbrev pub DidSo : Rows → Rows → Store → Store → Worker → Worker → (Output → Type 0) → Result Output NoMemory → Type 0
+DidSo rows rows' k k' w w' does (Ok out) = does out × LeavesSo rows rows' k k' w w' out
+DidSo rows rows' k k' w w' does (Err e) = Stays rows rows' k k' w w'
+
+-- a step does what the definitions do with what it is told, and keeps the words beside a refused look and an answer to an order
+pub record AdvancesSo (x : Sight) (known : Option Contents) (rows rows' : Rows) (w w' : Worker) (taken : Taken) (word : Option Word) (out : Output) : Type 0 where
+  pub told : KeepsWord taken word w w'
+  pub answer : KeepsAnswer taken word w w'
+  pub does : ForSome known (λ c. (f : Option FrameView) → FedAt x w.slot (stands_on w) f taken → DoesSo x rows rows' (present_in c) w w' f (step_of (stands_on w) f) out)
+
+-- the same of a remote drop
+pub record AdvancesAlike (x : Sight) (known : Option Contents) (rows rows' : Rows) (w w' : Worker) (taken : Taken) (word : Option Word) (out : Output) : Type 0 where
+  pub told : KeepsWord taken word w w'
+  pub answer : KeepsAnswer taken word w w'
+  pub does : ForSome known (λ c. (f : Option FrameView) → FedAt x w.slot (stands_on w) f taken → DoesAlike x rows rows' (present_in c) w w' f (step_of (stands_on w) f) out)
