@@ -2,3 +2,4 @@
 pub mod Taking
 pub mod Order
 pub mod Pairs
+pub mod Dropping

@@ -96,6 +96,7 @@ past_of a e = is_past a.epoch a.phase e
 
 past_with_body : (a : EndView) (later e : ℕ) (body : Body) → past_of a e ≡ true → past_of a later ≡ false → past_of (with_body a later body) e ≡ true
 past_with_body a later e bodies.Open past live = past_later a.epoch later a.phase e past live
+past_with_body a later e (bodies.Line text) past live = past
 past_with_body a later e (bodies.Bytes bytes) past live = past
 past_with_body a later e bodies.Close past live = past_closed a.epoch a.phase e past
 
@@ -118,6 +119,7 @@ past_sent a f e past = elim (cases_Bool (is_close f)) [
 
 on_way_with_body : (a : EndView) (later : ℕ) (body : Body) → (with_body a later body).on_way ≡ a.on_way
 on_way_with_body a later bodies.Open = refl
+on_way_with_body a later (bodies.Line text) = refl
 on_way_with_body a later (bodies.Bytes bytes) = refl
 on_way_with_body a later bodies.Close = refl
 
@@ -127,6 +129,7 @@ on_way_with_taken a (Some f) = on_way_with_body a f.epoch f.body
 
 at_hand_with_body : (a : EndView) (later : ℕ) (body : Body) → (with_body a later body).at_hand ≡ a.at_hand
 at_hand_with_body a later bodies.Open = refl
+at_hand_with_body a later (bodies.Line text) = refl
 at_hand_with_body a later (bodies.Bytes bytes) = refl
 at_hand_with_body a later bodies.Close = refl
 

@@ -13,6 +13,7 @@ use Rattle.link_ring.proofs.Order.{at_hand-after_take, on_way-after_call}
 
 used_with_body : (a : EndView) (later : ℕ) (body : Body) → (with_body a later body).used ≡ a.used
 used_with_body a later bodies.Open = refl
+used_with_body a later (bodies.Line text) = refl
 used_with_body a later (bodies.Bytes bytes) = refl
 used_with_body a later bodies.Close = refl
 
@@ -26,7 +27,7 @@ used-after_call Takes a = omega (arith, used_with_taken (record a { at_hand = af
 used-after_call Opens a = omega arith
 used-after_call Closes a = omega arith
 
-filter_shorter : (p : Frame → Bool) (fs : List Frame) → length (filter p fs) ≤ length fs
+pub filter_shorter : (p : Frame → Bool) (fs : List Frame) → length (filter p fs) ≤ length fs
 filter_shorter p [] = omega arith
 filter_shorter p (f ∷ fs) =
     let more = filter_shorter p fs in elim (cases_Bool (p f)) [ inl is ↦ rw is (omega (arith, more)) | inr other ↦ rw other (omega (arith, more)) ]

@@ -13,12 +13,13 @@ use Rattle.link_ring.specs.Frames.{is_close, is_closed, is_old}
 pub record EndView : Type 0 where
   pub epoch : ℕ
   pub phase : Phase
+  pub sent : ℕ
   pub at_hand : List Frame
   pub on_way : List Frame
   pub used : ℕ
 
 abbrev pub fresh : EndView
-fresh = record { epoch = 0; phase = Closed; at_hand = []; on_way = []; used = 0 }
+fresh = record { epoch = 0; phase = Closed; sent = 0; at_hand = []; on_way = []; used = 0 }
 
 -- the places that it knows to be free
 abbrev pub free : EndView → ℕ
@@ -38,7 +39,7 @@ abbrev pub phase_after_send : Phase → Frame → Phase
 phase_after_send phase f = if is_close f then Closed else phase_after_frame phase
 
 abbrev pub after_send : EndView → Frame → EndView
-after_send e f = record e { phase = phase_after_send e.phase f; on_way = e.on_way ++ f ∷ []; used = e.used + 1 }
+after_send e f = record e { phase = phase_after_send e.phase f; sent = e.sent + 1; on_way = e.on_way ++ f ∷ []; used = e.used + 1 }
 
 -- frames of older epochs, and of one that the end has closed, are passed over
 abbrev pub is_taken : EndView → Frame → Bool
@@ -49,7 +50,8 @@ next_frame e = find (is_taken e) e.at_hand
 
 -- an Open brings the end to its epoch; after a Close it takes no more of this one
 abbrev pub with_body : EndView → ℕ → Body → EndView
-with_body e epoch bodies.Open = record e { epoch = epoch; phase = Opening }
+with_body e epoch bodies.Open = record e { epoch = epoch; phase = Opening; sent = 0 }
+with_body e epoch (bodies.Line text) = e
 with_body e epoch (bodies.Bytes bytes) = e
 with_body e epoch bodies.Close = record e { phase = Closed }
 
@@ -60,9 +62,13 @@ with_taken e (Some f) = with_body e f.epoch f.body
 abbrev pub after_take : EndView → EndView
 after_take e = with_taken (record e { at_hand = after_first (is_taken e) e.at_hand }) (next_frame e)
 
+-- the frames that are passed over are dropped
+abbrev pub after_drop : EndView → EndView
+after_drop e = record e { at_hand = filter (is_taken e) e.at_hand }
+
 -- the next epoch begins, and frames of those before are dropped
 abbrev pub after_open : EndView → EndView
-after_open e = record e { epoch = e.epoch + 1; phase = Opening; at_hand = filter (λ f. nat_lt e.epoch f.epoch) e.at_hand }
+after_open e = record e { epoch = e.epoch + 1; phase = Opening; sent = 0; at_hand = filter (λ f. nat_lt e.epoch f.epoch) e.at_hand }
 
 abbrev pub after_close : EndView → EndView
 after_close e = record e { phase = Closed }

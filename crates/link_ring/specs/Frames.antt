@@ -8,6 +8,7 @@ use Rattle.link_ring.specs.declared.end.Phase.TheVariants.{Closed, Opening, Open
 
 abbrev pub is_close_body : Body → Bool
 is_close_body bodies.Open = false
+is_close_body (bodies.Line text) = false
 is_close_body (bodies.Bytes bytes) = false
 is_close_body bodies.Close = true
 

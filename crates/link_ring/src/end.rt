@@ -2,7 +2,7 @@
 ghost use Rattle.std.specs.Prelude.{◌≡◌, ◌≤◌, ◌<◌, ◌+◌, ◌-◌, ◌++◌, vec_len, ◌^◌, ◌↔◌, [], true, false, not, nat_le, IfOk, IfErr, IsErr, IsOk, OnOk, OnErr, filter, nat_lt, vec_capacity, option_copied};
 ghost use Rattle.std.specs.List.{find, after_first};
 ghost use Rattle.link_ring.specs.Frames.{is_old, is_close};
-ghost use Rattle.link_ring.specs.Ends.{ArePaired, StaysPaired, after_carry, fresh, accepts, after_send, next_frame, after_take, after_open, after_close, free, phase_after_send};
+ghost use Rattle.link_ring.specs.Ends.{ArePaired, StaysPaired, after_carry, fresh, accepts, after_send, next_frame, after_take, after_drop, after_open, after_close, free, phase_after_send};
 
 use crate::frame::{Body, Frame};
 use annex_base::NoMemory;
@@ -28,6 +28,8 @@ pub enum Phase {
 pub struct End {
     epoch: u32,
     phase: Phase,
+    // The frames that it has sent since its opening.
+    sent: u64,
     at_hand: Vec<Frame>,
     on_way: Vec<Frame>,
     // The frames that were sent and of which it isn't known that they were taken.
@@ -41,7 +43,7 @@ impl Model for End {
 
     ghost Value = { EndView };
 
-    ghost view = { λ e. record { epoch = e.epoch; phase = e.phase; at_hand = e.at_hand.items; on_way = e.on_way.items; used = e.used } };
+    ghost view = { λ e. record { epoch = e.epoch; phase = e.phase; sent = e.sent; at_hand = e.at_hand.items; on_way = e.on_way.items; used = e.used } };
 
     ghost invariant = { λ e. IsEnd e.phase (vec_len e.on_way) e.used (vec_capacity e.at_hand) (vec_capacity e.on_way) };
 }
@@ -84,6 +86,14 @@ fn drop_old(frames: &mut Vec<Frame>, epoch: u32)
     frames.retain(|frame: &Frame| epoch < frame.epoch);
 }
 
+// Drops the frames that are old.
+fn keep_new(frames: &mut Vec<Frame>, epoch: u32, phase: Phase)
+    ensures rest { frames.new.items ≡ filter (λ f. not (is_old epoch phase f)) frames.old.items }
+    ensures room { vec_capacity frames.new ≡ vec_capacity frames.old }
+{
+    frames.retain(|frame: &Frame| !is_old(epoch, phase, frame));
+}
+
 fn phase_after_send(phase: Phase, frame: &Frame) -> Phase
     ensures { result ≡ phase_after_send phase frame.now }
 {
@@ -104,6 +114,7 @@ impl End {
         Ok(End {
             epoch: 0,
             phase: Phase::Closed,
+            sent: 0,
             at_hand: Vec::with_capacity(alloc, PLACES)?,
             on_way: Vec::with_capacity(alloc, PLACES)?,
             used: 0,
@@ -115,6 +126,13 @@ impl End {
         ensures { result ≡ self.now.epoch }
     {
         self.epoch
+    }
+
+    /// How many frames it has sent since its opening.
+    pub fn sent(&self) -> u64
+        ensures { result ≡ self.now.sent }
+    {
+        self.sent
     }
 
     /// How it stands.
@@ -152,6 +170,7 @@ impl End {
     /// Sends a frame. A Close is handed back where the end is closed, or has no place free, which an open end has;
     /// another frame where fewer than two places are free.
     pub fn send(&mut self, frame: Frame) -> Result<(), Frame>
+        requires few { self.old.sent < 2 ^ 62 }
         ensures ok { OnOk result (self.new ≡ after_send self.old frame) }
         ensures err { OnErr result (self.new ≡ self.old) }
         ensures same { IfErr result (λ back. back ≡ frame) }
@@ -164,6 +183,7 @@ impl End {
             return Err(frame);
         }
         self.phase = phase_after_send(self.phase, &frame);
+        self.sent += 1;
         self.used += 1;
         self.on_way.push_reserved(frame);
         Ok(())
@@ -188,11 +208,21 @@ impl End {
             Body::Open => {
                 self.epoch = frame.epoch;
                 self.phase = Phase::Opening;
+                self.sent = 0;
             }
             Body::Close => self.phase = Phase::Closed,
-            Body::Bytes(_) => {}
+            Body::Line(_) | Body::Bytes(_) => {}
         }
         Some(frame)
+    }
+
+    /// Drops the frames at hand that are of an older epoch, or of one that this end has closed: none of them is ever taken.
+    pub fn drop_old(&mut self)
+        ensures end { self.new ≡ after_drop self.old }
+        ensures first { next_frame self.new ≡ next_frame self.old }
+        ensures paired { StaysPaired self.old self.new }
+    {
+        keep_new(&mut self.at_hand, self.epoch, self.phase);
     }
 
     /// Begins the next epoch, and drops what is at hand of those before.
@@ -204,6 +234,7 @@ impl End {
         drop_old(&mut self.at_hand, self.epoch);
         self.epoch += 1;
         self.phase = Phase::Opening;
+        self.sent = 0;
     }
 
     /// Closes the end without a word to the other one.

@@ -11,15 +11,18 @@ pub struct Frame {
     pub sender: EntryStamp,
     /// The number of the connection's opening, from 1.
     pub epoch: u32,
+    /// The number of the frame in its epoch and way, from 1.
+    pub seq: u64,
     /// What the sender found, beside a refusal or an answer to an order. It is no part of the protocol.
     pub word: Option<Word>,
     pub body: Body,
 }
 
-/// What a frame carries: an opening, bytes of messages or of a content, or a closing.
+/// What a frame carries: an opening, the line of a message, bytes of a content, or a closing.
 #[derive(Debug, PartialEq, Eq, Drop)]
 pub enum Body {
     Open,
+    Line(Text),
     Bytes(Text),
     Close,
 }
@@ -30,7 +33,7 @@ impl Frame {
     {
         match &self.body {
             Body::Close => true,
-            Body::Open | Body::Bytes(_) => false,
+            Body::Open | Body::Line(_) | Body::Bytes(_) => false,
         }
     }
 }

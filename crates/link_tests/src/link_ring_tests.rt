@@ -9,6 +9,7 @@ use std::test::Fail;
 #[derive(Clone, Copy, PartialEq, Eq)]
 enum Kind {
     Open,
+    Line(u8),
     Byte(u8),
     Close,
 }
@@ -32,8 +33,12 @@ enum Step {
     Takes(u32, Kind),
     TakesNothing,
     Stands(u32, Phase),
+    HasSent(u64),
     Carries,
 }
+
+/// More frames than a test sends.
+const MANY: u64 = 1000;
 
 fn frame(alloc: Global, epoch: u32, kind: Kind) -> Result<Frame, NoMemory> {
     Ok(Frame {
@@ -43,9 +48,11 @@ fn frame(alloc: Global, epoch: u32, kind: Kind) -> Result<Frame, NoMemory> {
             repo: 3,
         },
         epoch,
+        seq: 1,
         word: None,
         body: match kind {
             Kind::Open => Body::Open,
+            Kind::Line(byte) => Body::Line(Text::new(alloc, &[byte])?),
             Kind::Byte(byte) => Body::Bytes(Text::new(alloc, &[byte])?),
             Kind::Close => Body::Close,
         },
@@ -55,10 +62,22 @@ fn frame(alloc: Global, epoch: u32, kind: Kind) -> Result<Frame, NoMemory> {
 fn is_of(frame: &Frame, epoch: u32, kind: Kind) -> bool {
     let same = match (&frame.body, kind) {
         (Body::Open, Kind::Open) | (Body::Close, Kind::Close) => true,
-        (Body::Bytes(bytes), Kind::Byte(byte)) => bytes.bytes() == [byte].as_slice(),
-        (Body::Open | Body::Bytes(_) | Body::Close, _) => false,
+        (Body::Line(bytes), Kind::Line(byte)) | (Body::Bytes(bytes), Kind::Byte(byte)) => {
+            bytes.bytes() == [byte].as_slice()
+        }
+        (Body::Open | Body::Line(_) | Body::Bytes(_) | Body::Close, _) => false,
     };
     same && frame.epoch == epoch
+}
+
+/// Sends a frame, and hands it back where the end doesn't accept it.
+fn send(end: &mut End, frame: Frame) -> Result<(), Frame>
+    ensures { StaysPaired end.old end.new }
+{
+    if end.sent() >= MANY {
+        return Err(frame);
+    }
+    end.send(frame)
 }
 
 fn goes_as_told(alloc: Global, end: &mut End, step: Step) -> Result<bool, NoMemory>
@@ -77,8 +96,8 @@ fn goes_as_told(alloc: Global, end: &mut End, step: Step) -> Result<bool, NoMemo
             Ok(true)
         }
         Step::Room(want) => Ok(end.room() == want),
-        Step::Sends(epoch, kind) => Ok(end.send(frame(alloc, epoch, kind)?).is_ok()),
-        Step::HandsBack(epoch, kind) => match end.send(frame(alloc, epoch, kind)?) {
+        Step::Sends(epoch, kind) => Ok(send(end, frame(alloc, epoch, kind)?).is_ok()),
+        Step::HandsBack(epoch, kind) => match send(end, frame(alloc, epoch, kind)?) {
             Ok(()) => Ok(false),
             Err(back) => Ok(is_of(&back, epoch, kind)),
         },
@@ -88,6 +107,7 @@ fn goes_as_told(alloc: Global, end: &mut End, step: Step) -> Result<bool, NoMemo
         },
         Step::TakesNothing => Ok(end.take().is_none()),
         Step::Carries => Ok(true),
+        Step::HasSent(count) => Ok(end.sent() == count),
         Step::Stands(epoch, phase) => Ok(end.epoch() == epoch && end.phase() == phase),
     }
 }
@@ -160,6 +180,42 @@ fn frames_come_in_their_order(rt: HostRuntime) -> Result<(), Fail> {
             (Side::Carrier, Step::Carries),
             (Side::Server, Step::TakesNothing),
             (Side::Client, Step::TakesNothing),
+        ],
+    )?;
+    assert_eq!(rt; other, None);
+    Ok(())
+}
+
+/// An end counts the frames that it has sent since its opening, and tells lines from bytes of a content.
+#[test]
+fn frames_are_counted_from_an_opening(rt: HostRuntime) -> Result<(), Fail> {
+    let other = first_other(
+        rt.alloc(),
+        &[
+            (Side::Client, Step::Opens),
+            (Side::Client, Step::HasSent(0)),
+            (Side::Client, Step::Sends(1, Kind::Open)),
+            (Side::Client, Step::Sends(1, Kind::Line(7))),
+            (Side::Client, Step::Sends(1, Kind::Byte(7))),
+            (Side::Client, Step::HasSent(3)),
+            (Side::Carrier, Step::Carries),
+            (Side::Client, Step::HasSent(3)),
+            (Side::Server, Step::Takes(1, Kind::Open)),
+            (Side::Server, Step::Takes(1, Kind::Line(7))),
+            (Side::Server, Step::Takes(1, Kind::Byte(7))),
+            (Side::Server, Step::HasSent(0)),
+            (Side::Server, Step::Sends(1, Kind::Line(8))),
+            (Side::Server, Step::HasSent(1)),
+            (Side::Client, Step::Sends(1, Kind::Close)),
+            (Side::Client, Step::HasSent(4)),
+            (Side::Client, Step::Opens),
+            (Side::Client, Step::HasSent(0)),
+            (Side::Client, Step::Sends(2, Kind::Open)),
+            (Side::Carrier, Step::Carries),
+            (Side::Server, Step::Takes(1, Kind::Close)),
+            (Side::Server, Step::HasSent(1)),
+            (Side::Server, Step::Takes(2, Kind::Open)),
+            (Side::Server, Step::HasSent(0)),
         ],
     )?;
     assert_eq!(rt; other, None);
@@ -297,6 +353,7 @@ fn each_connection_has_its_ends(rt: HostRuntime) -> Result<(), Fail> {
         assert_eq!(rt; of_one.ends.len(), 24);
         for end in of_one.ends.iter() {
             assert_eq!(rt; end.epoch(), 0);
+            assert_eq!(rt; end.sent(), 0);
             assert_eq!(rt; end.phase(), Phase::Closed);
         }
     }
