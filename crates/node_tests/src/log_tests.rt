@@ -3,6 +3,8 @@ ghost use Rattle.std.specs.Prelude.{◌≡◌, IfOk, replicate};
 ghost use Rattle.link_ring.specs.Ends.{fresh};
 
 use annex_base::{Call, Items, RepoId};
+use annex_key::Key;
+use key_verify::{Verdict, matches};
 use link_ring::{Links, make_links};
 use object_store::{Keeper, MemoryKeeper};
 use repo_node::{Node, NodeRefused, Setup};
@@ -15,6 +17,8 @@ const ID: &[u8] = b"11111111-1111-4111-8111-111111111111";
 const PATH: &[u8] = b"trust.log";
 
 const OTHER: &[u8] = b"uuid.log";
+
+const BUNDLE: &[u8] = b"annex-bundle 1\nfile 4 trust.log\none\nfile 4 uuid.log\ntwo\n";
 
 /// The links of a repository that is alone.
 fn own_links(alloc: Global) -> Result<Links, Fail>
@@ -87,5 +91,81 @@ fn a_fault_is_an_entry(rt: HostRuntime) -> Result<(), Fail> {
     assert!(rt; !there);
     assert_eq!(rt; second, Ok(()));
     assert_eq!(rt; entries, 2);
+    Ok(())
+}
+
+// A compaction takes the outdated line of a log away, by one entry, and a second one finds none.
+#[test]
+fn compactions_leave_the_newest(rt: HostRuntime) -> Result<(), Fail> {
+    let mut node = alone(rt.alloc())?;
+    let older = write(&mut node, b"numcopies.log", b"1s 2");
+    let newer = write(&mut node, b"numcopies.log", b"2s 3");
+    let first = node.compact();
+    let second = node.compact();
+    let lines = node
+        .branch()
+        .file(b"numcopies.log")
+        .map_or(0, |lines| lines.lines().len());
+    let entries = node.history().len();
+    node.dissolve();
+    assert_eq!(rt; older, Ok(()));
+    assert_eq!(rt; newer, Ok(()));
+    assert_eq!(rt; first, Ok(()));
+    assert_eq!(rt; second, Ok(()));
+    assert_eq!(rt; lines, 1);
+    assert_eq!(rt; entries, 3);
+    Ok(())
+}
+
+// A bundle brings another branch, one entry for each file; a text that is none changes nothing.
+#[test]
+fn bundles_are_merged(rt: HostRuntime) -> Result<(), Fail> {
+    let mut node = alone(rt.alloc())?;
+    let merged = node.merge_bundle(BUNDLE);
+    let wrong = node.merge_bundle(b"annex-bundle 2\n");
+    let text = node.bundle();
+    let entries = node.history().len();
+    node.dissolve();
+    assert_eq!(rt; merged, Ok(()));
+    assert_eq!(rt; wrong, Err(NodeRefused::BadBundle { at: 13 }));
+    assert_eq!(rt; entries, 2);
+    let text = text?;
+    assert!(rt; text.as_slice() == BUNDLE);
+    Ok(())
+}
+
+/// Places a content, where it matches the key.
+fn place<K: Keeper>(
+    alloc: Global,
+    node: &mut Node<K>,
+    key: &Key,
+    bytes: &[u8],
+) -> Result<(), NodeRefused> {
+    let verdict = matches(alloc, key, bytes)?;
+    match verdict {
+        Verdict::Right => node.place(key, bytes),
+        _ => Ok(()),
+    }
+}
+
+// A content comes once, by its entry and that of its line; a part takes no entry.
+#[test]
+fn contents_are_placed(rt: HostRuntime) -> Result<(), Fail> {
+    let key = Key::parse(rt.alloc(), b"WORM-s3--k")?;
+    let mut node = alone(rt.alloc())?;
+    let part = node.place_part(&key, b"ab");
+    let first = place(rt.alloc(), &mut node, &key, b"abc");
+    let again = place(rt.alloc(), &mut node, &key, b"abc");
+    let entries = node.history().len();
+    let lines = node
+        .history()
+        .last()
+        .map_or(0, |entry| entry.lines.as_slice().len());
+    node.dissolve();
+    assert_eq!(rt; part, Ok(()));
+    assert_eq!(rt; first, Ok(()));
+    assert_eq!(rt; again, Ok(()));
+    assert_eq!(rt; entries, 2);
+    assert_eq!(rt; lines, 1);
     Ok(())
 }

@@ -3,3 +3,8 @@ pub mod StateLemmas
 pub mod WriteLemmas
 pub mod PastLemmas
 pub mod LogLemmas
+pub mod LineLemmas
+pub mod WalkLemmas
+pub mod DebtLemmas
+pub mod SetLemmas
+pub mod GainLemmas

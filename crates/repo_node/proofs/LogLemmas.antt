@@ -1,15 +1,18 @@
 -- What a log entry leaves of the lines of files, and the node after them.
-use Rattle.std.proofs.Common.{◌≡◌, ◌≢◌, ℕ, Bool, true, false, if◌then◌else◌, List, [], ◌∷◌, Some, Result, Ok, Err, OnOk, bytes_eq, refl, sym, ap, subst, ◌∙◌}
+use Rattle.std.proofs.Common.{◌≡◌, ◌≢◌, ℕ, Bool, true, false, if◌then◌else◌, List, [], ◌∷◌, Option, Some, Result, Ok, Err, OnOk, bytes_eq, refl, sym, ap, subst, ◌∙◌}
 use Rattle.annex_base.proofs.Conditions.{by_test, bytes_eq-true, bytes_eq-refl}
 use Rattle.union_merge.specs.Branch.{Files, file_at, lines_at, merged_file, or_none, with_file}
 use Rattle.union_merge.specs.LineSet.{difference, union}
-use Rattle.run_data.specs.declared.entry.EntryKind.TheVariants.{Log}
+use Rattle.run_data.specs.declared.entry.EntryKind.TheVariants.{Compact, Log}
 use Rattle.run_data.specs.declared.entry.LogFile.{LogFile}
-use Rattle.run_data.specs.Files.{file_path}
-use Rattle.node_model.specs.Files.{lines_after}
+use Rattle.run_data.specs.Files.{file_path, kind_of}
+use Rattle.log_lines.specs.declared.entry.LogKind.{LogKind}
+use Rattle.log_lines.specs.Newest.{current_lines}
+use Rattle.node_model.specs.Files.{compact_lines, lines_after}
 use Rattle.repo_node.specs.Nodes.{NodeView, with_entry}
 use Rattle.repo_node.specs.declared.refused.NodeRefused.{NodeRefused}
 use Rattle.repo_node.specs.Logs.{with_lines, with_log}
+use Rattle.repo_node.specs.Walks.{current}
 
 abbrev pub Other : Files → List ℕ → List (List ℕ) → Type 0
 Other branch path all = (p : List ℕ) → p ≢ path → lines_at (with_file branch path all) p ≡ lines_at branch p
@@ -41,24 +44,46 @@ logged branch path file new all here there other is p =
     ∙ if_there (bytes_eq (file_path file) p) (union (lines_at branch path) new) (union (lines_at branch p) new) (lines_at branch p)
     (λ equal. ap (λ (w : List ℕ). union (lines_at branch w) new) (here ∙ bytes_eq-true (file_path file) p equal))
 
--- the node with new lines is the node with this entry
-pub log_entry : {K : Type 0} (n : NodeView K) (k : K) (file : LogFile) (path : List ℕ) (new all : List (List ℕ)) → new ≢ [] → path ≡ file_path file → all ≡ union (lines_at n.branch path) new
-    → with_entry n k (with_file n.branch path all) (Log file) new ≡ with_log n k file new
-log_entry n k file path [] all some here is = absurd (some refl)
-log_entry n k file path (line ∷ lines) all some here is =
-    ap (λ (w : List (List ℕ)). with_entry n k (with_file n.branch path w) (Log file) (line ∷ lines)) is
-    ∙ ap (λ (w : List ℕ). with_entry n k (merged_file n.branch w (line ∷ lines)) (Log file) (line ∷ lines)) here
+-- a file that is compacted has its current lines, and each other file has its own
+pub shrunk : (branch : Files) (path : List ℕ) (file : LogFile) (kind : LogKind) (lines all none : List (List ℕ)) → path ≡ file_path file → kind_of file ≡ Some kind → lines ≡ lines_at branch path → all ≡ current_lines kind lines → none ≡ []
+    → file_at (with_file branch path all) path ≡ Some all → Other branch path all
+    → (p : List ℕ) → lines_at (with_file branch path all) p ≡ lines_after p (lines_at branch p) (Compact file) none
+shrunk branch path file kind lines all none here of_kind at is empty there other p =
+    let now : all ≡ compact_lines (kind_of file) (lines_at branch path) = is ∙ ap (current_lines kind) at ∙ ap (λ (o : Option LogKind). compact_lines o (lines_at branch path)) (sym of_kind) in
+    file_changed branch path (file_path file) all (compact_lines (kind_of file) (lines_at branch path)) (sym here) there other now p
+    ∙ if_there (bytes_eq (file_path file) p) (compact_lines (kind_of file) (lines_at branch path)) (compact_lines (kind_of file) (lines_at branch p)) (lines_at branch p)
+    (λ equal. ap (λ (w : List ℕ). compact_lines (kind_of file) (lines_at branch w)) (here ∙ bytes_eq-true (file_path file) p equal))
 
-pub ok_log : {K : Type 0} (r : Result (Unit {0}) NodeRefused) (n m : NodeView K) (file : LogFile) (path : List ℕ) (new all : List (List ℕ)) → new ≢ [] → path ≡ file_path file → all ≡ union (lines_at n.branch path) new
-    → OnOk r (m ≡ with_entry n m.keeper (with_file n.branch path all) (Log file) new) → OnOk r (m ≡ with_log n m.keeper file new)
-ok_log (Ok x) n m file path new all some here is ok = ok ∙ log_entry n m.keeper file path new all some here is
-ok_log (Err e) n m file path new all some here is ok = tt
+pub ok_shrunk : {K : Type 0} (r : Result (Unit {0}) NodeRefused) (n m : NodeView K) (path : List ℕ) (file : LogFile) (kind : LogKind) (lines all none : List (List ℕ)) → path ≡ file_path file → kind_of file ≡ Some kind → lines ≡ lines_at n.branch path → all ≡ current_lines kind lines → none ≡ []
+    → OnOk r (m ≡ with_entry n m.keeper (with_file n.branch path all) (Compact file) none) → OnOk r (m ≡ with_entry n m.keeper (with_file n.branch (file_path file) (current n file)) (Compact file) [])
+ok_shrunk (Ok x) n m path file kind lines all none here of_kind at is empty ok =
+    ok ∙ ap (λ (w : List (List ℕ)). with_entry n m.keeper (with_file n.branch path all) (Compact file) w) empty
+    ∙ ap (λ (w : List (List ℕ)). with_entry n m.keeper (with_file n.branch path w) (Compact file) []) (is ∙ ap (current_lines kind) at ∙ ap (λ (o : Option LogKind). compact_lines o (lines_at n.branch path)) (sym of_kind))
+    ∙ ap (λ (w : List ℕ). with_entry n m.keeper (with_file n.branch w (compact_lines (kind_of file) (lines_at n.branch w))) (Compact file) []) here
+ok_shrunk (Err e) n m path file kind lines all none here of_kind at is empty ok = tt
 
--- the same, where the entry lists the new lines
-pub ok_listed : {K : Type 0} (r : Result (Unit {0}) NodeRefused) (n m : NodeView K) (file : LogFile) (path : List ℕ) (new listed all : List (List ℕ)) → listed ≡ new → new ≢ [] → path ≡ file_path file → all ≡ union (lines_at n.branch path) new
-    → OnOk r (m ≡ with_entry n m.keeper (with_file n.branch path all) (Log file) listed) → OnOk r (m ≡ with_log n m.keeper file new)
-ok_listed r n m file path new listed all same some here is ok =
-    ok_log r n m file path new all some here is (subst (λ (x : List (List ℕ)). OnOk r (m ≡ with_entry n m.keeper (with_file n.branch path all) (Log file) x)) same ok)
+-- the node with this entry, by the names of its file and its lines
+pub log_entry : {K : Type 0} (n : NodeView K) (k : K) (file : LogFile) (path : List ℕ) (new listed all : List (List ℕ)) → listed ≡ new → path ≡ file_path file → all ≡ union (lines_at n.branch path) new
+    → with_entry n k (with_file n.branch path all) (Log file) listed ≡ with_entry n k (merged_file n.branch (file_path file) new) (Log file) new
+log_entry n k file path new listed all same here is =
+    ap (λ (w : List (List ℕ)). with_entry n k (with_file n.branch path all) (Log file) w) same
+    ∙ ap (λ (w : List (List ℕ)). with_entry n k (with_file n.branch path w) (Log file) new) is
+    ∙ ap (λ (w : List ℕ). with_entry n k (merged_file n.branch w new) (Log file) new) here
+
+pub ok_entry : {K : Type 0} (r : Result (Unit {0}) NodeRefused) (n m : NodeView K) (file : LogFile) (path : List ℕ) (new listed all : List (List ℕ)) → listed ≡ new → path ≡ file_path file → all ≡ union (lines_at n.branch path) new
+    → OnOk r (m ≡ with_entry n m.keeper (with_file n.branch path all) (Log file) listed) → OnOk r (m ≡ with_entry n m.keeper (merged_file n.branch (file_path file) new) (Log file) new)
+ok_entry (Ok x) n m file path new listed all same here is ok = ok ∙ log_entry n m.keeper file path new listed all same here is
+ok_entry (Err e) n m file path new listed all same here is ok = tt
+
+-- where there are new lines, it is the node with these
+some_log : {K : Type 0} (n : NodeView K) (k : K) (file : LogFile) (new : List (List ℕ)) → new ≢ [] → with_entry n k (merged_file n.branch (file_path file) new) (Log file) new ≡ with_log n k file new
+some_log n k file [] some = absurd (some refl)
+some_log n k file (line ∷ lines) some = refl
+
+pub ok_some : {K : Type 0} (r : Result (Unit {0}) NodeRefused) (n m : NodeView K) (file : LogFile) (path : List ℕ) (new listed all : List (List ℕ)) → listed ≡ new → path ≡ file_path file → all ≡ union (lines_at n.branch path) new
+    → OnOk r (m ≡ with_entry n m.keeper (with_file n.branch path all) (Log file) listed) → OnOk r (new ≢ [] → m ≡ with_log n m.keeper file new)
+ok_some (Ok x) n m file path new listed all same here is ok = λ some. ok ∙ log_entry n m.keeper file path new listed all same here is ∙ some_log n m.keeper file new some
+ok_some (Err e) n m file path new listed all same here is ok = tt
 
 pub logged_listed : (branch : Files) (path : List ℕ) (file : LogFile) (new listed all : List (List ℕ)) → listed ≡ new → path ≡ file_path file → file_at (with_file branch path all) path ≡ Some all → Other branch path all
     → all ≡ union (lines_at branch path) new → (p : List ℕ) → lines_at (with_file branch path all) p ≡ lines_after p (lines_at branch p) (Log file) listed

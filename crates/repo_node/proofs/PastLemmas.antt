@@ -4,12 +4,12 @@ use Rattle.annex_base.specs.declared.kinds.Call.{Call}
 use Rattle.run_data.specs.declared.entry.Entry.{Entry}
 use Rattle.run_data.specs.declared.entry.EntryKind.{EntryKind}
 use Rattle.run_data.specs.declared.entry.EntryKind.TheVariants.{Fault}
-use Rattle.run_data.specs.declared.entry.By.TheVariants.{Script}
+use Rattle.run_data.specs.declared.entry.By.{By}
 use Rattle.repo_node.specs.declared.past.Past.{Past}
 use Rattle.repo_node.specs.declared.setup.Setup.{Setup}
 use Rattle.repo_node.specs.declared.refused.NodeRefused.{NodeRefused}
 use Rattle.repo_node.specs.declared.refused.NodeRefused.TheVariants as refusals
-use Rattle.repo_node.specs.Pasts.{AddsTo, FailsSo, SamePast}
+use Rattle.repo_node.specs.Pasts.{AddsTo, FailsFor, SamePast}
 
 abbrev entry_at : ℕ → ℕ → Setup → EntryKind → List (List ℕ) → Entry
 entry_at time count setup kind lines = record { time = time; count = count + 1; repo = Some setup.number; kind = kind; taken = None; sent = []; lines = lines }
@@ -36,8 +36,8 @@ same_after was ready now first second = record {
   outcomes = second.outcomes ∙ first.outcomes;
 }
 
-pub fails_after : (e : NodeRefused) (call : Call) (was ready now : Past) → SamePast was ready → FailsSo e call ready now → FailsSo e call was now
-fails_after refusals.Full call was ready now same fails = (same_after was ready now same fails.0, was.history.ok.0 ∙ sym (ap (λ (h : List Entry). length h) same.history) ∙ sym ready.history.ok.0 ∙ fails.1)
-fails_after refusals.StoreFault call was ready now same fails = adds_after (Fault call Script) [] was ready now same fails
-fails_after (refusals.BadBundle at) call was ready now same fails = absurd fails
-fails_after refusals.NoMemory call was ready now same fails = same_after was ready now same fails
+pub fails_after : (by : By) (e : NodeRefused) (call : Call) (was ready now : Past) → SamePast was ready → FailsFor by e call ready now → FailsFor by e call was now
+fails_after by refusals.Full call was ready now same fails = (same_after was ready now same fails.0, was.history.ok.0 ∙ sym (ap (λ (h : List Entry). length h) same.history) ∙ sym ready.history.ok.0 ∙ fails.1)
+fails_after by refusals.StoreFault call was ready now same fails = adds_after (Fault call by) [] was ready now same fails
+fails_after by (refusals.BadBundle at) call was ready now same fails = absurd fails
+fails_after by refusals.NoMemory call was ready now same fails = same_after was ready now same fails

@@ -14,8 +14,8 @@ use Rattle.run_data.specs.declared.row.Hold.{Hold}
 use Rattle.run_data.specs.declared.entry.Entry.{Entry}
 use Rattle.run_data.specs.declared.entry.EntryKind.{EntryKind}
 use Rattle.run_data.specs.declared.entry.EntryKind.TheVariants.{Gain, Log, Compact, Fault}
-use Rattle.run_data.specs.declared.entry.By.TheVariants.{Script}
-use Rattle.node_model.specs.AnyTime.{is_scripts}
+use Rattle.run_data.specs.declared.entry.By.{By}
+use Rattle.run_data.specs.declared.entry.By.TheVariants.{Script, Job as by_job, Peer}
 use Rattle.node_model.specs.After.{state_after, states}
 use Rattle.node_model.specs.Ends.{End, server_end}
 use Rattle.node_model.specs.Files.{lines_after}
@@ -28,7 +28,7 @@ use Rattle.node_model.specs.SetUp.{SetUp, served_connections}
 use Rattle.node_model.specs.State.{State}
 use Rattle.repo_node.specs.declared.setup.Setup.{Setup}
 use Rattle.repo_node.specs.Nodes.{IsState, state_of}
-use Rattle.repo_node.specs.Idle.{IsDirect, IsIdle, IsKept, IsOfFiles}
+use Rattle.repo_node.specs.Idle.{IsDirect, IsIdle, IsKept, IsOfFiles, may_fail}
 
 -- the state after one more entry
 pub state_more : (s : SetUp) (h : List Entry) (e : Entry) → state_of s (h ++ e ∷ []) ≡ state_after s (state_of s h) e
@@ -39,9 +39,11 @@ made time count r kind lines = record { time = time; count = count; repo = Some 
 
 -- ---- an idle repository stays so
 
-lost_none : (call : Call) → owed_without call Script [] ≡ []
-lost_none PutFile = refl
-lost_none _ = refl
+lost_none : (call : Call) (by : By) → owed_without call by [] ≡ []
+lost_none PutFile Script = refl
+lost_none PutFile (by_job job) = refl
+lost_none PutFile (Peer peer slot) = refl
+lost_none _ by = refl
 
 abbrev works_then : (s : SetUp) → State → Entry → List Work → List Work
 works_then s st e ws = works_after (record { present = st.present; bar = st.bar; ends = st.ends }) s.number ws e e.kind
@@ -53,7 +55,7 @@ pub idle_after : (s : SetUp) (st : State) (time count r : ℕ) (kind : EntryKind
 idle_after s st time count r (Gain Script size key) lines direct i = record { begun = i.begun; works = ap (works_then s st (made time count r (Gain Script size key) lines)) i.works; owed = ap (owed_then s st (made time count r (Gain Script size key) lines)) i.owed; sessions = i.sessions; ends = i.ends }
 idle_after s st time count r (Log file) lines direct i = record { begun = i.begun; works = ap (works_then s st (made time count r (Log file) lines)) i.works; owed = ap (owed_then s st (made time count r (Log file) lines)) i.owed; sessions = i.sessions; ends = i.ends }
 idle_after s st time count r (Compact file) lines direct i = record { begun = i.begun; works = ap (works_then s st (made time count r (Compact file) lines)) i.works; owed = ap (owed_then s st (made time count r (Compact file) lines)) i.owed; sessions = i.sessions; ends = i.ends }
-idle_after s st time count r (Fault call Script) lines direct i = record { begun = i.begun; works = ap (works_then s st (made time count r (Fault call Script) lines)) i.works; owed = ap (owed_then s st (made time count r (Fault call Script) lines)) i.owed ∙ lost_none call; sessions = i.sessions; ends = i.ends }
+idle_after s st time count r (Fault call by) lines direct i = record { begun = i.begun; works = ap (works_then s st (made time count r (Fault call by) lines)) i.works; owed = ap (owed_then s st (made time count r (Fault call by) lines)) i.owed ∙ lost_none call by; sessions = i.sessions; ends = i.ends }
 idle_after s st time count r _ lines direct i = absurd direct
 
 -- ---- an idle repository fills no key
@@ -75,36 +77,38 @@ holds_same : (was : List Hold) (kind : EntryKind) → IsDirect kind → holds_af
 holds_same was (Gain Script size key) direct = refl
 holds_same was (Log file) direct = refl
 holds_same was (Compact file) direct = refl
-holds_same was (Fault call Script) direct = by_call call direct
+holds_same was (Fault call by) direct = of_call call by direct
   where
-    by_call : (c : Call) → is_scripts c ≡ true → holds_after was (Fault c Script) ≡ was
-    by_call Unhold fits = absurd cc
-    by_call _ fits = refl
+    of_call : (c : Call) (b : By) → may_fail b c ≡ true → holds_after was (Fault c b) ≡ was
+    of_call Unhold Script fits = absurd cc
+    of_call Unhold (by_job job) fits = absurd cc
+    of_call Unhold (Peer peer slot) fits = absurd cc
+    of_call _ b fits = refl
 holds_same was _ direct = absurd direct
 
 bar_same : (key : List ℕ) (was : Option ℕ) (kind : EntryKind) → IsDirect kind → bar_after key was kind ≡ was
 bar_same key was (Gain Script size k) direct = refl
 bar_same key was (Log file) direct = refl
 bar_same key was (Compact file) direct = refl
-bar_same key was (Fault call Script) direct = refl
+bar_same key was (Fault call by) direct = refl
 bar_same key was _ direct = absurd direct
 
 pub direct : (kind : EntryKind) → IsOfFiles kind → IsDirect kind
 direct (Log file) h = tt
 direct (Compact file) h = tt
-direct (Fault call Script) h = h
+direct (Fault call by) h = h
 direct _ h = absurd h
 
 content_same : (key : List ℕ) (was : Option ℕ) (kind : EntryKind) → IsOfFiles kind → content_after key was kind ≡ was
 content_same key was (Log file) h = refl
 content_same key was (Compact file) h = refl
-content_same key was (Fault call Script) h = refl
+content_same key was (Fault call by) h = refl
 content_same key was _ h = absurd h
 
 present_same : (key : List ℕ) (was : Bool) (kind : EntryKind) → IsOfFiles kind → present_after key was kind ≡ was
 present_same key was (Log file) h = refl
 present_same key was (Compact file) h = refl
-present_same key was (Fault call Script) h = refl
+present_same key was (Fault call by) h = refl
 present_same key was _ h = absurd h
 
 -- ---- the state with one more entry
@@ -147,9 +151,11 @@ kept_more setup h rows branch branch' known known' time count r kind lines d kep
       (idle_after s (state_of s h) time count r kind lines d (kept.idle s fits));
 }
 
--- with a fault, nothing else changes
-pub lines_stay : (p : List ℕ) (was lines : List (List ℕ)) (call : Call) → lines_after p was (Fault call Script) lines ≡ was
-lines_stay p was lines call = refl
+-- the call that writes a file may fail for whomever it is made
+pub put_may_fail : (by : By) → may_fail by PutFile ≡ true
+put_may_fail Script = refl
+put_may_fail (by_job job) = refl
+put_may_fail (Peer peer slot) = refl
 
 -- what is kept of one store is kept of one with the same contents
 pub kept_same : (setup : Setup) (h : List Entry) (rows : Rows) (branch : Files) (known known' : Option Contents) → known' ≡ known → IsKept setup h rows branch known → IsKept setup h rows branch known'

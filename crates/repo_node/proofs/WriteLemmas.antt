@@ -12,22 +12,22 @@ use Rattle.union_merge.specs.LineSet.{text_of}
 use Rattle.run_data.specs.declared.entry.Entry.{Entry}
 use Rattle.run_data.specs.declared.entry.EntryKind.{EntryKind}
 use Rattle.run_data.specs.declared.entry.EntryKind.TheVariants.{Fault}
-use Rattle.run_data.specs.declared.entry.By.TheVariants.{Script}
+use Rattle.run_data.specs.declared.entry.By.{By}
 use Rattle.node_model.specs.Files.{lines_after}
 use Rattle.repo_node.specs.declared.past.Past.{Past}
 use Rattle.repo_node.specs.declared.refused.NodeRefused.{NodeRefused}
 use Rattle.repo_node.specs.declared.refused.NodeRefused.TheVariants as refusals
 use Rattle.repo_node.specs.declared.setup.Ended.{Ended}
 use Rattle.repo_node.specs.declared.setup.Setup.{Setup}
-use Rattle.repo_node.specs.Idle.{IsKept, IsOfFiles}
+use Rattle.repo_node.specs.Idle.{IsKept, IsOfFiles, may_fail}
 use Rattle.repo_node.specs.Nodes.{HasFiles, NodeView, with_entry}
-use Rattle.repo_node.specs.Pasts.{AddsTo, FailsSo, SamePast}
-use Rattle.repo_node.specs.Refusals.{RefusesSo}
-use Rattle.repo_node.proofs.StateLemmas.{direct, files_move, kept_more}
+use Rattle.repo_node.specs.Pasts.{AddsTo, FailsFor, SamePast}
+use Rattle.repo_node.specs.Refusals.{RefusesFor}
+use Rattle.repo_node.proofs.StateLemmas.{direct, files_move, kept_more, put_may_fail}
 
 -- ---- the state
 
-kept_equal : (s s' : Setup) (h h' : List Entry) (rows : Rows) (b b' : Files) (k : Option Contents) → s' ≡ s → h' ≡ h → b' ≡ b → IsKept s h rows b k → IsKept s' h' rows b' k
+pub kept_equal : (s s' : Setup) (h h' : List Entry) (rows : Rows) (b b' : Files) (k : Option Contents) → s' ≡ s → h' ≡ h → b' ≡ b → IsKept s h rows b k → IsKept s' h' rows b' k
 kept_equal s s' h h' rows b b' k setup history branch kept =
     subst (λ (x : Setup). IsKept x h' rows b' k) (sym setup) (subst (λ (x : List Entry). IsKept s x rows b' k) (sym history) (subst (λ (x : Files). IsKept s h rows x k) (sym branch) kept))
 
@@ -38,26 +38,26 @@ kept_adds was now rows branch branch' all known known' kind lines of_files here 
     kept_equal was.setup now.setup _ now.history.items rows all branch' known' adds.setup adds.history is
     (kept_more was.setup was.history.items rows branch all known known' was.time (was.count + 1) was.setup.number kind lines (direct kind of_files) kept here (files_move kind known known' of_files same))
 
-kept_same : (was now : Past) (rows : Rows) (branch branch' : Files) (known known' : Option Contents) → SamePast was now → branch' ≡ branch → known' ≡ known
+pub kept_past : (was now : Past) (rows : Rows) (branch branch' : Files) (known known' : Option Contents) → SamePast was now → branch' ≡ branch → known' ≡ known
     → IsKept was.setup was.history.items rows branch known → IsKept now.setup now.history.items rows branch' known'
-kept_same was now rows branch branch' known known' same is contents kept =
+kept_past was now rows branch branch' known known' same is contents kept =
     kept_equal was.setup now.setup was.history.items now.history.items rows branch branch' known' same.setup same.history is (subst (λ (k : Option Contents). IsKept was.setup was.history.items rows branch k) (sym contents) kept)
 
-pub kept_failed : (e : NodeRefused) (was now : Past) (rows : Rows) (branch branch' : Files) (known known' : Option Contents)
-    → FailsSo e PutFile was now → branch' ≡ branch → known' ≡ known
+pub kept_failed : (by : By) (e : NodeRefused) (call : Call) (was now : Past) (rows : Rows) (branch branch' : Files) (known known' : Option Contents)
+    → may_fail by call ≡ true → FailsFor by e call was now → branch' ≡ branch → known' ≡ known
     → IsKept was.setup was.history.items rows branch known → IsKept now.setup now.history.items rows branch' known'
-kept_failed refusals.Full was now rows branch branch' known known' fails is same kept = kept_same was now rows branch branch' known known' fails.0 is same kept
-kept_failed refusals.StoreFault was now rows branch branch' known known' fails is same kept =
-    kept_adds was now rows branch branch' branch known known' (Fault PutFile Script) [] refl (λ p. refl) is fails same kept
-kept_failed (refusals.BadBundle at) was now rows branch branch' known known' fails is same kept = absurd fails
-kept_failed refusals.NoMemory was now rows branch branch' known known' fails is same kept = kept_same was now rows branch branch' known known' fails is same kept
+kept_failed by refusals.Full call was now rows branch branch' known known' may fails is same kept = kept_past was now rows branch branch' known known' fails.0 is same kept
+kept_failed by refusals.StoreFault call was now rows branch branch' known known' may fails is same kept =
+    kept_adds was now rows branch branch' branch known known' (Fault call by) [] may (λ p. refl) is fails same kept
+kept_failed by (refusals.BadBundle at) call was now rows branch branch' known known' may fails is same kept = absurd fails
+kept_failed by refusals.NoMemory call was now rows branch branch' known known' may fails is same kept = kept_past was now rows branch branch' known known' fails is same kept
 
-pub kept_written : (r : Result (Unit {0}) NodeRefused) (was now : Past) (rows : Rows) (branch branch' all : Files) (known known' : Option Contents) (kind : EntryKind) (lines : List (List ℕ))
+pub kept_written : (by : By) (r : Result (Unit {0}) NodeRefused) (was now : Past) (rows : Rows) (branch branch' all : Files) (known known' : Option Contents) (kind : EntryKind) (lines : List (List ℕ))
     → IsOfFiles kind → ((p : List ℕ) → lines_at all p ≡ lines_after p (lines_at branch p) kind lines)
-    → OnOk r (branch' ≡ all) → OnOk r (AddsTo kind lines was now) → IfErr r (λ e. FailsSo e PutFile was now) → OnErr r (branch' ≡ branch) → known' ≡ known
+    → OnOk r (branch' ≡ all) → OnOk r (AddsTo kind lines was now) → IfErr r (λ e. FailsFor by e PutFile was now) → OnErr r (branch' ≡ branch) → known' ≡ known
     → IsKept was.setup was.history.items rows branch known → IsKept now.setup now.history.items rows branch' known'
-kept_written (Ok x) was now rows branch branch' all known known' kind lines of_files here is adds fails stays same kept = kept_adds was now rows branch branch' all known known' kind lines of_files here is adds same kept
-kept_written (Err e) was now rows branch branch' all known known' kind lines of_files here is adds fails stays same kept = kept_failed e was now rows branch branch' known known' fails stays same kept
+kept_written by (Ok x) was now rows branch branch' all known known' kind lines of_files here is adds fails stays same kept = kept_adds was now rows branch branch' all known known' kind lines of_files here is adds same kept
+kept_written by (Err e) was now rows branch branch' all known known' kind lines of_files here is adds fails stays same kept = kept_failed by e PutFile was now rows branch branch' known known' (put_may_fail by) fails stays same kept
 
 -- ---- the files of the store
 
@@ -112,12 +112,12 @@ pub node_same : {K : Type 0} (k k' : K) (t : Rows) (b b' : Files) (was now : Pas
 node_same k k' t b b' was now is same =
     node_parts k' t b b' was.setup now.setup was.time now.time was.count now.count was.history.items now.history.items was.outcomes.items now.outcomes.items is same.setup same.time same.count same.history same.outcomes
 
-pub node_failed : {K : Type 0} (e : NodeRefused) (call : Call) (k k' : K) (t : Rows) (b b' : Files) (was now : Past) → b' ≡ b → FailsSo e call was now
-    → RefusesSo e call (node_of k t b was) (node_of k' t b' now)
-node_failed refusals.Full call k k' t b b' was now is fails = (node_same k k' t b b' was now is fails.0, sym was.history.ok.0 ∙ fails.1)
-node_failed refusals.StoreFault call k k' t b b' was now is fails = node_adds k k' t b b' b was now (Fault call Script) [] is fails
-node_failed (refusals.BadBundle at) call k k' t b b' was now is fails = absurd fails
-node_failed refusals.NoMemory call k k' t b b' was now is fails = node_same k k' t b b' was now is fails
+pub node_failed : {K : Type 0} (by : By) (e : NodeRefused) (call : Call) (k k' : K) (t : Rows) (b b' : Files) (was now : Past) → b' ≡ b → FailsFor by e call was now
+    → RefusesFor by e call (node_of k t b was) (node_of k' t b' now)
+node_failed by refusals.Full call k k' t b b' was now is fails = (node_same k k' t b b' was now is fails.0, sym was.history.ok.0 ∙ fails.1)
+node_failed by refusals.StoreFault call k k' t b b' was now is fails = node_adds k k' t b b' b was now (Fault call by) [] is fails
+node_failed by (refusals.BadBundle at) call k k' t b b' was now is fails = absurd fails
+node_failed by refusals.NoMemory call k k' t b b' was now is fails = node_same k k' t b b' was now is fails
 
 pub node_written : {K : Type 0} (r : Result (Unit {0}) NodeRefused) (k k' : K) (t : Rows) (b b' all : Files) (was now : Past) (kind : EntryKind) (lines : List (List ℕ))
     → OnOk r (b' ≡ all) → OnOk r (AddsTo kind lines was now)
@@ -125,11 +125,11 @@ pub node_written : {K : Type 0} (r : Result (Unit {0}) NodeRefused) (k k' : K) (
 node_written (Ok x) k k' t b b' all was now kind lines is adds = node_adds k k' t b b' all was now kind lines is adds
 node_written (Err e) k k' t b b' all was now kind lines is adds = tt
 
-pub node_refused : {K : Type 0} (r : Result (Unit {0}) NodeRefused) (call : Call) (k k' : K) (t : Rows) (b b' : Files) (was now : Past)
-    → OnErr r (b' ≡ b) → IfErr r (λ e. FailsSo e call was now)
-    → IfErr r (λ e. RefusesSo e call (node_of k t b was) (node_of k' t b' now))
-node_refused (Ok x) call k k' t b b' was now is fails = tt
-node_refused (Err e) call k k' t b b' was now is fails = node_failed e call k k' t b b' was now is fails
+pub node_refused : {K : Type 0} (by : By) (r : Result (Unit {0}) NodeRefused) (call : Call) (k k' : K) (t : Rows) (b b' : Files) (was now : Past)
+    → OnErr r (b' ≡ b) → IfErr r (λ e. FailsFor by e call was now)
+    → IfErr r (λ e. RefusesFor by e call (node_of k t b was) (node_of k' t b' now))
+node_refused by (Ok x) call k k' t b b' was now is fails = tt
+node_refused by (Err e) call k k' t b b' was now is fails = node_failed by e call k k' t b b' was now is fails
 
 -- the same, of the node as it is seen
 pub seen_written : {K : Type 0} (r : Result (Unit {0}) NodeRefused) (k k' : K) (t : Rows) (b b' : Files) (was now : Past) (n : NodeView K) (path : List ℕ) (all : List (List ℕ)) (kind : EntryKind) (lines : List (List ℕ))
@@ -139,8 +139,8 @@ seen_written {K} r k k' t b b' was now n path all kind lines view is adds =
     subst (λ (m : NodeView K). OnOk r (node_of k' t b' now ≡ with_entry m k' (with_file m.branch path all) kind lines)) view
     (node_written r k k' t b b' (with_file b path all) was now kind lines is adds)
 
-pub seen_refused : {K : Type 0} (r : Result (Unit {0}) NodeRefused) (call : Call) (k k' : K) (t : Rows) (b b' : Files) (was now : Past) (n : NodeView K)
-    → node_of k t b was ≡ n → OnErr r (b' ≡ b) → IfErr r (λ e. FailsSo e call was now)
-    → IfErr r (λ e. RefusesSo e call n (node_of k' t b' now))
-seen_refused {K} r call k k' t b b' was now n view is fails =
-    subst (λ (m : NodeView K). IfErr r (λ e. RefusesSo e call m (node_of k' t b' now))) view (node_refused r call k k' t b b' was now is fails)
+pub seen_refused : {K : Type 0} (by : By) (r : Result (Unit {0}) NodeRefused) (call : Call) (k k' : K) (t : Rows) (b b' : Files) (was now : Past) (n : NodeView K)
+    → node_of k t b was ≡ n → OnErr r (b' ≡ b) → IfErr r (λ e. FailsFor by e call was now)
+    → IfErr r (λ e. RefusesFor by e call n (node_of k' t b' now))
+seen_refused {K} by r call k k' t b b' was now n view is fails =
+    subst (λ (m : NodeView K). IfErr r (λ e. RefusesFor by e call m (node_of k' t b' now))) view (node_refused by r call k k' t b b' was now is fails)

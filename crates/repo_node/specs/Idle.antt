@@ -1,10 +1,13 @@
 -- A node that has no job, no session and no owed line; for private contracts.
-use Rattle.std.specs.Prelude.{◌≡◌, true, List, [], Option}
+use Rattle.std.specs.Prelude.{◌≡◌, Bool, true, false, List, [], Option}
 use Rattle.object_store.specs.Stores.{Contents}
 use Rattle.content_lock.specs.Rows.{Rows}
 use Rattle.run_data.specs.declared.entry.Entry.{Entry}
 use Rattle.run_data.specs.declared.entry.EntryKind.{EntryKind}
 use Rattle.run_data.specs.declared.entry.EntryKind.TheVariants.{Gain, Log, Compact, Fault}
+use Rattle.annex_base.specs.declared.kinds.Call.{Call}
+use Rattle.annex_base.specs.declared.kinds.Call.TheVariants.{PutFile}
+use Rattle.run_data.specs.declared.entry.By.{By}
 use Rattle.run_data.specs.declared.entry.By.TheVariants.{Script}
 use Rattle.union_merge.specs.Branch.{Files}
 use Rattle.node_model.specs.AnyTime.{is_scripts}
@@ -27,17 +30,23 @@ pub record IsKept (setup : Setup) (history : List Entry) (rows : Rows) (branch :
   pub state : (s : SetUp) → Fits setup s → IsState s rows branch contents (state_of s history)
   pub idle : (s : SetUp) → Fits setup s → IsIdle (state_of s history)
 
--- what a script does to a repository beside its jobs
+-- the calls of the store that may fail in a step of the script, and where a line is written that is owed
+abbrev pub may_fail : By → Call → Bool
+may_fail Script call = is_scripts call
+may_fail by PutFile = true
+may_fail by call = false
+
+-- what a script does to a repository beside its jobs, and the lines that are owed
 abbrev pub IsDirect : EntryKind → Type 0
 IsDirect (Gain Script size key) = Unit {0}
 IsDirect (Log file) = Unit {0}
 IsDirect (Compact file) = Unit {0}
-IsDirect (Fault call Script) = is_scripts call ≡ true
+IsDirect (Fault call by) = may_fail by call ≡ true
 IsDirect _ = ⊥
 
 -- of that, what changes no content
 abbrev pub IsOfFiles : EntryKind → Type 0
 IsOfFiles (Log file) = Unit {0}
 IsOfFiles (Compact file) = Unit {0}
-IsOfFiles (Fault call Script) = is_scripts call ≡ true
+IsOfFiles (Fault call by) = may_fail by call ≡ true
 IsOfFiles _ = ⊥

@@ -1,10 +1,12 @@
 -- The past of a node and its next entries; for private contracts.
-use Rattle.std.specs.Prelude.{◌≡◌, ℕ, ◌+◌, ◌<◌, ◌^◌, vec_len, vec_capacity, List, [], ◌∷◌, ◌++◌, Some, None}
+use Rattle.std.specs.Prelude.{◌≡◌, ℕ, ◌+◌, ◌<◌, ◌^◌, vec_len, vec_capacity, true, List, [], ◌∷◌, ◌++◌, Some, None}
 use Rattle.annex_base.specs.declared.kinds.Call.{Call}
 use Rattle.run_data.specs.declared.entry.Entry.{Entry}
 use Rattle.run_data.specs.declared.entry.EntryKind.{EntryKind}
 use Rattle.run_data.specs.declared.entry.EntryKind.TheVariants.{Fault}
+use Rattle.run_data.specs.declared.entry.By.{By}
 use Rattle.run_data.specs.declared.entry.By.TheVariants.{Script}
+use Rattle.node_model.specs.AnyTime.{is_scripts}
 use Rattle.repo_node.specs.declared.past.Past.{Past}
 use Rattle.repo_node.specs.declared.refused.NodeRefused.{NodeRefused}
 use Rattle.repo_node.specs.declared.refused.NodeRefused.TheVariants as refusals
@@ -35,9 +37,15 @@ pub record AddsTo (kind : EntryKind) (lines : List (List ℕ)) (was now : Past) 
   pub history : now.history.items ≡ was.history.items ++ entry_of was kind lines ∷ []
   pub outcomes : now.outcomes.items ≡ was.outcomes.items
 
--- a step that makes this call of the store was refused
-abbrev pub FailsSo : NodeRefused → Call → Past → Past → Type 0
-FailsSo refusals.Full call was now = SamePast was now × (vec_len was.history ≡ most_entries)
-FailsSo refusals.StoreFault call was now = AddsTo (Fault call Script) [] was now
-FailsSo (refusals.BadBundle at) call was now = ⊥
-FailsSo refusals.NoMemory call was now = SamePast was now
+-- a step, done for the script, a job or a peer, that makes this call of the store was refused
+abbrev pub FailsFor : By → NodeRefused → Call → Past → Past → Type 0
+FailsFor by refusals.Full call was now = SamePast was now × (vec_len was.history ≡ most_entries)
+FailsFor by refusals.StoreFault call was now = AddsTo (Fault call by) [] was now
+FailsFor by (refusals.BadBundle at) call was now = ⊥
+FailsFor by refusals.NoMemory call was now = SamePast was now
+
+-- a call that a step of the script makes was refused
+pub record FailsAtScripts (e : NodeRefused) (was now : Past) : Type 0 where
+  pub call : Call
+  pub scripts : is_scripts call ≡ true
+  pub fails : FailsFor Script e call was now

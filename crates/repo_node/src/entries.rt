@@ -1,8 +1,9 @@
 //! The next entries of a node.
-ghost use Rattle.std.specs.Prelude.{◌≡◌, ℕ, ◌+◌, ◌<◌, ◌≤◌, ◌^◌, [], max, IfErr, IsErrOf, OnOk};
+ghost use Rattle.std.specs.Prelude.{◌≡◌, ℕ, ◌+◌, ◌<◌, ◌≤◌, ◌^◌, [], Some, length, max, slice_get, IfErr, IsErrOf, OnOk};
 ghost use Rattle.annex_base.specs.declared.kinds.Call.{Call};
 ghost use Rattle.object_store.specs.declared.keeper.KeeperFault.TheVariants as faults;
-ghost use Rattle.repo_node.specs.Pasts.{AddsTo, FailsSo, IsReady, SamePast};
+ghost use Rattle.run_data.specs.declared.entry.By.{By};
+ghost use Rattle.repo_node.specs.Pasts.{AddsTo, FailsFor, IsReady, SamePast};
 
 use crate::past::Past;
 use crate::refused::NodeRefused;
@@ -20,6 +21,8 @@ const COUNT_LIMIT: u64 = 4_611_686_018_427_387_904;
 
 impl Past {
     pub(crate) fn new(alloc: Global, setup: Setup) -> Past
+        requires own { slice_get setup.repos setup.number ≡ Some setup.id }
+        requires offset { setup.offset ≤ 100000000000 }
         ensures setup { result.setup ≡ setup }
         ensures time { result.time ≡ 0 }
         ensures count { result.count ≡ 0 }
@@ -34,6 +37,14 @@ impl Past {
             history: Vec::new(alloc),
             outcomes: Vec::new(alloc),
         }
+    }
+
+    /// The place of its repository among those of the run.
+    pub(crate) fn number(&self) -> u32
+        ensures value { result ≡ self.now.setup.number }
+        ensures there { result < length self.now.setup.repos }
+    {
+        self.setup.number
     }
 
     pub(crate) fn advance(&mut self, time: u64, count: u64)
@@ -53,7 +64,7 @@ impl Past {
     pub(crate) fn ready(&mut self) -> Result<(), NodeRefused>
         ensures ready { OnOk result (IsReady self.new) }
         ensures same { SamePast self.old self.new }
-        ensures err { IfErr result (λ e. (call : Call) → FailsSo e call self.old self.new) }
+        ensures err { IfErr result (λ e. (by : By) (call : Call) → FailsFor by e call self.old self.new) }
         ensures no_fault { IsErrOf result NodeRefused.StoreFault → ⊥ }
     {
         if self.history.len() >= MOST_ENTRIES {
@@ -84,23 +95,17 @@ impl Past {
         self.count += 1;
     }
 
-    /// A call of the store failed in a step of the script: where it wasn't for want of memory, an entry says so.
-    pub(crate) fn fail(&mut self, fault: KeeperFault, call: Call) -> NodeRefused
+    /// A call of the store failed in a step for the script, a job or a peer: where it wasn't for want of memory, an entry says so.
+    pub(crate) fn fail(&mut self, fault: KeeperFault, call: Call, by: By) -> NodeRefused
         requires { IsReady self.old }
-        ensures entry { FailsSo result call self.old self.new }
+        ensures entry { FailsFor by result call self.old self.new }
         ensures failed { result ≡ NodeRefused.StoreFault → fault ≡ faults.Failed }
     {
         match fault {
             KeeperFault::NoMemory => NodeRefused::NoMemory,
             KeeperFault::Failed => {
                 let lines = Items::new(self.alloc);
-                self.add(
-                    EntryKind::Fault {
-                        call,
-                        by: By::Script,
-                    },
-                    lines,
-                );
+                self.add(EntryKind::Fault { call, by }, lines);
                 NodeRefused::StoreFault
             }
         }

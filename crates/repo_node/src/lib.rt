@@ -1,12 +1,17 @@
 //! A repository that knows its own state and the frames that reach it, and nothing else: what a script does to it directly.
 #![tactic(auto)]
 
+mod compacting;
 mod entries;
 mod logs;
+mod merging;
 mod node;
+mod owed;
 mod past;
+mod placing;
 mod refused;
 mod setup;
+mod stamped;
 mod writing;
 
 pub use node::Node;

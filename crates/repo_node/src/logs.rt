@@ -3,16 +3,18 @@ ghost use Rattle.std.specs.Prelude.{◌≡◌, ◌≤◌, ◌≢◌, ℕ, List, 
 ghost use Rattle.annex_base.specs.Causes.{Rose};
 ghost use Rattle.annex_base.specs.declared.kinds.Call.TheVariants as calls;
 ghost use Rattle.run_data.specs.Files.{HasPath, file_of, file_path};
-ghost use Rattle.union_merge.specs.Branch.{lines_at};
+ghost use Rattle.run_data.specs.declared.entry.EntryKind.TheVariants as kinds;
+ghost use Rattle.union_merge.specs.Branch.{lines_at, merged_file};
 ghost use Rattle.union_merge.specs.LineSet.{IsLine, difference, union};
 ghost use Rattle.repo_node.specs.Logs.{with_lines, with_log};
-ghost use Rattle.repo_node.specs.Refusals.{RefusesSo};
+ghost use Rattle.repo_node.specs.Nodes.{with_entry};
+ghost use Rattle.repo_node.specs.Refusals.{RefusesFor, RefusesSo};
 
 use crate::node::Node;
 use crate::refused::NodeRefused;
 use annex_base::{Items, Line, NoMemory};
 use object_store::Keeper;
-use run_data::{EntryKind, LogFile};
+use run_data::{By, EntryKind, LogFile};
 use std::alloc::Global;
 use union_merge::{Branch, LineSet, files_are_changed_alone};
 
@@ -52,11 +54,18 @@ fn all_lines(
 fn listed(alloc: Global, lines: &[Line]) -> Result<Items<Line>, NoMemory>
     ensures { IfOk result (λ items. items ≡ lines.now) }
 {
-    let mut items = Items::new(alloc);
+    Ok(Items::from_vec(copies(alloc, lines)?))
+}
+
+/// Copies of the lines.
+pub(crate) fn copies(alloc: Global, lines: &[Line]) -> Result<Vec<Line>, NoMemory>
+    ensures { IfOk result (λ v. v.items ≡ lines.now) }
+{
+    let mut all = Vec::new(alloc);
     for line in lines {
-        items.push(line.clone()?)?;
+        all.push(line.clone()?)?;
     }
-    Ok(items)
+    Ok(all)
 }
 
 /// The set of one line.
@@ -70,17 +79,23 @@ pub(crate) fn set_of_line(alloc: Global, line: &[u8]) -> Result<LineSet, NoMemor
 }
 
 impl<K: Keeper> Node<K> {
-    fn allocator(&self) -> Global {
+    pub(crate) fn allocator(&self) -> Global {
         self.past.alloc
     }
 
-    /// Adds these lines, which the file lacks, by one log entry.
-    fn log(&mut self, file: LogFile, path: &[u8], new: &LineSet) -> Result<(), NodeRefused>
+    /// Adds these lines, which the file lacks, by one log entry, which stands also without a line.
+    pub(crate) fn log(
+        &mut self,
+        file: LogFile,
+        path: &[u8],
+        new: &LineSet,
+        by: By,
+    ) -> Result<(), NodeRefused>
         requires line { IsLine path.now }
         requires here { path.now ≡ file_path file }
-        requires some { new.now ≢ [] }
-        ensures ok { OnOk result (self.new ≡ with_log self.old self.new.keeper file new.now) }
-        ensures err { IfErr result (λ e. RefusesSo e calls.PutFile self.old self.new) }
+        ensures ok { OnOk result (self.new ≡ with_entry self.old self.new.keeper (merged_file self.old.branch (file_path file) new.now) (kinds.Log file) new.now) }
+        ensures some { OnOk result (new.now ≢ [] → self.new ≡ with_log self.old self.new.keeper file new.now) }
+        ensures err { IfErr result (λ e. RefusesFor by e calls.PutFile self.old self.new) }
         ensures contents { K.contents self.new.keeper ≡ K.contents self.old.keeper }
         ensures parts { K.parts self.new.keeper ≡ K.parts self.old.keeper }
         ensures later { K.faults self.old.keeper ≤ K.faults self.new.keeper }
@@ -91,7 +106,7 @@ impl<K: Keeper> Node<K> {
         let alloc = self.allocator();
         let all = all_lines(alloc, self.branch(), path, new)?;
         let lines = listed(alloc, new.lines())?;
-        self.write(path, all, EntryKind::Log { file }, lines)
+        self.write(path, all, EntryKind::Log { file }, lines, by)
     }
 
     /// Adds those of these lines that the file lacks, by one log entry; where it lacks none, nothing is done.
@@ -110,7 +125,7 @@ impl<K: Keeper> Node<K> {
         if new.lines().is_empty() {
             return Ok(());
         }
-        self.log(file, path.bytes(), &new)
+        self.log(file, path.bytes(), &new, By::Script)
     }
 
     /// Adds a line to the file of this path, by one log entry; where the file has it, nothing is done (git-annex internals:

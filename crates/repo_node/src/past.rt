@@ -1,5 +1,5 @@
 //! What a node has done, and what its next entry is made of.
-ghost use Rattle.std.specs.Prelude.{◌<◌, ◌≤◌, ◌^◌, vec_len};
+ghost use Rattle.std.specs.Prelude.{◌≡◌, ◌<◌, ◌≤◌, ◌^◌, Some, slice_get, vec_len};
 
 use crate::setup::{Ended, Setup};
 use run_data::Entry;
@@ -17,4 +17,6 @@ pub(crate) struct Past {
     ghost few: { vec_len history ≤ 100000 },
     ghost counted: { count < 2 ^ 62 },
     ghost early: { time ≤ 1000000000000 },
+    ghost near: { setup.offset ≤ 100000000000 },
+    ghost own: { slice_get setup.repos setup.number ≡ Some setup.id },
 }

@@ -3,13 +3,14 @@ ghost use Rattle.std.specs.Prelude.{◌≡◌, ◌≤◌, ℕ, List, Some, IfOk,
 ghost use Rattle.annex_base.specs.Causes.{Rose};
 ghost use Rattle.annex_base.specs.declared.kinds.Call.TheVariants as calls;
 ghost use Rattle.object_store.specs.Stores.{with_at};
+ghost use Rattle.run_data.specs.declared.entry.By.{By};
 ghost use Rattle.union_merge.specs.Branch.{file_at, lines_at, with_back, with_file};
 ghost use Rattle.union_merge.specs.LineSet.{IsLine, text_of};
 ghost use Rattle.node_model.specs.Files.{lines_after};
 ghost use Rattle.repo_node.specs.Idle.{IsOfFiles};
 ghost use Rattle.repo_node.specs.Nodes.{with_entry};
-ghost use Rattle.repo_node.specs.Pasts.{AddsTo, FailsSo, IsReady, SamePast};
-ghost use Rattle.repo_node.specs.Refusals.{RefusesSo};
+ghost use Rattle.repo_node.specs.Pasts.{AddsTo, FailsFor, IsReady, SamePast};
+ghost use Rattle.repo_node.specs.Refusals.{RefusesFor};
 ghost use Rattle.repo_node.specs.Stored.{LeavesRest};
 
 use crate::node::Node;
@@ -17,7 +18,7 @@ use crate::past::Past;
 use crate::refused::NodeRefused;
 use annex_base::{Call, Items, Line, NoMemory};
 use object_store::Keeper;
-use run_data::EntryKind;
+use run_data::{By, EntryKind};
 use union_merge::{Branch, LineSet, files_are_changed_alone};
 
 /// What a file of a branch has, as a copy.
@@ -54,11 +55,12 @@ fn put<K: Keeper>(
     bytes: &[u8],
     kind: EntryKind,
     lines: Items<Line>,
+    by: By,
 ) -> Result<(), NodeRefused>
     requires { IsReady past.old }
     ensures past { OnOk result (AddsTo kind lines past.old past.new) }
     ensures files { OnOk result (K.files keeper.new ≡ option_map (λ f. with_at f path.now (Some bytes.now)) (K.files keeper.old)) }
-    ensures err { IfErr result (λ e. FailsSo e calls.PutFile past.old past.new) }
+    ensures err { IfErr result (λ e. FailsFor by e calls.PutFile past.old past.new) }
     ensures err_files { OnErr result (K.files keeper.new ≡ K.files keeper.old) }
     ensures rest { LeavesRest (K.contents keeper.old) (K.contents keeper.new) (K.parts keeper.old) (K.parts keeper.new) (K.records keeper.old) (K.records keeper.new) }
     ensures later { K.faults keeper.old ≤ K.faults keeper.new }
@@ -69,7 +71,7 @@ fn put<K: Keeper>(
             past.add(kind, lines);
             Ok(())
         }
-        Err(fault) => Err(past.fail(fault, Call::PutFile)),
+        Err(fault) => Err(past.fail(fault, Call::PutFile, by)),
     }
 }
 
@@ -94,7 +96,7 @@ fn drafted(
     ensures branch { OnOk result (branch.new ≡ with_file branch.old path.now all) }
     ensures there { OnOk result (IsSome (file_at branch.new path.now)) }
     ensures back { IfOk result (λ d. with_back branch.new path.now d.was ≡ branch.old) }
-    ensures err { IfErr result (λ e. FailsSo e calls.PutFile past.old past.new) }
+    ensures err { (by : By) → IfErr result (λ e. FailsFor by e calls.PutFile past.old past.new) }
     ensures err_branch { OnErr result (branch.new ≡ branch.old) }
     ensures no_fault { IsErrOf result NodeRefused.StoreFault → ⊥ }
 {
@@ -114,12 +116,13 @@ fn write_file<K: Keeper>(
     all: LineSet,
     kind: EntryKind,
     lines: Items<Line>,
+    by: By,
 ) -> Result<(), NodeRefused>
     requires { IsLine path.now }
     ensures branch { OnOk result (branch.new ≡ with_file branch.old path.now all) }
     ensures past { OnOk result (AddsTo kind lines past.old past.new) }
     ensures files { OnOk result (K.files keeper.new ≡ option_map (λ f. with_at f path.now (Some (text_of all))) (K.files keeper.old)) }
-    ensures err { IfErr result (λ e. FailsSo e calls.PutFile past.old past.new) }
+    ensures err { IfErr result (λ e. FailsFor by e calls.PutFile past.old past.new) }
     ensures err_branch { OnErr result (branch.new ≡ branch.old) }
     ensures err_files { OnErr result (K.files keeper.new ≡ K.files keeper.old) }
     ensures rest { LeavesRest (K.contents keeper.old) (K.contents keeper.new) (K.parts keeper.old) (K.parts keeper.new) (K.records keeper.old) (K.records keeper.new) }
@@ -127,7 +130,7 @@ fn write_file<K: Keeper>(
     ensures cause { IsErrOf result NodeRefused.StoreFault → Rose (K.faults keeper.old) (K.faults keeper.new) }
 {
     let draft = drafted(branch, past, path, all)?;
-    match put(keeper, past, path, &draft.bytes, kind, lines) {
+    match put(keeper, past, path, &draft.bytes, kind, lines, by) {
         Ok(()) => Ok(()),
         Err(refused) => {
             branch.put_back(path, draft.was);
@@ -144,12 +147,13 @@ impl<K: Keeper> Node<K> {
         all: LineSet,
         kind: EntryKind,
         lines: Items<Line>,
+        by: By,
     ) -> Result<(), NodeRefused>
         requires line { IsLine path.now }
         requires kind { IsOfFiles kind }
         requires lines { (p : List ℕ) → lines_at (with_file self.old.branch path.now all) p ≡ lines_after p (lines_at self.old.branch p) kind lines }
         ensures ok { OnOk result (self.new ≡ with_entry self.old self.new.keeper (with_file self.old.branch path.now all) kind lines) }
-        ensures err { IfErr result (λ e. RefusesSo e calls.PutFile self.old self.new) }
+        ensures err { IfErr result (λ e. RefusesFor by e calls.PutFile self.old self.new) }
         ensures contents { K.contents self.new.keeper ≡ K.contents self.old.keeper }
         ensures parts { K.parts self.new.keeper ≡ K.parts self.old.keeper }
         ensures later { K.faults self.old.keeper ≤ K.faults self.new.keeper }
@@ -165,6 +169,7 @@ impl<K: Keeper> Node<K> {
             all,
             kind,
             lines,
+            by,
         )
     }
 }

@@ -4,4 +4,4 @@ use Rattle.annex_base.specs.declared.kinds.Call.TheVariants.{PutFile}
 use Rattle.repo_node.proofs.writing.drafted.Goals as goal
 
 pub returns-in_err-ready-clause-err : goal.returns-in_err-ready-clause-err
-returns-in_err-ready-clause-err c = let h = c.in_err-ready.ensures.err PutFile in first_of (search (rules, h), grind (arith, h))
+returns-in_err-ready-clause-err c by = let h = c.in_err-ready.ensures.err by PutFile in first_of (search (rules, h), grind (arith, h))

@@ -13,7 +13,7 @@ returns-in-Ok-clause-files g c =
     c.in-Ok.ensures.files ∙ ap (λ (v : List ℕ). option_map (λ (f : Files). with_at f c.args.path.now (Some v)) (g.K.Keeper.files c.args.keeper.now)) (c.deref.ensures.value ∙ c.in_ok-draft.ensures.bytes)
 
 pub returns-in-Err-clause-err : goal.returns-in-Err-clause-err
-returns-in-Err-clause-err g c = fails_after c.in-Err.refused PutFile c.args.past.now c.drafted.new.past c.put.new.past c.drafted.ensures.same c.in-Err.ensures.err
+returns-in-Err-clause-err g c = fails_after c.args.by c.in-Err.refused PutFile c.args.past.now c.drafted.new.past c.put.new.past c.drafted.ensures.same c.in-Err.ensures.err
 
 pub returns-in-Err-clause-err_branch : goal.returns-in-Err-clause-err_branch
 returns-in-Err-clause-err_branch g c = c.put_back.ensures ∙ c.in_ok-draft.ensures.back

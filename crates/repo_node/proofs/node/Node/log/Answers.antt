@@ -2,7 +2,7 @@
 use Rattle.std.proofs.Common.{ap, ◌∙◌}
 use Rattle.union_merge.specs.Branch.{Files, lines_at}
 use Rattle.union_merge.specs.LineSet.{union}
-use Rattle.repo_node.proofs.LogLemmas.{logged_listed, ok_listed}
+use Rattle.repo_node.proofs.LogLemmas.{logged_listed, ok_entry, ok_some}
 use Rattle.repo_node.proofs.node.Node.log.Goals as goal
 
 pub write-requires-clause-lines : goal.write-requires-clause-lines
@@ -18,5 +18,11 @@ write-requires-clause-lines g c =
 pub returns-clause-ok : goal.returns-clause-ok
 returns-clause-ok g c =
     let path = c.args.path.now in
-    ok_listed c.write.result c.args.self.now c.write.new.self c.args.file path c.args.new.now c.in_ok-lines.lines c.in_ok-all.all (c.in_ok-lines.ensures ∙ c.lines.ensures.value) c.requires.some c.requires.here
+    ok_entry c.write.result c.args.self.now c.write.new.self c.args.file path c.args.new.now c.in_ok-lines.lines c.in_ok-all.all (c.in_ok-lines.ensures ∙ c.lines.ensures.value) c.requires.here
+    (c.in_ok-all.ensures ∙ ap (λ (x : Files). union (lines_at x path) c.args.new.now) c.branch-self.ensures) c.write.ensures.ok
+
+pub returns-clause-some : goal.returns-clause-some
+returns-clause-some g c =
+    let path = c.args.path.now in
+    ok_some c.write.result c.args.self.now c.write.new.self c.args.file path c.args.new.now c.in_ok-lines.lines c.in_ok-all.all (c.in_ok-lines.ensures ∙ c.lines.ensures.value) c.requires.here
     (c.in_ok-all.ensures ∙ ap (λ (x : Files). union (lines_at x path) c.args.new.now) c.branch-self.ensures) c.write.ensures.ok

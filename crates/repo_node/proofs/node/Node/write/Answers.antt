@@ -17,7 +17,7 @@ pub returns-clause-err : goal.returns-clause-err
 returns-clause-err g c =
     let i = c.self.inside in
     let w = c.write_file in
-    seen_refused w.result PutFile i.keeper w.new.keeper i.table i.branch w.new.branch i.past w.new.past c.args.self.now c.self.view_is w.ensures.err_branch w.ensures.err
+    seen_refused c.args.by w.result PutFile i.keeper w.new.keeper i.table i.branch w.new.branch i.past w.new.past c.args.self.now c.self.view_is w.ensures.err_branch w.ensures.err
 
 pub invariant_of-self : goal.invariant_of-self
 invariant_of-self g c =
@@ -29,7 +29,7 @@ invariant_of-self g c =
     let branch : i.branch ≡ c.args.self.now.branch = ap (λ n. n.branch) c.self.view_is in
     let here : (p : List ℕ) → lines_at (with_file i.branch path all) p ≡ lines_after p (lines_at i.branch p) c.args.kind c.args.lines =
     subst (λ (b : Files). (p : List ℕ) → lines_at (with_file b path all) p ≡ lines_after p (lines_at b p) c.args.kind c.args.lines) (sym branch) c.requires.lines in (
-      kept_written w.result i.past w.new.past i.table i.branch w.new.branch (with_file i.branch path all) (g.K.Keeper.contents i.keeper) (g.K.Keeper.contents w.new.keeper) c.args.kind c.args.lines
+      kept_written c.args.by w.result i.past w.new.past i.table i.branch w.new.branch (with_file i.branch path all) (g.K.Keeper.contents i.keeper) (g.K.Keeper.contents w.new.keeper) c.args.kind c.args.lines
           c.requires.kind here w.ensures.branch w.ensures.past w.ensures.err w.ensures.err_branch w.ensures.rest.contents c.self.invariant.0,
       files_written w.result i.branch w.new.branch (g.K.Keeper.files i.keeper) (g.K.Keeper.files w.new.keeper) path all
           (law.there i.branch path all) (λ p differ. law.other i.branch path p all differ) w.ensures.branch w.ensures.err_branch w.ensures.files w.ensures.err_files c.self.invariant.1,

@@ -1,0 +1,6 @@
+-- The lemmas of this crate.
+pub mod Setting
+pub mod Naming
+pub mod Waiting
+pub mod Joining
+pub mod Listing

@@ -1,0 +1,84 @@
+//! What is done at one of the ends, which is found by its place.
+ghost use Rattle.std.specs.Prelude.{◌≡◌, ◌<◌, ◌∷◌, [], true, Some, is_some, length};
+ghost use Rattle.std.specs.Option.{option_and_then, option_copied};
+ghost use Rattle.link_ring.specs.Ends.{after_take, next_frame};
+ghost use Rattle.link_ring.specs.Places.{end_place};
+ghost use Rattle.node_model.specs.Ends.{frames};
+ghost use Rattle.node_ends.specs.Changes.{IsChanged, frame_waiting};
+ghost use Rattle.node_ends.specs.Ends.{end_at, link_at, name_of, room_at};
+ghost use Rattle.node_ends.specs.Invariant.{each_may_close};
+ghost use Rattle.node_ends.specs.Joined.{StayPaired};
+ghost use Rattle.node_ends.specs.Sent.{IsListed, link_sends, may_send, text_of_sending};
+
+use crate::name::EndId;
+use crate::sending::Sending;
+use crate::single;
+use annex_base::{EntryStamp, Word};
+use link_ring::{End, Frame, end_place};
+use run_data::FrameView;
+
+pub(crate) fn place_in(ends: &[End], id: EndId) -> usize
+    requires there { is_some (link_at ends.now (name_of id)) ≡ true }
+    ensures place { result ≡ end_place id.peer id.slot id.client }
+    ensures slot { id.slot < 4 }
+    ensures within { result < length ends.now }
+{
+    end_place(id.peer, id.slot, id.client)
+}
+
+pub(crate) fn is_open(ends: &[End], id: EndId) -> bool
+    requires there { is_some (link_at ends.now (name_of id)) ≡ true }
+    ensures { result ≡ (end_at ends.now (name_of id)).opened }
+{
+    let place = place_in(ends, id);
+    single::is_open(&ends[place])
+}
+
+pub(crate) fn has_room(ends: &mut Vec<End>, id: EndId) -> bool
+    requires there { is_some (link_at ends.old.items (name_of id)) ≡ true }
+    ensures room { result ≡ room_at ends.old.items (name_of id) }
+    ensures same { ends.new.items ≡ ends.old.items }
+{
+    let place = place_in(ends, id);
+    single::has_room(&mut ends[place])
+}
+
+pub(crate) fn waiting(ends: &[End], id: EndId) -> Option<&Frame>
+    requires there { is_some (link_at ends.now (name_of id)) ≡ true }
+    ensures { option_copied result ≡ option_and_then frame_waiting (link_at ends.now (name_of id)) }
+{
+    let place = place_in(ends, id);
+    single::waiting(&ends[place])
+}
+
+pub(crate) fn take(ends: &mut Vec<End>, id: EndId) -> Frame
+    requires room { room_at ends.old.items (name_of id) ≡ true }
+    requires close { each_may_close ends.old.items ≡ true }
+    requires first { is_some (option_and_then next_frame (link_at ends.old.items (name_of id))) ≡ true }
+    ensures frame { Some result ≡ option_and_then next_frame (link_at ends.old.items (name_of id)) }
+    ensures change { IsChanged (name_of id) after_take ends.old.items ends.new.items }
+    ensures close { each_may_close ends.new.items ≡ true }
+    ensures paired { StayPaired ends.old.items ends.new.items }
+{
+    let place = place_in(ends, id);
+    single::take(&mut ends[place])
+}
+
+pub(crate) fn send(
+    ends: &mut Vec<End>,
+    id: EndId,
+    sender: EntryStamp,
+    word: Option<Word>,
+    said: Sending,
+) -> FrameView
+    requires may { may_send ends.old.items (name_of id) (text_of_sending said) ≡ true }
+    requires close { each_may_close ends.old.items ≡ true }
+    requires listed { IsListed said }
+    ensures view { frames (name_of id) (end_at ends.old.items (name_of id)) (text_of_sending said ∷ []) ≡ result ∷ [] }
+    ensures change { IsChanged (name_of id) (link_sends sender word said) ends.old.items ends.new.items }
+    ensures close { each_may_close ends.new.items ≡ true }
+    ensures paired { StayPaired ends.old.items ends.new.items }
+{
+    let place = place_in(ends, id);
+    single::send(&mut ends[place], id, sender, word, said)
+}

@@ -1,0 +1,131 @@
+-- Where a job stands in the list.
+use Rattle.std.proofs.Common.{◌≡◌, ℕ, zero, suc, ◌+◌, ◌<◌, ◌≤◌, Bool, true, false, cond, List, [], ◌∷◌, ◌++◌, length, get_or, take, drop, map, Option, Some, None, refl, sym, ap, subst, ◌∙◌, arith, append_assoc, below_more}
+use Rattle.std.specs.Prelude.{find, nat_lt, position, slice_get, IfSome, ◌==◌}
+use Rattle.std.specs.List.{position_or_len}
+use Rattle.std.specs.Option.{ForSome, option_map}
+use Rattle.std.proofs.lemmas.Bool.Decides.{nat_tests}
+use Rattle.std.proofs.lemmas.List.Folds.{find_at}
+use Rattle.std.proofs.lemmas.Option.{slice_get_past, slice_get-get_or}
+use Rattle.annex_base.specs.Lists.{Each}
+use Rattle.annex_base.proofs.Lists.{Each-member, find_member}
+use Rattle.annex_base.proofs.Options.{some_none}
+use Rattle.link_ring.specs.Ends.{EndView}
+use Rattle.node_model.specs.Clocks.{ClockSet}
+use Rattle.node_model.specs.Jobs.{Work}
+use Rattle.node_model.specs.Turns.{slot_step}
+use Rattle.drop_worker.specs.Feeding.{ToldAt}
+use Rattle.drop_worker.specs.Leaving.{stands_on}
+use Rattle.node_jobs.specs.declared.feed.Feed.{Feed}
+use Rattle.node_jobs.specs.declared.finding.Found.{Found}
+use Rattle.node_jobs.specs.Feeds.{Answers, IsFedAt, SeesJob}
+use Rattle.node_jobs.specs.Finding.{FindsAtSlot, FindsFirst, IsAtSlot, IsOfSlot, IsSlotIdle, has_slot}
+use Rattle.node_jobs.specs.Places.{PlaceView}
+use Rattle.node_jobs.specs.Running.{DropJob, work_now}
+use Rattle.node_jobs.proofs.Among.{find_mapped}
+
+-- ---- the first that passes
+
+pub place_none : {X : Type 0} (p : X → Bool) (xs : List X) → position p xs ≡ None → find p xs ≡ None
+place_none p xs none = go (nat_lt (position_or_len p xs) (length xs)) refl none
+  where
+    go : (b : Bool) → nat_lt (position_or_len p xs) (length xs) ≡ b → cond b (Some (position_or_len p xs)) None ≡ None → find p xs ≡ None
+    go true is e = absurd (some_none (position_or_len p xs) e)
+    go false is e = let past : length xs ≤ position_or_len p xs = grind (arith, nat_tests) in find_at p xs ∙ slice_get_past xs (position_or_len p xs) past
+
+pub place_some : {X : Type 0} (p : X → Bool) (xs : List X) (i : ℕ) → position p xs ≡ Some i → (i < length xs) × (find p xs ≡ slice_get xs i)
+place_some p xs i some = go (nat_lt (position_or_len p xs) (length xs)) refl some
+  where
+    go : (b : Bool) → nat_lt (position_or_len p xs) (length xs) ≡ b → cond b (Some (position_or_len p xs)) None ≡ Some i → (i < length xs) × (find p xs ≡ slice_get xs i)
+    go true is e =
+        let same : position_or_len p xs ≡ i = cc in
+        let within : position_or_len p xs < length xs = grind (arith, nat_tests) in
+        (subst (λ (n : ℕ). n < length xs) same within, find_at p xs ∙ ap (slice_get xs) same)
+    go false is e = absurd (some_none i (sym e))
+
+-- the element that was read there
+pub element_is : {X : Type 0} (xs : List X) (i : ℕ) (x : X) → i < length xs → x ≡ get_or xs i x → slice_get xs i ≡ Some x
+element_is xs i x within is = slice_get-get_or xs i x within ∙ ap (λ y. Some y) (sym is)
+
+module _ (p : PlaceView) (clock : ClockSet) (links : List EndView) (jobs : List DropJob) (time slot : ℕ) where
+  pub none_idle : position (has_slot slot) jobs ≡ None → IsSlotIdle p clock links jobs time slot
+  none_idle none = λ rows c s st k sees keeps. ap (slot_step s st k) (find_mapped work_now (λ w. w.slot == slot) jobs ∙ ap (option_map work_now) (place_none (has_slot slot) jobs none))
+
+  module _ (index : ℕ) (at : position (has_slot slot) jobs ≡ Some index) (j : DropJob) (is : j ≡ get_or jobs index j) where
+    element : slice_get jobs index ≡ Some j
+    element = element_is jobs index j (place_some (has_slot slot) jobs index at).0 is
+
+    found : find (has_slot slot) jobs ≡ Some j
+    found = (place_some (has_slot slot) jobs index at).1 ∙ element
+
+    pub idle_idle : (feed : Option Feed) → feed ≡ None → Answers p clock links j time feed → IsSlotIdle p clock links jobs time slot
+    idle_idle feed none answers = λ rows c s st k sees keeps.
+        ap (slot_step s st k) (find_mapped work_now (λ w. w.slot == slot) jobs ∙ ap (option_map work_now) found)
+        ∙ subst (Answers p clock links j time) none answers rows c s st k (Each-member (λ x. SeesJob p clock links x time s st k) jobs j sees (find_member (has_slot slot) jobs j found).0) keeps
+
+    pub ready_found : (o : Option Feed) (feed : Feed) → o ≡ Some feed → Answers p clock links j time o → IfSome o (λ f. ToldAt (stands_on j.worker) f.taken) → IfSome o (IsFedAt links j) → IsAtSlot p clock links jobs time slot (record { index = index; feed = feed })
+    ready_found o feed some answers told fed = record { there = (place_some (has_slot slot) jobs index at).0; job = λ x e. subst (IsOfSlot p clock links jobs time slot feed) (let same : j ≡ x = same_some j x (sym element ∙ e) in same) of }
+      where
+        same_some : (y z : DropJob) → Some y ≡ Some z → y ≡ z
+        same_some y z e = cc
+
+        of : IsOfSlot p clock links jobs time slot feed j
+        of = record {
+          in_slot = let same : j.worker.slot ≡ slot = grind (arith, nat_tests, (find_member (has_slot slot) jobs j found).1) in same;
+          found = found;
+          ready = subst (Answers p clock links j time) some answers;
+          told = subst (λ (q : Option Feed). IfSome q (λ f. ToldAt (stands_on j.worker) f.taken)) some told;
+          fed = subst (λ (q : Option Feed). IfSome q (IsFedAt links j)) some fed;
+        }
+
+-- ---- the first slot
+
+pub first_found : (p : PlaceView) (clock : ClockSet) (links links' : List EndView) (jobs : List DropJob) (time slot : ℕ) (o : Option Found) (found : Found) → links' ≡ links → o ≡ Some found → FindsAtSlot p clock links' jobs time slot o
+    → ((i : ℕ) → i < slot → IsSlotIdle p clock links jobs time i) → FindsFirst p clock links jobs time found
+first_found p clock links links' jobs time slot o found same some finds idle =
+    let at : IsAtSlot p clock links jobs time slot found = subst (λ (q : Option Found). FindsAtSlot p clock links jobs time slot q) some (subst (λ (ls : List EndView). FindsAtSlot p clock ls jobs time slot o) same finds) in
+    record {
+      there = at.there;
+      job = λ j e. let of : IsOfSlot p clock links jobs time slot found.feed j = at.job j e in record {
+        found = subst (λ (n : ℕ). find (has_slot n) jobs ≡ Some j) (sym of.in_slot) of.found;
+        ready = of.ready;
+        told = of.told;
+        fed = of.fed;
+        before = λ i below. idle i (subst (λ (n : ℕ). i < n) of.in_slot below);
+      };
+    }
+
+pub more_idle : (p : PlaceView) (clock : ClockSet) (links links' : List EndView) (jobs : List DropJob) (time slot : ℕ) (o : Option Found) → links' ≡ links → o ≡ None → FindsAtSlot p clock links' jobs time slot o
+    → ((i : ℕ) → i < slot → IsSlotIdle p clock links jobs time i) → (i : ℕ) → i < slot + 1 → IsSlotIdle p clock links jobs time i
+more_idle p clock links links' jobs time slot o same none finds idle =
+    below_more (IsSlotIdle p clock links jobs time) slot idle (subst (λ (q : Option Found). FindsAtSlot p clock links jobs time slot q) none (subst (λ (ls : List EndView). FindsAtSlot p clock ls jobs time slot o) same finds))
+
+-- ---- a job that is taken out and put back
+
+pub take_len : {X : Type 0} (i : ℕ) (xs : List X) → i ≤ length xs → length (take i xs) ≡ i
+take_len zero xs h = refl
+take_len (suc i) [] h = absurd (omega (arith, h))
+take_len (suc i) (x ∷ xs) h = ap (λ (n : ℕ). suc n) (take_len i xs (omega (arith, h)))
+
+take_front : {X : Type 0} (a b : List X) → take (length a) (a ++ b) ≡ a
+take_front [] b = refl
+take_front (x ∷ a) b = ap (λ l. x ∷ l) (take_front a b)
+
+drop_front : {X : Type 0} (a b : List X) → drop (length a) (a ++ b) ≡ b
+drop_front [] b = refl
+drop_front (x ∷ a) b = drop_front a b
+
+pub put_there : {X : Type 0} (xs ys zs k : List X) (i : ℕ) → i < length xs → ys ≡ take i xs ++ drop (i + 1) xs → zs ≡ take i ys ++ k ++ drop i ys → zs ≡ take i xs ++ (k ++ drop (i + 1) xs)
+put_there xs ys zs k i within out put =
+    let len : length (take i xs) ≡ i = take_len i xs (omega (arith, within)) in
+    let front : take i ys ≡ take i xs = ap (take i) out ∙ (ap (λ (n : ℕ). take n (take i xs ++ drop (i + 1) xs)) (sym len) ∙ take_front (take i xs) (drop (i + 1) xs)) in
+    let back : drop i ys ≡ drop (i + 1) xs = ap (drop i) out ∙ (ap (λ (n : ℕ). drop n (take i xs ++ drop (i + 1) xs)) (sym len) ∙ drop_front (take i xs) (drop (i + 1) xs)) in
+    put ∙ ((λ m. (front m ++ k) ++ back m) ∙ append_assoc (take i xs) k (drop (i + 1) xs))
+
+get_front : {X : Type 0} (a : List X) (x : X) (b : List X) → slice_get (a ++ x ∷ b) (length a) ≡ Some x
+get_front [] x b = refl
+get_front (y ∷ a) x b = get_front a x b
+
+pub taken_there : {X : Type 0} (xs : List X) (i : ℕ) (x : X) → i < length xs → xs ≡ take i xs ++ x ∷ drop (i + 1) xs → slice_get xs i ≡ Some x
+taken_there xs i x within was =
+    let len : length (take i xs) ≡ i = take_len i xs (omega (arith, within)) in
+    ap (λ l. slice_get l i) was ∙ (ap (slice_get (take i xs ++ x ∷ drop (i + 1) xs)) (sym len) ∙ get_front (take i xs) x (drop (i + 1) xs))

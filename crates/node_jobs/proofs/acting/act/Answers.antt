@@ -1,0 +1,36 @@
+-- By what it has read, or reads now.
+use Rattle.std.proofs.Common.{◌≡◌, Option, Some, sym, subst, ◌∙◌}
+use Rattle.std.specs.Prelude.{IfOk}
+use Rattle.drop_proof.specs.declared.rule.Side.TheVariants.{Local}
+use Rattle.node_model.specs.Jobs.{drop_side}
+use Rattle.trust_groups.specs.View.{settings_of}
+use Rattle.node_jobs.specs.Doings.{Acts}
+use Rattle.node_jobs.specs.Reads.{Known}
+use Rattle.node_jobs.specs.Running.{DropJob, HasRead, Stands}
+use Rattle.node_jobs.proofs.Knowing.{acts_ok, acts_so, knows_logs, knows_read}
+use Rattle.node_jobs.proofs.acting.act.Goals as goal
+
+pub returns-in-Some-clause-acts : goal.returns-in-Some-clause-acts
+returns-in-Some-clause-acts g c =
+    let p = c.args.place.now in
+    let j : DropJob = record { worker = c.job.inside.worker; known = c.job.inside.known } in
+    let settings = settings_of c.args.settings.now in
+    let contents = g.K.Keeper.contents c.args.keeper.now in
+    subst (λ (was : DropJob). IfOk c.advance.result (Acts p c.args.clock c.args.ends.now settings c.args.input.now contents c.args.table.now was (record { worker = c.advance.new.worker; known = c.job.inside.known }))) c.job.view_is
+    (subst (λ (o : Option Known). IfOk c.advance.result (Acts p c.args.clock c.args.ends.now settings c.args.input.now contents c.args.table.now j (record { worker = c.advance.new.worker; known = o }))) (sym c.in-Some.is)
+    (acts_ok p c.args.clock c.args.ends.now settings c.args.input.now contents (g.K.Keeper.contents c.advance.new.keeper) c.args.table.now c.advance.new.table j c.advance.new.worker c.in-Some.known c.advance.result (subst (λ (was : DropJob). drop_side was.worker.job.kind was.worker.job.peer ≡ Local) (sym c.job.view_is) c.requires.side)
+    (λ s st place read logs nameless. knows_read s st j c.in-Some.known (subst (HasRead s st j.worker) c.in-Some.is read))
+    (subst (λ (was : DropJob). Stands p was.worker.phase was.known) (sym c.job.view_is) c.requires.stands) c.advance.ensures.does c.advance.ensures.steps))
+
+pub returns-in_ok-out-in-None-clause-acts : goal.returns-in_ok-out-in-None-clause-acts
+returns-in_ok-out-in-None-clause-acts g c =
+    let p = c.args.place.now in
+    let j : DropJob = record { worker = c.job.inside.worker; known = c.job.inside.known } in
+    let settings = settings_of c.args.settings.now in
+    let contents = g.K.Keeper.contents c.args.keeper.now in
+    subst (λ (was : DropJob). Acts p c.args.clock c.args.ends.now settings c.args.input.now contents c.args.table.now was (record { worker = c.advance-in-None.new.worker; known = Some c.in_ok-known-in-None.known }) c.in_ok-out-in-None.out) c.job.view_is
+    (acts_so p c.args.clock c.args.ends.now settings c.args.input.now contents (g.K.Keeper.contents c.advance-in-None.new.keeper) c.args.table.now c.advance-in-None.new.table j c.advance-in-None.new.worker
+    c.in_ok-known-in-None.known c.in_ok-out-in-None.out (subst (λ (was : DropJob). drop_side was.worker.job.kind was.worker.job.peer ≡ Local) (sym c.job.view_is) c.requires.side)
+    (λ s st place read logs nameless. knows_logs p s st j settings c.in_ok-known-in-None.known place (subst (HasRead s st j.worker) c.in-None.is read) logs nameless c.in_ok-known-in-None.ensures.need
+    (rw (c.key.ensures, c.ids.ensures) at c.in_ok-known-in-None.ensures.standings))
+    (subst (λ (was : DropJob). Stands p was.worker.phase was.known) (sym c.job.view_is) c.requires.stands) c.in_ok-out-in-None.ensures.does c.in_ok-out-in-None.ensures.steps)

@@ -1,0 +1,16 @@
+-- What is left when all have ended.
+use Rattle.std.proofs.Common.{List, [], refl, sym, ap, subst, ◌∙◌}
+use Rattle.content_lock.specs.Rows.{Rows}
+use Rattle.node_jobs.specs.Ending.{CanEnd, OthersKeep}
+use Rattle.node_jobs.specs.Running.{DropJob, Jobs, OwnAll}
+use Rattle.node_jobs.proofs.Ends.{can_end, owns_none}
+use Rattle.node_jobs.proofs.jobs.Jobs.end_all.Goals as goal
+
+pub end_all-requires : goal.end_all-requires
+end_all-requires c = record { spent = subst (λ (js : Jobs). CanEnd c.args.table.now js.running) (sym c.self.view_is) (can_end c.args.self.now c.args.table.now c.requires.owns) }
+
+pub returns-clause-owns : goal.returns-clause-owns
+returns-clause-owns c =
+    let jobs : Jobs = record { place = c.self.inside.place; running = c.self.inside.running.items; begun = c.self.inside.begun } in
+    subst (λ (js : List DropJob). OwnAll (record jobs { running = js }) c.end_all.new.table) (sym c.end_all.ensures.none)
+    (owns_none jobs c.args.table.now c.end_all.new.table (subst (λ (js : Jobs). OwnAll js c.args.table.now) (sym c.self.view_is) c.requires.owns) c.end_all.ensures.others)

@@ -1,0 +1,62 @@
+-- The first job that has a step.
+use Rattle.std.proofs.Common.{Option, Some, None, sym, ap, subst, refl, ◌∙◌}
+use Rattle.annex_base.specs.Lists.{Each}
+use Rattle.annex_base.proofs.Lists.{Each-weaker}
+use Rattle.trust_groups.specs.View.{settings_of}
+use Rattle.content_lock.specs.Rows.{Rows}
+use Rattle.drop_worker.specs.Doing.{HasToken}
+use Rattle.node_jobs.specs.declared.finding.Found.{Found}
+use Rattle.node_jobs.specs.Acting.{SeesActed, SeesJobs, StepsJobs}
+use Rattle.node_jobs.specs.Finding.{Finds}
+use Rattle.node_jobs.specs.Leaving.{Leaves}
+use Rattle.node_jobs.specs.Running.{DropJob, IsOwn, Jobs, OwnAll}
+use Rattle.node_jobs.proofs.Owning.{leaves_after, owns_after}
+use Rattle.node_jobs.proofs.Stepping.{first_of_found, none_steps, sees_each, steps_jobs}
+use Rattle.node_jobs.proofs.jobs.Jobs.step.Goals as goal
+
+pub returns-in_default-clause-step : goal.returns-in_default-clause-step
+returns-in_default-clause-step g c = λ x tells s st k sees keeps acted.
+    let jobs : Jobs = c.args.self.now in
+    let same = ap (λ (js : Jobs). js.running) c.self.view_is in
+    record {
+      made = none_steps jobs.place c.args.clock c.args.ends.now jobs.running c.args.time c.args.table.now x s st k
+          (subst (λ (js : Jobs). Finds js.place c.args.clock c.args.ends.now js.running c.args.time None) c.self.view_is (subst (λ (o : Option Found). Finds c.self.inside.place c.args.clock c.args.ends.now c.self.inside.running.items c.args.time o) c.in_default.is (rw c.deref.ensures.value at c.in_ok-found.ensures.finds)))
+          (sees_each c.args.ends.now c.args.clock (settings_of c.args.settings.now) jobs c.args.number c.args.time s st k sees) keeps sees.works.works;
+      works = refl;
+    }
+
+pub turn-requires-clause-owns : goal.turn-requires-clause-owns
+turn-requires-clause-owns g c =
+    subst (λ (js : Jobs). Each (λ (j : DropJob). HasToken j.worker.number j.worker.job.key j.worker.token c.args.table.now) js.running) (sym c.self.view_is)
+    (Each-weaker (IsOwn c.args.self.now.begun c.args.table.now) (λ (j : DropJob). HasToken j.worker.number j.worker.job.key j.worker.token c.args.table.now) (λ j o. o.owns) c.args.self.now.running c.requires.owns.owns)
+
+pub returns-clause-step : goal.returns-clause-step
+returns-clause-step g c = λ x tells s st k sees keeps acted.
+    let jobs : Jobs = record { place = c.self.inside.place; running = c.self.inside.running.items; begun = c.self.inside.begun } in
+    let settings = settings_of c.args.settings.now in
+    subst (λ (js : Jobs). StepsJobs s st k c.args.ends.now js (record { place = c.self.inside.place; running = c.turn.new.running.items; begun = c.self.inside.begun }) (Some c.in_ok-acted.acted)) c.self.view_is
+    (steps_jobs c.args.ends.now c.args.clock settings jobs c.args.number c.args.time c.in-Some.found (g.K.Keeper.contents c.args.keeper.now) (g.K.Keeper.contents c.turn.new.keeper) c.args.table.now c.turn.new.table c.turn.new.running.items c.in_ok-acted.acted
+    (subst (λ (js : Jobs). OwnAll js c.args.table.now) (sym c.self.view_is) c.requires.owns)
+    (subst (λ (o : Option Found). Finds c.self.inside.place c.args.clock c.args.ends.now c.self.inside.running.items c.args.time o) c.in-Some.is (rw c.deref.ensures.value at c.in_ok-found.ensures.finds)) (rw c.find_ready.ensures.same at c.in_ok-acted.ensures.changes) x tells s st k
+    (subst (λ (js : Jobs). SeesJobs c.args.ends.now c.args.clock settings js c.args.number c.args.time s st k) (sym c.self.view_is) sees) keeps
+    (subst (λ (js : Jobs). SeesActed js k (Some c.in_ok-acted.acted)) (sym c.self.view_is) acted))
+
+pub returns-clause-owns : goal.returns-clause-owns
+returns-clause-owns g c =
+    let jobs : Jobs = record { place = c.self.inside.place; running = c.self.inside.running.items; begun = c.self.inside.begun } in
+    owns_after c.args.ends.now c.args.clock (settings_of c.args.settings.now) jobs c.args.number c.args.time c.in-Some.found (g.K.Keeper.contents c.args.keeper.now) (g.K.Keeper.contents c.turn.new.keeper) c.args.table.now c.turn.new.table c.turn.new.running.items
+    c.in_ok-acted.acted (subst (λ (js : Jobs). OwnAll js c.args.table.now) (sym c.self.view_is) c.requires.owns) (rw c.find_ready.ensures.same at c.in_ok-acted.ensures.changes)
+
+pub returns-clause-leaves : goal.returns-clause-leaves
+returns-clause-leaves g c =
+    let jobs : Jobs = record { place = c.self.inside.place; running = c.self.inside.running.items; begun = c.self.inside.begun } in
+    let settings = settings_of c.args.settings.now in
+    let own = subst (λ (js : Jobs). OwnAll js c.args.table.now) (sym c.self.view_is) c.requires.owns in
+    let changes = rw c.find_ready.ensures.same at c.in_ok-acted.ensures.changes in
+    let finds = subst (λ (o : Option Found). Finds c.self.inside.place c.args.clock c.args.ends.now c.self.inside.running.items c.args.time o) c.in-Some.is (rw c.deref.ensures.value at c.in_ok-found.ensures.finds) in
+    subst (λ (js : Jobs). Leaves c.args.ends.now js (record { place = c.self.inside.place; running = c.turn.new.running.items; begun = c.self.inside.begun }) c.args.table.now c.turn.new.table (g.K.Keeper.contents c.args.keeper.now) (g.K.Keeper.contents c.turn.new.keeper)
+    c.in_ok-acted.acted) c.self.view_is
+    (leaves_after c.args.ends.now c.args.clock settings jobs c.args.number c.args.time c.in-Some.found (g.K.Keeper.contents c.args.keeper.now) (g.K.Keeper.contents c.turn.new.keeper) c.args.table.now c.turn.new.table c.turn.new.running.items
+    c.in_ok-acted.acted own changes
+    (first_of_found c.args.ends.now c.args.clock settings jobs c.args.number c.args.time c.in-Some.found (g.K.Keeper.contents c.args.keeper.now) (g.K.Keeper.contents c.turn.new.keeper) c.args.table.now c.turn.new.table c.turn.new.running.items
+    c.in_ok-acted.acted own finds changes).fed)

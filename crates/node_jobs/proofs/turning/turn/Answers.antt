@@ -1,0 +1,38 @@
+-- The job out of the list, and back.
+use Rattle.std.proofs.Common.{◌+◌, take, drop, refl, sym, ap, subst, ◌∙◌, arith}
+use Rattle.std.specs.Prelude.{length}
+use Rattle.content_lock.specs.Rows.{Rows}
+use Rattle.trust_groups.specs.View.{settings_of}
+use Rattle.drop_worker.specs.Worker.{Worker}
+use Rattle.node_jobs.specs.Changes.{Changes, kept}
+use Rattle.node_jobs.proofs.Placing.{put_there, take_len, taken_there}
+use Rattle.node_jobs.proofs.turning.turn.Goals as goal
+
+pub act-requires-clause-told : goal.act-requires-clause-told
+act-requires-clause-told g c =
+    c.requires.told c.take_out-job.result (taken_there c.args.running.now.items c.args.found.index c.take_out-job.result c.requires.there c.take_out-job.ensures.was)
+
+pub returns-in-Ok-clause-changes : goal.returns-in-Ok-clause-changes
+returns-in-Ok-clause-changes g c =
+    let was = c.args.running.now.items in
+    let index = c.args.found.index in
+    subst (λ (rows : Rows). Changes c.args.place.now c.args.clock c.args.ends.now (settings_of c.args.settings.now) c.args.time c.args.number c.args.found (g.K.Keeper.contents c.args.keeper.now) (g.K.Keeper.contents c.act.new.keeper)
+    c.args.table.now rows was c.settle.new.running.items (record { job = c.number-number.result; slot = c.slot-slot.result; takes = c.args.found.feed.takes; kind = c.in-Ok.out.kind; sends = c.in-Ok.out.sends; ended = c.in-Ok.out.ended })) (sym c.settle.ensures.table) (
+    record {
+      front = take index was;
+      back = drop (index + 1) was;
+      j = c.take_out-job.result;
+      j' = c.act.new.job;
+      place = take_len index was (omega (arith, c.requires.there));
+      was_is = c.take_out-job.ensures.was;
+      now_is = put_there was c.take_out-job.new.running.items c.settle.new.running.items (kept c.in-Ok.out.ended c.act.new.job) index c.requires.there c.take_out-job.ensures.now c.settle.ensures.list;
+      job = c.number-number.ensures ∙ ap (λ (w : Worker). w.number) c.worker.ensures;
+      slot = c.slot-slot.ensures ∙ ap (λ (w : Worker). w.slot) c.worker-2.ensures;
+      takes = refl;
+      acts = c.in-Ok.ensures.acts;
+      steps = c.in-Ok.ensures.steps;
+      stands = c.in-Ok.ensures.stands;
+      owns = c.in-Ok.ensures.owns;
+      others = c.in-Ok.ensures.others;
+    }
+    )

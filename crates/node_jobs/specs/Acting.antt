@@ -1,0 +1,82 @@
+-- The step of the first job that has one (own).
+use Rattle.std.specs.Prelude.{◌≡◌, ◌≢◌, ℕ, ◌+◌, ◌*◌, ◌∷◌, List, [], length, map, Option, Some, None, option_and_then}
+use Rattle.std.specs.Option.{option_map}
+use Rattle.annex_base.specs.Settings.{Settings}
+use Rattle.annex_base.specs.declared.kinds.Word.{Word}
+use Rattle.run_data.specs.declared.entry.FrameView.{FrameView}
+use Rattle.run_data.specs.declared.job.Job.{Job}
+use Rattle.link_ring.specs.declared.frame.Frame.{Frame}
+use Rattle.link_ring.specs.Ends.{EndView, next_frame}
+use Rattle.node_ends.specs.Ends.{SeesEnds, end_at, link_at, wait_at}
+use Rattle.node_model.specs.Clocks.{ClockSet, runs_on}
+use Rattle.node_model.specs.Ends.{EndName}
+use Rattle.node_model.specs.Evidence as drops
+use Rattle.node_model.specs.Evidence.{standing_by}
+use Rattle.node_model.specs.Look.{Look, Made, entry_of}
+use Rattle.node_model.specs.SetUp.{SetUp}
+use Rattle.node_model.specs.Slots.{Running, free_slot}
+use Rattle.node_model.specs.State.{State}
+use Rattle.node_model.specs.Turns.{job_step}
+use Rattle.drop_worker.specs.declared.phase.Phase.TheVariants as phases
+use Rattle.drop_worker.specs.declared.phase.Token.TheVariants as tokens
+use Rattle.drop_worker.specs.Worker.{Worker}
+use Rattle.drop_worker.specs.Working.{end_in, failed_in, frames_of}
+use Rattle.node_jobs.specs.declared.acted.Acted.{Acted}
+use Rattle.node_jobs.specs.Places.{IsPlace}
+use Rattle.node_jobs.specs.Running.{AreWorks, DropJob, Follows, Jobs, words_at}
+
+-- ---- a job that begins
+
+abbrev pub running_now : DropJob → Running
+running_now j = record { number = j.worker.number; slot = j.worker.slot; what = j.worker.job }
+
+-- the next number, in the least free slot
+abbrev pub new_worker : Jobs → Job → Worker
+new_worker jobs what =
+    record { number = jobs.begun + 1; slot = free_slot (map running_now jobs.running); job = what; version = 3; heard = []; word = None; phase = phases.Fresh; token = tokens.Nothing }
+
+abbrev pub with_job : Jobs → Job → Jobs
+with_job jobs what = record jobs { running = record { worker = new_worker jobs what; known = None } ∷ jobs.running; begun = jobs.begun + 1 }
+
+-- ---- what a step makes
+
+-- the frame that is taken from the peer, at a client's end
+abbrev pub taken_by : List EndView → ℕ → Option ℕ → Option FrameView
+taken_by links slot takes = option_and_then (λ peer. wait_at links (end_in slot peer)) takes
+
+-- the word beside the first frame at hand
+abbrev pub word_at : List EndView → EndName → Option Word
+word_at links a = option_and_then (λ (f : Frame). f.word) (option_and_then next_frame (link_at links a))
+
+abbrev pub made_by : List EndView → Acted → Made
+made_by links a = record { kind = a.kind; taken = taken_by links a.slot a.takes; sent = frames_of (end_at links) a.slot a.sends.items; lines = [] }
+
+-- ---- what its jobs see of a repository
+
+pub record SeesJobs (links : List EndView) (clock : ClockSet) (settings : Settings) (jobs : Jobs) (number time : ℕ) (s : SetUp) (st : State) (k : Look) : Type 0 where
+  pub place : IsPlace jobs.place s
+  pub works : AreWorks s st jobs
+  pub count : length links ≡ length s.repos * 8
+  pub ends : (a : EndName) → st.ends a ≡ end_at links a
+  pub sees : SeesEnds links s k
+  pub logs : st.logs ≡ settings
+  pub nameless : (key : List ℕ) → standing_by settings key [] ≡ drops.Asked  -- there is no repository without an identifier
+  pub ticks : st.clock ≡ runs_on clock
+  pub counts : number ≡ st.made + 1
+  pub at : time ≡ k.time
+
+-- the store call that fails, and the words that the acting job heard
+abbrev pub SeesActed : Jobs → Look → Option Acted → Type 0
+SeesActed jobs k None = Unit {0}
+SeesActed jobs k (Some a) = (k.fails ≡ failed_in a.kind) × (words_at jobs.running a.job ≡ k.words)
+
+-- ---- what follows
+
+-- the jobs after a step are the works of each state that follows by its entry
+abbrev pub WorksAfter : SetUp → State → Look → List EndView → Jobs → Jobs → Option Acted → Type 0
+WorksAfter s st k links was now None = now ≡ was
+WorksAfter s st k links was now (Some a) = (st' : State) → Follows s st (entry_of s.number k (made_by links a)) st' → AreWorks s st' now
+
+pub record StepsJobs (s : SetUp) (st : State) (k : Look) (links : List EndView) (was now : Jobs) (a : Option Acted) : Type 0 where
+  pub made : job_step s st k ≡ option_map (made_by links) a
+  pub works : WorksAfter s st k links was now a

@@ -1,0 +1,43 @@
+-- What a step of the jobs leaves of rows, contents and words (own).
+use Rattle.std.specs.Prelude.{◌≡◌, ℕ, ◌==◌, false, List, [], ◌∷◌, find, Option, Some, None}
+use Rattle.std.specs.Option.{option_map, option_map_or}
+use Rattle.link_ring.specs.Ends.{EndView}
+use Rattle.node_ends.specs.Ends.{wait_at}
+use Rattle.object_store.specs.Stores.{Contents}
+use Rattle.p2p_wire.specs.declared.message.Message.TheVariants.{Failure}
+use Rattle.run_data.specs.declared.entry.FrameView.{FrameView}
+use Rattle.content_lock.specs.Rows.{AreAfter, Rows}
+use Rattle.drop_worker.specs.declared.phase.Heard.{Heard}
+use Rattle.drop_worker.specs.declared.phase.Heard.TheVariants as heards
+use Rattle.drop_worker.specs.declared.phase.Phase.{Phase}
+use Rattle.drop_worker.specs.declared.phase.Phase.TheVariants as phases
+use Rattle.drop_worker.specs.declared.turn.Taken.TheVariants as takens
+use Rattle.drop_worker.specs.Doing.{OthersStay, contents_after}
+use Rattle.drop_worker.specs.Working.{end_in, taken_of}
+use Rattle.node_jobs.specs.declared.acted.Acted.{Acted}
+use Rattle.node_jobs.specs.Acting.{word_at}
+use Rattle.node_jobs.specs.Running.{DropJob, Jobs}
+
+-- where the job of this number stands, and what it has heard
+abbrev pub phase_at : List DropJob → ℕ → Option Phase
+phase_at js job = option_map (λ (j : DropJob). j.worker.phase) (find (λ j. j.worker.number == job) js)
+
+abbrev pub heard_at : List DropJob → ℕ → List (ℕ × Heard)
+heard_at js job = option_map_or (λ (j : DropJob). j.worker.heard) (find (λ j. j.worker.number == job) js) []
+
+-- the word beside a refused look is kept
+abbrev pub KeepsWord : List EndView → List DropJob → List DropJob → Acted → Type 0
+KeepsWord links was now a = a.ended ≡ false → (peer : ℕ) (f : FrameView) → phase_at was a.job ≡ Some (phases.AsksLook peer) → a.takes ≡ Some peer → wait_at links (end_in a.slot peer) ≡ Some f
+    → taken_of f.body ≡ takens.Message Failure → heard_at now a.job ≡ (peer, heards.Unseen (word_at links (end_in a.slot peer))) ∷ heard_at was a.job
+
+-- rows and contents are those after the entry, and other jobs have what they had
+pub record Leaves (links : List EndView) (was now : Jobs) (rows rows' : Rows) (contents contents' : Option Contents) (a : Acted) : Type 0 where
+  pub after : AreAfter a.kind rows rows'
+  pub stored : contents' ≡ contents_after contents a.kind
+  pub others : OthersStay a.job rows rows'
+  pub word : KeepsWord links was.running now.running a
+
+-- where no job has a step, nothing changes
+abbrev pub LeavesSo : List EndView → Jobs → Jobs → Rows → Rows → Option Contents → Option Contents → Option Acted → Type 0
+LeavesSo links was now rows rows' contents contents' None = (now ≡ was) × (rows' ≡ rows) × (contents' ≡ contents)
+LeavesSo links was now rows rows' contents contents' (Some a) = Leaves links was now rows rows' contents contents' a

@@ -1,0 +1,37 @@
+//! A drop that runs.
+ghost use Rattle.std.specs.Prelude.{◌≡◌};
+ghost use Rattle.std.specs.Option.{option_copied};
+
+use crate::known::Known;
+use drop_worker::Worker;
+use std::marker::Model;
+
+/// A drop: its worker, and what it read of the logs at its first step.
+#[derive(Debug)]
+pub(crate) struct DropJob {
+    pub worker: Worker,
+    pub known: Option<Known>,
+}
+
+impl Model for DropJob {
+    ghost use Rattle.node_jobs.specs.Running.{DropJob};
+
+    ghost Value = { DropJob };
+
+    ghost view = { λ j. record { worker = j.worker; known = j.known } };
+}
+
+impl DropJob {
+    pub(crate) fn worker(&self) -> &Worker
+        ensures { result.now ≡ self.now.worker }
+    {
+        &self.worker
+    }
+
+    /// What it has read, if it is past its first step.
+    pub(crate) fn known(&self) -> Option<&Known>
+        ensures { option_copied result ≡ self.now.known }
+    {
+        self.known.as_ref()
+    }
+}

@@ -1,0 +1,196 @@
+//! The running jobs: which begin, and which has the next step.
+ghost use Rattle.std.specs.Prelude.{◌≡◌, ℕ, is_some, ◌≤◌, ◌<◌, ◌+◌, ◌-◌, ◌*◌, ◌^◌, [], length, map, IfOk, IfSome, IsErrOf, OnErr, OnOk};
+ghost use Rattle.std.specs.Option.{ForSome};
+ghost use Rattle.annex_base.specs.Causes.{Rose};
+ghost use Rattle.annex_base.specs.Lists.{Each};
+ghost use Rattle.annex_base.specs.Settings.{Settings as SettingsView};
+ghost use Rattle.run_data.specs.declared.entry.Entry.{Entry};
+ghost use Rattle.run_data.specs.declared.entry.EntryKind.TheVariants as kinds;
+ghost use Rattle.trust_groups.specs.View.{settings_of};
+ghost use Rattle.node_model.specs.Look.{Look};
+ghost use Rattle.node_model.specs.SetUp.{SetUp};
+ghost use Rattle.node_model.specs.Slots.{free_slot, uses};
+ghost use Rattle.node_model.specs.State.{State};
+ghost use Rattle.node_model.specs.Turns.{job_step};
+ghost use Rattle.object_store.specs.Stores.{Contents};
+ghost use Rattle.content_lock.specs.Rows.{AreAfter, Rows};
+ghost use Rattle.drop_worker.specs.Doing.{OthersStay, contents_after};
+ghost use Rattle.drop_worker.specs.States.{Keeps};
+ghost use Rattle.drop_worker.specs.Working.{failed_in};
+ghost use Rattle.node_jobs.specs.Acting.{SeesActed, SeesJobs, StepsJobs, running_now, with_job};
+ghost use Rattle.node_jobs.specs.Leaving.{LeavesSo};
+ghost use Rattle.node_jobs.specs.Running.{AreWorks, Follows, IsDrop, OwnAll};
+
+use crate::acted::Acted;
+use crate::finding::find_ready;
+use crate::job::DropJob;
+use crate::listing::{add, end_all, find_slot};
+use crate::place::{Clock, Place};
+use crate::refused::BeginRefused;
+use crate::turning::turn;
+use annex_base::NoMemory;
+use content_lock::LockTable;
+use drop_worker::{Time, Worker};
+use node_ends::Ends;
+use object_store::Keeper;
+use run_data::{Job, JobKind};
+use std::alloc::Global;
+use std::marker::Model;
+use trust_groups::Settings;
+
+/// The running jobs of a repository, at most four, each in a slot of its own (own). They have tokens to spend, so they are
+/// ended and never dropped.
+#[derive(Debug)]
+pub struct Jobs {
+    place: Place,
+    running: Vec<DropJob>,
+    begun: u32,
+}
+
+impl Model for Jobs {
+    ghost use Rattle.node_jobs.specs.Running.{Jobs};
+
+    ghost Value = { Jobs };
+
+    ghost view = { λ j. record { place = j.place; running = j.running.items; begun = j.begun } };
+}
+
+impl Jobs {
+    /// No job.
+    pub fn new(alloc: Global, place: Place) -> Jobs
+        ensures { result ≡ record { place = place; running = []; begun = 0 } }
+    {
+        Jobs {
+            place,
+            running: Vec::new(alloc),
+            begun: 0,
+        }
+    }
+
+    /// How many jobs were begun.
+    pub fn begun(&self) -> u32
+        ensures { result ≡ self.now.begun }
+    {
+        self.begun
+    }
+
+    /// Begins a drop of the repository's own copy, and gives its number. It makes no step yet.
+    pub fn begin(&mut self, alloc: Global, what: Job) -> Result<u32, BeginRefused>
+        requires kind { what.kind ≡ JobKind.Drop }
+        requires peer { what.peer ≡ None }
+        requires few { self.old.begun < 2 ^ 32 - 1 }
+        ensures number { IfOk result (λ n. n ≡ self.old.begun + 1) }
+        ensures jobs { OnOk result (self.new ≡ with_job self.old what) }
+        ensures free { OnOk result (length self.old.running < 4) }
+        ensures full { IsErrOf result BeginRefused.NoSlot → 4 ≤ length self.old.running }
+        ensures short { IsErrOf result BeginRefused.NoMemory → length self.old.running < 4 }
+        ensures err { OnErr result (self.new ≡ self.old) }
+
+        // The new list is that of each state that follows by its entry.
+        ensures works { OnOk result ((rows : Rows) (s : SetUp) (st : State) (e : Entry) (st' : State) → OwnAll self.old rows → AreWorks s st self.old → e.kind ≡ kinds.Begin (self.old.begun + 1) what → Follows s st e st' → AreWorks s st' self.new) }
+        ensures owns { OnOk result ((rows : Rows) → OwnAll self.old rows → OwnAll self.new rows) }
+    {
+        let slot = find_slot(&mut self.running)?;
+        let number = self.begun + 1;
+        let worker = Worker::start(alloc, number, slot, what, 3);
+        add(
+            &mut self.running,
+            DropJob {
+                worker,
+                known: None,
+            },
+        );
+        self.begun = number;
+        Ok(number)
+    }
+
+    /// Whether a job has a step; nothing changes.
+    pub fn is_ready(
+        &self,
+        alloc: Global,
+        clock: Clock,
+        ends: &mut Ends,
+        time: Time,
+    ) -> Result<bool, NoMemory>
+        requires drops { Each (IsDrop self.now.place) self.now.running }
+        requires count { length ends.old ≡ length self.now.place.ids * 8 }
+        ensures ready { IfOk result (λ b. (settings : SettingsView) (number : ℕ) (rows : Rows) (c : Contents) (s : SetUp) (st : State) (k : Look) → SeesJobs ends.old clock settings self.now number time s st k → Keeps rows c st
+            → is_some (job_step s st k) ≡ b) }
+        ensures ends { ends.new ≡ ends.old }
+    {
+        let found = find_ready(&self.running, alloc, &self.place, clock, ends, time)?;
+        Ok(found.is_some())
+    }
+
+    /// The step of the first job, in order of slot, that has one. A frame that it takes must be taken from its end, and what it
+    /// sends must be sent. A job that ends is off the list.
+    pub fn step<K: Keeper>(
+        &mut self,
+        alloc: Global,
+        clock: Clock,
+        settings: &Settings,
+        ends: &mut Ends,
+        table: &mut LockTable,
+        keeper: &mut K,
+        time: Time,
+        number: u64,
+    ) -> Result<Option<Acted>, NoMemory>
+        requires owns { OwnAll self.old table.old }
+        requires count { length ends.old ≡ length self.old.place.ids * 8 }
+
+        // Of each state that these are, at a look at which the entry's call fails: the job's step is this one.
+        ensures step { IfOk result (λ a. ForSome (K.contents keeper.old) (λ c. (s : SetUp) (st : State) (k : Look) → SeesJobs ends.old clock (settings_of settings.now) self.old number time s st k → Keeps table.old c st → SeesActed self.old k a
+            → StepsJobs s st k ends.old self.old self.new a)) }
+        ensures owns { OwnAll self.new table.new }
+        ensures leaves { IfOk result (LeavesSo ends.old self.old self.new table.old table.new (K.contents keeper.old) (K.contents keeper.new)) }
+        ensures place { self.new.place ≡ self.old.place }
+        ensures begun { self.new.begun ≡ self.old.begun }
+        ensures holds { table.new.holds ≡ table.old.holds }
+        ensures err { OnErr result ((self.new ≡ self.old) × (table.new ≡ table.old) × (K.contents keeper.new ≡ K.contents keeper.old)) }
+        ensures ends { ends.new ≡ ends.old }
+        ensures records { K.records keeper.new ≡ K.records keeper.old }
+        ensures later { K.faults keeper.old ≤ K.faults keeper.new }
+        ensures cause { IfOk result (λ a. IfSome a (λ it. IfSome (failed_in it.kind) (λ call. Rose (K.faults keeper.old) (K.faults keeper.new)))) }
+    {
+        let Some(found) = find_ready(&self.running, alloc, &self.place, clock, ends, time)? else {
+            return Ok(None);
+        };
+        let acted = turn(
+            &mut self.running,
+            alloc,
+            &self.place,
+            clock,
+            settings,
+            ends,
+            table,
+            keeper,
+            found,
+            time,
+            number,
+        )?;
+        Ok(Some(acted))
+    }
+
+    /// Ends all jobs, at a crash or before the jobs are dissolved: what they have of the table is given up.
+    pub fn end_all(&mut self, table: &mut LockTable)
+        requires owns { OwnAll self.old table.old }
+        ensures jobs { self.new ≡ record self.old { running = [] } }
+        ensures owns { OwnAll self.new table.new }
+        ensures holds { table.new.holds ≡ table.old.holds }
+        ensures fills { table.new.fills ≡ table.old.fills }
+    {
+        end_all(&mut self.running, table);
+    }
+
+    /// Takes the jobs apart, none of which runs.
+    pub fn dissolve(self)
+        requires { self.running ≡ [] }
+    {
+        let Jobs {
+            place: _,
+            running,
+            begun: _,
+        } = self;
+        running.destroy_empty();
+    }
+}

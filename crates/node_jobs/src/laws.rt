@@ -1,0 +1,31 @@
+//! The laws of running jobs. Each is the contract of a function that does nothing.
+ghost use Rattle.std.specs.Prelude.{◌≡◌, ℕ, List, [], None};
+ghost use Rattle.run_data.specs.declared.entry.Entry.{Entry};
+ghost use Rattle.run_data.specs.declared.entry.EntryKind.TheVariants as kinds;
+ghost use Rattle.node_model.specs.After.{state_after};
+ghost use Rattle.node_model.specs.Evidence as drops;
+ghost use Rattle.node_model.specs.Evidence.{standing_by};
+ghost use Rattle.node_model.specs.SetUp.{SetUp};
+ghost use Rattle.node_model.specs.Slots.{job_of};
+ghost use Rattle.node_model.specs.State.{State};
+ghost use Rattle.content_lock.specs.Rows.{Rows};
+ghost use Rattle.trust_groups.specs.Settings.{Lines, settings};
+ghost use Rattle.node_jobs.specs.Running.{AreWorks, Jobs, OwnAll};
+
+use log_lines::readings_are_exact;
+
+/// The running jobs are those of the state after an entry that is no job's and no crash, whatever it changes of the logs: what
+/// a drop has read stays as it was, and one that is to begin reads what the logs say then.
+pub fn jobs_stay()
+    ensures { (s : SetUp) (st : State) (e : Entry) (jobs : Jobs) (rows : Rows) → AreWorks s st jobs → OwnAll jobs rows → job_of e.kind ≡ None → ((clock : ℕ) → e.kind ≡ kinds.Crash clock → ⊥)
+        → AreWorks s (state_after s st e) jobs }
+{}
+
+/// No line of a log names a repository without an identifier, so that logs see one as a repository that is asked (git-annex
+/// internals: branch files).
+pub fn nameless_are_asked()
+    ensures { (lines : Lines) (key : List ℕ) → standing_by (settings lines) key [] ≡ drops.Asked }
+{
+    // A law, for the proof.
+    readings_are_exact();
+}

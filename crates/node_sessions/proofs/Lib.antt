@@ -1,0 +1,15 @@
+-- The lemmas of this crate.
+pub mod Listing
+pub mod Framing
+pub mod Filling
+pub mod Standing
+pub mod Turning
+pub mod Stepping
+pub mod Answering
+pub mod Outcomes
+pub mod Among
+pub mod Building
+pub mod Leaving
+pub mod Seeing
+pub mod Keys
+pub mod Shutting

@@ -1,0 +1,20 @@
+//! The sessions of a repository: which has a step, and what it makes.
+#![tactic(auto)]
+
+mod answer;
+mod beginning;
+mod crossing;
+mod ending;
+mod giving;
+mod heard;
+mod laws;
+mod room;
+mod served;
+mod serving;
+mod sessions;
+mod turn;
+mod words;
+
+pub use laws::{looks_see_parts, sessions_and_jobs_fill, sessions_of_closed_ends_are_new};
+pub use served::Served;
+pub use sessions::Sessions;

@@ -1,0 +1,211 @@
+-- A node after a content came, or a part.
+use Rattle.std.proofs.Common.{◌≡◌, ℕ, ◌+◌, inl, inr, Bool, true, false, if◌then◌else◌, ◌||◌, List, [], ◌++◌, length, Option, Some, None, Result, Ok, Err, OnOk, OnErr, IfErr, option_map, is_some, bytes_eq, refl, sym, ap, subst, ◌∙◌}
+use Rattle.std.specs.Option.{ForSome}
+use Rattle.annex_base.proofs.Conditions.{by_test, bytes_eq-refl}
+use Rattle.object_store.specs.Stores.{Contents, Parts, contents_after_commit, with_at}
+use Rattle.run_data.specs.declared.entry.EntryKind.TheVariants.{Gain}
+use Rattle.run_data.specs.declared.entry.By.{By}
+use Rattle.run_data.specs.declared.entry.By.TheVariants.{Script}
+use Rattle.node_model.specs.Rows.{content_after, present_after}
+use Rattle.annex_base.specs.declared.kinds.Call.{Call}
+use Rattle.annex_base.specs.declared.kinds.Call.TheVariants.{Commit, PutFile}
+use Rattle.content_lock.specs.Rows.{Rows}
+use Rattle.union_merge.specs.Branch.{Files}
+use Rattle.repo_node.specs.declared.past.Past.{Past}
+use Rattle.repo_node.specs.declared.refused.NodeRefused.{NodeRefused}
+use Rattle.repo_node.specs.declared.refused.NodeRefused.TheVariants as refusals
+use Rattle.repo_node.specs.Debts.{with_status}
+use Rattle.repo_node.specs.Idle.{IsKept}
+use Rattle.repo_node.specs.Nodes.{NodeView}
+use Rattle.repo_node.specs.Pasts.{AddsTo, FailsAtScripts, FailsFor, SamePast}
+use Rattle.repo_node.specs.Placing.{HasPart, IsPlaced, IsTaken, StopsBefore, StopsPlacing, with_content, with_gain, with_placed}
+use Rattle.repo_node.specs.Refusals.{RefusesFor}
+use Rattle.repo_node.specs.Walks.{over}
+use Rattle.repo_node.proofs.PastLemmas.{fails_after, same_after}
+use Rattle.repo_node.proofs.StateLemmas.{Moves, kept_more}
+use Rattle.repo_node.proofs.WriteLemmas.{kept_equal, kept_failed, kept_past, node_adds, node_failed, node_of, node_same}
+
+or_true : (b : Bool) → true ≡ (b || true)
+or_true true = refl
+or_true false = refl
+
+or_false : (b : Bool) → b ≡ (b || false)
+or_false true = refl
+or_false false = refl
+
+size_at : (c : Contents) (key k bytes : List ℕ) (size : ℕ) (was : Option ℕ) → length bytes ≡ size → option_map length (c k) ≡ was
+    → option_map length (with_at c key (Some bytes) k) ≡ (if bytes_eq key k then Some size else was)
+size_at c key k bytes size was long is = by_test (bytes_eq key k)
+    (λ b. ap (λ (t : Bool). option_map length (if t then Some bytes else c k)) b ∙ ap (λ (n : ℕ). Some n) long ∙ sym (ap (λ (t : Bool). if t then Some size else was) b))
+    (λ b. ap (λ (t : Bool). option_map length (if t then Some bytes else c k)) b ∙ is ∙ sym (ap (λ (t : Bool). if t then Some size else was) b))
+
+there_at : (c : Contents) (key k bytes : List ℕ) (was : Bool) → is_some (c k) ≡ was → is_some (with_at c key (Some bytes) k) ≡ (was || bytes_eq key k)
+there_at c key k bytes was is = by_test (bytes_eq key k)
+    (λ b. ap (λ (t : Bool). is_some (if t then Some bytes else c k)) b ∙ or_true was ∙ sym (ap (λ (t : Bool). was || t) b))
+    (λ b. ap (λ (t : Bool). is_some (if t then Some bytes else c k)) b ∙ is ∙ or_false was ∙ sym (ap (λ (t : Bool). was || t) b))
+
+none_some : {X : Type 0} (x : X) → None ≡ Some x → ⊥
+none_some x is = absurd cc
+
+some_is : {X : Type 0} (x y : X) → Some x ≡ Some y → x ≡ y
+some_is x y is = cc
+
+-- the contents after a commit are those that the entry of a gain leaves
+pub gain_moves : (known known' : Option Contents) (parts : Option Parts) (key : List ℕ) (size : ℕ) → ForSome parts (λ p. length (p key) ≡ size) → known' ≡ contents_after_commit known parts key → Moves (Gain Script size key) known known'
+gain_moves None known' parts key size long is = record {
+  sizes = λ content was c told. absurd (none_some c (sym is ∙ told));
+  there = λ present was c told. absurd (none_some c (sym is ∙ told));
+}
+gain_moves (Some c) known' None key size long is = record {
+  sizes = λ content was c' told. absurd (none_some c' (sym is ∙ told));
+  there = λ present was c' told. absurd (none_some c' (sym is ∙ told));
+}
+gain_moves (Some c) known' (Some p) key size long is = record {
+  sizes = λ content was c' told k.
+      subst (λ (x : Contents). option_map length (x k) ≡ content_after k (content k) (Gain Script size key)) (some_is _ c' (sym is ∙ told))
+      (size_at c key k (p key) size (content k) (long p refl) (was c refl k));
+  there = λ present was c' told k.
+      subst (λ (x : Contents). is_some (x k) ≡ present_after k (present k) (Gain Script size key)) (some_is _ c' (sym is ∙ told))
+      (there_at c key k (p key) (present k) (was c refl k));
+}
+
+-- ---- the key's part
+
+absent_part : (key bytes : List ℕ) (p : Option Parts) → p ≡ None → HasPart key bytes None p
+absent_part key bytes p none = record { tells = ap is_some none; bytes_are = λ now told. absurd (none_some now (sym none ∙ told)); others = λ was told. absurd (none_some was told) }
+
+there_part : (key bytes : List ℕ) (f g : Parts) (p : Option Parts) → p ≡ Some (with_at g key (g key ++ bytes)) → g ≡ with_at f key [] → HasPart key bytes (Some f) p
+there_part key bytes f g p is from = record {
+  tells = ap is_some is;
+  bytes_are = λ now told.
+      ap (λ (x : Parts). x key) (sym (some_is _ now (sym is ∙ told))) ∙ ap (λ (t : Bool). if t then (g key ++ bytes) else g key) (bytes_eq-refl key)
+      ∙ ap (λ (x : Parts). x key ++ bytes) from ∙ ap (λ (t : Bool). (if t then [] else f key) ++ bytes) (bytes_eq-refl key);
+  others = λ was known now told k other.
+      ap (λ (x : Parts). x k) (sym (some_is _ now (sym is ∙ told))) ∙ ap (λ (t : Bool). if t then (g key ++ bytes) else g k) other
+      ∙ ap (λ (x : Parts). x k) from ∙ ap (λ (t : Bool). if t then [] else f k) other ∙ ap (λ (x : Parts). x k) (some_is f was known);
+}
+
+pub part_brought : (key bytes : List ℕ) (p p1 p2 : Option Parts) → p1 ≡ option_map (λ (f : Parts). with_at f key []) p → p2 ≡ option_map (λ (f : Parts). with_at f key (f key ++ bytes)) p1 → HasPart key bytes p p2
+part_brought key bytes None p1 p2 first second = absent_part key bytes p2 (second ∙ ap (option_map (λ (f : Parts). with_at f key (f key ++ bytes))) first)
+part_brought key bytes (Some f) p1 p2 first second =
+    there_part key bytes f (with_at f key []) p2 (second ∙ ap (option_map (λ (f : Parts). with_at f key (f key ++ bytes))) first) refl
+
+-- the contents after a commit of these bytes
+pub committed : (known known' : Option Contents) (parts : Option Parts) (key bytes : List ℕ) → ForSome parts (λ p. p key ≡ bytes) → known' ≡ contents_after_commit known parts key → known' ≡ with_content known parts key bytes
+committed None known' parts key bytes has is = is
+committed (Some c) known' None key bytes has is = is
+committed (Some c) known' (Some p) key bytes has is = is ∙ ap (λ (b : List ℕ). Some (with_at c key (Some b))) (has p refl)
+
+-- ---- a node is kept
+
+pub on_err : {X E : Type 0} {P : Type 0} (r : Result X E) → P → OnErr r P
+on_err (Ok x) p = tt
+on_err (Err e) p = p
+
+pub kept_brought : {X : Type 0} (r : Result X NodeRefused) (was now : Past) (rows : Rows) (branch : Files) (known known' : Option Contents)
+    → OnOk r (SamePast was now) → IfErr r (λ e. FailsAtScripts e was now) → known' ≡ known
+    → IsKept was.setup was.history.items rows branch known → IsKept now.setup now.history.items rows branch known'
+kept_brought (Ok x) was now rows branch known known' same fails is kept = kept_past was now rows branch branch known known' same refl is kept
+kept_brought (Err e) was now rows branch known known' same fails is kept = kept_failed Script e fails.call was now rows branch branch known known' fails.scripts fails.fails refl is kept
+
+pub kept_gained : (r : Result (Unit {0}) NodeRefused) (was now : Past) (rows : Rows) (branch : Files) (known known' : Option Contents) (parts : Option Parts) (key : List ℕ) (size : ℕ)
+    → OnOk r (AddsTo (Gain Script size key) [] was now) → IfErr r (λ e. FailsFor Script e Commit was now)
+    → OnOk r (known' ≡ contents_after_commit known parts key) → OnErr r (known' ≡ known) → ForSome parts (λ p. length (p key) ≡ size)
+    → IsKept was.setup was.history.items rows branch known → IsKept now.setup now.history.items rows branch known'
+kept_gained (Ok x) was now rows branch known known' parts key size adds fails is stays long kept =
+    kept_equal was.setup now.setup _ now.history.items rows branch branch known' adds.setup adds.history refl
+    (kept_more was.setup was.history.items rows branch branch known known' was.time (was.count + 1) was.setup.number (Gain Script size key) [] tt kept (λ p. refl) (gain_moves known known' parts key size long is))
+kept_gained (Err e) was now rows branch known known' parts key size adds fails is stays long kept = kept_failed Script e Commit was now rows branch branch known known' refl fails refl stays kept
+
+-- ---- what clauses see
+
+pub seen_same : {K X : Type 0} (r : Result X NodeRefused) (k k' : K) (t : Rows) (b : Files) (was now : Past) (n : NodeView K) → node_of k t b was ≡ n → OnOk r (SamePast was now) → OnOk r (node_of k' t b now ≡ over k' n)
+seen_same {K} (Ok x) k k' t b was now n view same = node_same k k' t b b was now refl same ∙ ap (λ (m : NodeView K). over k' m) view
+seen_same (Err e) k k' t b was now n view same = tt
+
+pub seen_stops : {K X : Type 0} (r : Result X NodeRefused) (k k' : K) (t : Rows) (b : Files) (was now : Past) (n : NodeView K) → node_of k t b was ≡ n → IfErr r (λ e. FailsAtScripts e was now)
+    → IfErr r (λ e. StopsBefore e n (node_of k' t b now))
+seen_stops (Ok x) k k' t b was now n view fails = tt
+seen_stops {K} (Err e) k k' t b was now n view fails = record {
+  call = fails.call;
+  scripts = fails.scripts;
+  refused = subst (λ (m : NodeView K). RefusesFor Script e fails.call m (node_of k' t b now)) view (node_failed Script e fails.call k k' t b b was now refl fails.fails);
+}
+
+pub seen_gained : {K : Type 0} (r : Result (Unit {0}) NodeRefused) (k k' : K) (t : Rows) (b : Files) (was now : Past) (n : NodeView K) (key : List ℕ) (size : ℕ) → node_of k t b was ≡ n → OnOk r (AddsTo (Gain Script size key) [] was now)
+    → OnOk r (node_of k' t b now ≡ with_gain n k' key size)
+seen_gained {K} (Ok x) k k' t b was now n key size view adds = node_adds k k' t b b b was now (Gain Script size key) [] refl adds ∙ ap (λ (m : NodeView K). with_gain m k' key size) view
+seen_gained (Err e) k k' t b was now n key size view adds = tt
+
+-- ---- a content that is placed
+
+refuses_over : {K : Type 0} (k : K) (n m : NodeView K) (e : NodeRefused) (call : Call) → RefusesFor Script e call (over k n) m → RefusesFor Script e call n m
+refuses_over k n m refusals.Full call h = h
+refuses_over k n m refusals.StoreFault call h = h
+refuses_over k n m (refusals.BadBundle at) call h = h
+refuses_over k n m refusals.NoMemory call h = h
+
+content_told : (known : Option Contents) (p q : Option Parts) (key bytes : List ℕ) → is_some q ≡ is_some p → with_content known q key bytes ≡ with_content known p key bytes
+content_told None p q key bytes same = refl
+content_told (Some c) None None key bytes same = refl
+content_told (Some c) (Some f) (Some g) key bytes same = refl
+content_told (Some c) None (Some g) key bytes same = absurd cc
+content_told (Some c) (Some f) None key bytes same = absurd cc
+
+-- the contents of a node that was brought the key's part, after the commit
+pub placed_content : (known mid after : Option Contents) (p q : Option Parts) (key bytes : List ℕ) → HasPart key bytes p q → mid ≡ known → after ≡ contents_after_commit mid q key → after ≡ with_content known p key bytes
+placed_content known mid after p q key bytes has same is =
+    committed mid after q key bytes has.bytes_are is ∙ ap (λ (c : Option Contents). with_content c q key bytes) same ∙ content_told known p q key bytes has.tells
+
+-- the commit was refused
+pub stops_before : {K : Type 0} (e : NodeRefused) (key bytes : List ℕ) (known mid after : Option Contents) (parts : Option Parts) (n b m : NodeView K) → b ≡ over b.keeper n → RefusesFor Script e Commit b m → mid ≡ known → after ≡ mid
+    → StopsPlacing key bytes known parts after e n m
+stops_before {K} e key bytes known mid after parts n b m is refused same stays = inl (
+  record { call = Commit; scripts = refl; refused = refuses_over b.keeper n m e Commit (subst (λ (v : NodeView K). RefusesFor Script e Commit v m) is refused) },
+  stays ∙ same,
+)
+
+gained_over : {K : Type 0} (n b g : NodeView K) (key : List ℕ) (size : ℕ) → b ≡ over b.keeper n → g ≡ with_gain b g.keeper key size → g ≡ with_gain n g.keeper key size
+gained_over {K} n b g key size is gained = gained ∙ ap (λ (v : NodeView K). with_gain v g.keeper key size) is
+
+-- its line was refused
+pub stops_behind : {K : Type 0} (r : Result (Unit {0}) NodeRefused) (key bytes : List ℕ) (known after last : Option Contents) (parts : Option Parts) (n b g m : NodeView K)
+    → b ≡ over b.keeper n → g ≡ with_gain b g.keeper key (length bytes) → IfErr r (λ e. RefusesFor Script e PutFile g m) → after ≡ with_content known parts key bytes → last ≡ after
+    → IfErr r (λ e. StopsPlacing key bytes known parts last e n m)
+stops_behind (Ok x) key bytes known after last parts n b g m is gained refused content same = tt
+stops_behind {K} (Err e) key bytes known after last parts n b g m is gained refused content same = inr (
+  record { keeper = g.keeper; refused = subst (λ (v : NodeView K). RefusesFor Script e PutFile v m) (gained_over n b g key (length bytes) is gained) refused },
+  same ∙ content,
+)
+
+pub is_placed : {K : Type 0} (r : Result (Unit {0}) NodeRefused) (key bytes : List ℕ) (known after last : Option Contents) (parts : Option Parts) (taken : Bool) (number : ℕ) (n b g m : NodeView K)
+    → taken ≡ false → IsTaken taken known n.table key → number ≡ n.setup.number
+    → b ≡ over b.keeper n → g ≡ with_gain b g.keeper key (length bytes) → OnOk r (m ≡ with_status g m.keeper key number true) → after ≡ with_content known parts key bytes → last ≡ after
+    → OnOk r (IsPlaced key bytes known parts last n m)
+is_placed {K} (Ok x) key bytes known after last parts taken number n b g m free told own is gained ok content same = record {
+  taken = taken;
+  told = told;
+  node = ok ∙ ap (λ (v : NodeView K). with_status v m.keeper key number true) (gained_over n b g key (length bytes) is gained)
+      ∙ ap (λ (i : ℕ). with_status (with_gain n g.keeper key (length bytes)) m.keeper key i true) own
+      ∙ ap (λ (t : Bool). if t then over m.keeper n else with_placed n m.keeper key (length bytes)) (sym free);
+  contents = same ∙ content ∙ ap (λ (t : Bool). if t then known else with_content known parts key bytes) (sym free);
+}
+is_placed (Err e) key bytes known after last parts taken number n b g m free told own is gained ok content same = tt
+
+-- ---- refusals one after another
+
+pub ready_stops : (r : Result (Unit {0}) NodeRefused) (was now : Past) → IfErr r (λ e. (by : By) (call : Call) → FailsFor by e call was now) → IfErr r (λ e. FailsAtScripts e was now)
+ready_stops (Ok x) was now fails = tt
+ready_stops (Err e) was now fails = record { call = Commit; scripts = refl; fails = fails Script Commit }
+
+pub stops_later : {X : Type 0} (r : Result X NodeRefused) (was mid now : Past) → SamePast was mid → IfErr r (λ e. FailsAtScripts e mid now) → IfErr r (λ e. FailsAtScripts e was now)
+stops_later (Ok x) was mid now same fails = tt
+stops_later (Err e) was mid now same fails = record { call = fails.call; scripts = fails.scripts; fails = fails_after Script e fails.call was mid now same fails.fails }
+
+pub same_later : {X : Type 0} (r : Result X NodeRefused) (was mid now : Past) → SamePast was mid → OnOk r (SamePast mid now) → OnOk r (SamePast was now)
+same_later (Ok x) was mid now first second = same_after was mid now first second
+same_later (Err e) was mid now first second = tt
+
+pub part_later : {X : Type 0} (r : Result X NodeRefused) (key bytes : List ℕ) (p p1 p2 : Option Parts) → p1 ≡ option_map (λ (f : Parts). with_at f key []) p → OnOk r (p2 ≡ option_map (λ (f : Parts). with_at f key (f key ++ bytes)) p1) → OnOk r (HasPart key bytes p p2)
+part_later (Ok x) key bytes p p1 p2 first second = part_brought key bytes p p1 p2 first second
+part_later (Err e) key bytes p p1 p2 first second = tt

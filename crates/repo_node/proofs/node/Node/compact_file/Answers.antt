@@ -1,0 +1,25 @@
+-- What the proof of `node::Node::compact_file` needs beside the tactics.
+use Rattle.std.proofs.Common.{List, ℕ, sym, ap, ◌∙◌}
+use Rattle.run_data.specs.Files.{file_path}
+use Rattle.union_merge.specs.Branch.{Files, lines_at}
+use Rattle.repo_node.proofs.WalkLemmas.{not_shrunk, ok_compacted}
+use Rattle.repo_node.proofs.node.Node.compact_file.Goals as goal
+
+pub shrink-requires-clause-here : goal.shrink-requires-clause-here
+shrink-requires-clause-here g c = sym (ap file_path c.in_ok-file.ensures.value ∙ c.files_have_their_paths.ensures.path c.args.path.now)
+
+pub returns-then-outdated-clause-ok : goal.returns-then-outdated-clause-ok
+returns-then-outdated-clause-ok g c =
+    let here = sym (ap file_path c.in_ok-file.ensures.value ∙ c.files_have_their_paths.ensures.path c.args.path.now) in
+    ok_compacted c.shrink.result c.args.self.now c.shrink.new.self c.args.path.now c.in_ok-file.file c.in-Some.kind c.lines_of-lines.result.now c.in_ok-outdated.outdated
+    c.in_ok-file.ensures.value (sym c.kind.ensures ∙ c.in-Some.is)
+    (c.lines_of-lines.ensures.lines ∙ ap (λ (x : Files). lines_at x c.args.path.now) c.branch-branch.ensures ∙ ap (λ (p : List ℕ). lines_at c.args.self.now.branch p) here)
+    c.in_ok-outdated.ensures.fewer c.if-outdated.true c.shrink.ensures.ok
+
+pub returns-clause-ok : goal.returns-clause-ok
+returns-clause-ok g c =
+    let here = sym (ap file_path c.in_ok-file.ensures.value ∙ c.files_have_their_paths.ensures.path c.args.path.now) in
+    not_shrunk c.args.self.now c.args.path.now c.in_ok-file.file c.in-Some.kind c.lines_of-lines.result.now c.in_ok-outdated.outdated
+    c.in_ok-file.ensures.value (sym c.kind.ensures ∙ c.in-Some.is)
+    (c.lines_of-lines.ensures.lines ∙ ap (λ (x : Files). lines_at x c.args.path.now) c.branch-branch.ensures ∙ ap (λ (p : List ℕ). lines_at c.args.self.now.branch p) here)
+    c.in_ok-outdated.ensures.fewer c.if-outdated.false

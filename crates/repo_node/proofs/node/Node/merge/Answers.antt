@@ -1,0 +1,39 @@
+-- What the proof of `node::Node::merge` needs beside the tactics.
+use Rattle.std.proofs.Common.{List, ℕ, arith, sym, ap, subst, ◌∙◌}
+use Rattle.annex_base.specs.Lists.{Each}
+use Rattle.union_merge.specs.Branch.{Files}
+use Rattle.union_merge.specs.FileView.{files_of}
+use Rattle.union_merge.specs.LineSet.{IsLine, IsLineSet}
+use Rattle.repo_node.specs.Walks.{merge_file, over}
+use Rattle.repo_node.proofs.WalkLemmas.{Went, merge_over, went_on, went_stops}
+use Rattle.repo_node.proofs.node.Node.merge.Goals as goal
+
+pub merge_file-requires : goal.merge_file-requires
+merge_file-requires g c =
+    let each = subst (λ (fs : Files). Each (λ f. IsLine f.0 × IsLineSet f.1) fs) (ap files_of c.in-Some.ensures.steps) c.loop-path.invariant.each in
+    subst (λ (p : List ℕ). IsLine p) (sym c.deref.ensures.value) each.0.0
+
+pub returns-in-Err-clause-err : goal.returns-in-Err-clause-err
+returns-in-Err-clause-err g c =
+    went_stops merge_file c.args.self.now c.loop-path.self c.merge_file.new.self c.args.other.now _ c.in-Err.refused c.loop-path.invariant.went c.in-Err.ensures.err
+
+pub loop-path-preserved : goal.loop-path-preserved
+loop-path-preserved g c =
+    let i = c.loop-path.invariant in
+    let start = c.args.self.now in
+    let now = c.loop-path.self in
+    let next = c.merge_file.new.self in
+    let other = c.args.other.now in
+    let rest = files_of c.next.new.self in
+    let file : List ℕ × List (List ℕ) = (c.in-Some.path.now.items, c.in-Some.lines.now) in
+    let steps = ap files_of c.in-Some.ensures.steps in
+    let went = subst (λ (fs : Files). Went merge_file start now other fs) steps i.went in
+    let each = subst (λ (fs : Files). Each (λ f. IsLine f.0 × IsLineSet f.1) fs) steps i.each in
+    record {
+      went = went_on merge_file merge_over start now next other file rest went
+          (c.in_default.ensures.ok ∙ ap (λ (p : List ℕ). over next.keeper (merge_file now (p, c.in-Some.lines.now))) c.deref.ensures.value);
+      each = each.1;
+      contents = c.merge_file.ensures.contents ∙ i.contents;
+      parts = c.merge_file.ensures.parts ∙ i.parts;
+      later = omega (arith, i.later, c.merge_file.ensures.later);
+    }

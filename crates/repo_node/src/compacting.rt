@@ -1,0 +1,129 @@
+//! Compactions of a node's files.
+ghost use Rattle.std.specs.Prelude.{◌≡◌, ◌≤◌, [], Some, IfOk, IfErr, IsErrOf, OnOk};
+ghost use Rattle.std.specs.Map.{keys_of};
+ghost use Rattle.annex_base.specs.Causes.{Rose};
+ghost use Rattle.annex_base.specs.Lists.{Each};
+ghost use Rattle.annex_base.specs.declared.kinds.Call.TheVariants as calls;
+ghost use Rattle.log_lines.specs.Newest.{current_lines};
+ghost use Rattle.run_data.specs.declared.entry.EntryKind.TheVariants as kinds;
+ghost use Rattle.run_data.specs.Files.{file_of, file_path, kind_of};
+ghost use Rattle.union_merge.specs.Branch.{lines_at, with_file};
+ghost use Rattle.union_merge.specs.LineSet.{IsLine, IsLineSet};
+ghost use Rattle.repo_node.specs.Nodes.{with_entry};
+ghost use Rattle.repo_node.specs.Refusals.{RefusesSo};
+ghost use Rattle.repo_node.specs.Walks.{StopsAfter, compact_file, compact_files, current, over};
+
+use crate::logs::copies;
+use crate::node::Node;
+use crate::refused::NodeRefused;
+use annex_base::{Items, Line, NoMemory, Text};
+use log_lines::{LogKind, compact, has_outdated};
+use object_store::Keeper;
+use run_data::{By, EntryKind, LogFile, files_have_their_paths};
+use std::alloc::Global;
+use union_merge::{Branch, LineSet, files_are_changed_alone, unions_have_the_lines_of_both};
+
+/// The paths of the files of a branch, in order.
+fn paths_of(branch: &Branch) -> Result<Vec<Text>, NoMemory>
+    ensures value { IfOk result (λ paths. paths.items ≡ keys_of branch.now) }
+    ensures lines { IfOk result (λ paths. Each IsLine paths.items) }
+{
+    // For the proof: the paths of a branch are lines.
+    let _ = branch.files();
+    let paths = branch.paths()?;
+    Ok(paths)
+}
+
+/// The lines of a file of the branch.
+fn lines_of<'a>(branch: &'a Branch, path: &[u8]) -> &'a [Line]
+    ensures lines { result.now ≡ lines_at branch.now path.now }
+    ensures set { IsLineSet result.now }
+{
+    match branch.file(path) {
+        Some(lines) => lines.lines(),
+        None => &[],
+    }
+}
+
+/// The lines without those that compaction leaves out.
+fn current_lines(alloc: Global, kind: LogKind, lines: &[Line]) -> Result<LineSet, NoMemory>
+    requires { IsLineSet lines.now }
+    ensures { IfOk result (λ s. s ≡ current_lines kind lines.now) }
+{
+    // A law, for the proof: a set that is put in order stays as it is.
+    unions_have_the_lines_of_both();
+    let all = copies(alloc, lines)?;
+    let kept = compact(alloc, kind, all)?;
+    Ok(LineSet::from_lines(kept))
+}
+
+impl<K: Keeper> Node<K> {
+    /// Takes the outdated lines of a log of this kind away, by one entry.
+    fn shrink(&mut self, file: LogFile, path: &[u8], kind: LogKind) -> Result<(), NodeRefused>
+        requires line { IsLine path.now }
+        requires here { path.now ≡ file_path file }
+        requires kind { kind_of file ≡ Some kind }
+        ensures ok { OnOk result (self.new ≡ with_entry self.old self.new.keeper (with_file self.old.branch (file_path file) (current self.old file)) (kinds.Compact file) []) }
+        ensures err { IfErr result (λ e. RefusesSo e calls.PutFile self.old self.new) }
+        ensures contents { K.contents self.new.keeper ≡ K.contents self.old.keeper }
+        ensures parts { K.parts self.new.keeper ≡ K.parts self.old.keeper }
+        ensures later { K.faults self.old.keeper ≤ K.faults self.new.keeper }
+        ensures cause { IsErrOf result NodeRefused.StoreFault → Rose (K.faults self.old.keeper) (K.faults self.new.keeper) }
+    {
+        // A law, for the proof: only the file of this path changes.
+        files_are_changed_alone();
+        let alloc = self.allocator();
+        let branch = self.branch();
+        let lines = lines_of(branch, path);
+        let all = current_lines(alloc, kind, lines)?;
+        let none = Items::new(alloc);
+        self.write(path, all, EntryKind::Compact { file }, none, By::Script)
+    }
+
+    /// Takes the outdated lines of the file of this path away, by one entry, where it has some.
+    fn compact_file(&mut self, path: &[u8]) -> Result<(), NodeRefused>
+        requires { IsLine path.now }
+        ensures ok { OnOk result (self.new ≡ over self.new.keeper (compact_file self.old (file_of path.now))) }
+        ensures err { IfErr result (λ e. RefusesSo e calls.PutFile self.old self.new) }
+        ensures contents { K.contents self.new.keeper ≡ K.contents self.old.keeper }
+        ensures parts { K.parts self.new.keeper ≡ K.parts self.old.keeper }
+        ensures later { K.faults self.old.keeper ≤ K.faults self.new.keeper }
+        ensures cause { IsErrOf result NodeRefused.StoreFault → Rose (K.faults self.old.keeper) (K.faults self.new.keeper) }
+    {
+        // A law, for the proof: the file of a path stands there.
+        files_have_their_paths();
+        let alloc = self.allocator();
+        let file = LogFile::of_path(alloc, path)?;
+        let Some(kind) = file.kind() else {
+            return Ok(());
+        };
+        let branch = self.branch();
+        let lines = lines_of(branch, path);
+        let outdated = has_outdated(alloc, kind, lines)?;
+        if outdated {
+            return self.shrink(file, path, kind);
+        }
+        Ok(())
+    }
+
+    /// Takes the outdated lines of its files away, by one entry for each file that has some, in order of path (own). A refusal in
+    /// the middle keeps the files that are done.
+    pub fn compact(&mut self) -> Result<(), NodeRefused>
+        ensures ok { OnOk result (self.new ≡ over self.new.keeper (compact_files self.old (keys_of self.old.branch))) }
+        ensures err { IfErr result (λ e. StopsAfter (compact_files self.old) (keys_of self.old.branch) e self.new) }
+        ensures contents { K.contents self.new.keeper ≡ K.contents self.old.keeper }
+        ensures parts { K.parts self.new.keeper ≡ K.parts self.old.keeper }
+        ensures later { K.faults self.old.keeper ≤ K.faults self.new.keeper }
+        ensures cause { IsErrOf result NodeRefused.StoreFault → Rose (K.faults self.old.keeper) (K.faults self.new.keeper) }
+    {
+        let branch = self.branch();
+        let paths = paths_of(branch)?;
+        for path in &paths {
+            // Written out for the proof, which names the refusal.
+            if let Err(refused) = self.compact_file(path.bytes()) {
+                return Err(refused);
+            }
+        }
+        Ok(())
+    }
+}
