@@ -106,7 +106,7 @@ fn put_branch(
 ) -> Result<(), NoMemory>
     requires { ShowsKnown (length run.now.repos) command.now }
     ensures { OnOk result ((place repo : ℕ) → shown_repo command.now ≡ Some repo → branch.now ≡ branch_at run.now place repo
-        → out.new.items ≡ out.old.items ++ shown run.now place command.now) }
+        → out.new.items ≡ out.old.items ++ show_text run.now place command.now) }
 {
     match command {
         Command::ShowClaims { repo, key } => put_claims(out, run, *repo, branch, key)?,
