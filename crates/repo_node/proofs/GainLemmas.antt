@@ -10,6 +10,7 @@ use Rattle.node_model.specs.Rows.{content_after, present_after}
 use Rattle.annex_base.specs.declared.kinds.Call.{Call}
 use Rattle.annex_base.specs.declared.kinds.Call.TheVariants.{Commit, PutFile}
 use Rattle.content_lock.specs.Rows.{Rows}
+use Rattle.link_ring.specs.Ends.{EndView}
 use Rattle.union_merge.specs.Branch.{Files}
 use Rattle.repo_node.specs.declared.past.Past.{Past}
 use Rattle.repo_node.specs.declared.refused.NodeRefused.{NodeRefused}
@@ -119,23 +120,23 @@ kept_gained (Err e) was now rows branch known known' parts key size adds fails i
 
 -- ---- what clauses see
 
-pub seen_same : {K X : Type 0} (r : Result X NodeRefused) (k k' : K) (t : Rows) (b : Files) (was now : Past) (n : NodeView K) → node_of k t b was ≡ n → OnOk r (SamePast was now) → OnOk r (node_of k' t b now ≡ over k' n)
-seen_same {K} (Ok x) k k' t b was now n view same = node_same k k' t b b was now refl same ∙ ap (λ (m : NodeView K). over k' m) view
-seen_same (Err e) k k' t b was now n view same = tt
+pub seen_same : {K X : Type 0} (r : Result X NodeRefused) (k k' : K) (t : Rows) (l : List EndView) (b : Files) (was now : Past) (n : NodeView K) → node_of k t l b was ≡ n → OnOk r (SamePast was now) → OnOk r (node_of k' t l b now ≡ over k' n)
+seen_same {K} (Ok x) k k' t l b was now n view same = node_same k k' t l b b was now refl same ∙ ap (λ (m : NodeView K). over k' m) view
+seen_same (Err e) k k' t l b was now n view same = tt
 
-pub seen_stops : {K X : Type 0} (r : Result X NodeRefused) (k k' : K) (t : Rows) (b : Files) (was now : Past) (n : NodeView K) → node_of k t b was ≡ n → IfErr r (λ e. FailsAtScripts e was now)
-    → IfErr r (λ e. StopsBefore e n (node_of k' t b now))
-seen_stops (Ok x) k k' t b was now n view fails = tt
-seen_stops {K} (Err e) k k' t b was now n view fails = record {
+pub seen_stops : {K X : Type 0} (r : Result X NodeRefused) (k k' : K) (t : Rows) (l : List EndView) (b : Files) (was now : Past) (n : NodeView K) → node_of k t l b was ≡ n → IfErr r (λ e. FailsAtScripts e was now)
+    → IfErr r (λ e. StopsBefore e n (node_of k' t l b now))
+seen_stops (Ok x) k k' t l b was now n view fails = tt
+seen_stops {K} (Err e) k k' t l b was now n view fails = record {
   call = fails.call;
   scripts = fails.scripts;
-  refused = subst (λ (m : NodeView K). RefusesFor Script e fails.call m (node_of k' t b now)) view (node_failed Script e fails.call k k' t b b was now refl fails.fails);
+  refused = subst (λ (m : NodeView K). RefusesFor Script e fails.call m (node_of k' t l b now)) view (node_failed Script e fails.call k k' t l b b was now refl fails.fails);
 }
 
-pub seen_gained : {K : Type 0} (r : Result (Unit {0}) NodeRefused) (k k' : K) (t : Rows) (b : Files) (was now : Past) (n : NodeView K) (key : List ℕ) (size : ℕ) → node_of k t b was ≡ n → OnOk r (AddsTo (Gain Script size key) [] was now)
-    → OnOk r (node_of k' t b now ≡ with_gain n k' key size)
-seen_gained {K} (Ok x) k k' t b was now n key size view adds = node_adds k k' t b b b was now (Gain Script size key) [] refl adds ∙ ap (λ (m : NodeView K). with_gain m k' key size) view
-seen_gained (Err e) k k' t b was now n key size view adds = tt
+pub seen_gained : {K : Type 0} (r : Result (Unit {0}) NodeRefused) (k k' : K) (t : Rows) (l : List EndView) (b : Files) (was now : Past) (n : NodeView K) (key : List ℕ) (size : ℕ) → node_of k t l b was ≡ n → OnOk r (AddsTo (Gain Script size key) [] was now)
+    → OnOk r (node_of k' t l b now ≡ with_gain n k' key size)
+seen_gained {K} (Ok x) k k' t l b was now n key size view adds = node_adds k k' t l b b b was now (Gain Script size key) [] refl adds ∙ ap (λ (m : NodeView K). with_gain m k' key size) view
+seen_gained (Err e) k k' t l b was now n key size view adds = tt
 
 -- ---- a content that is placed
 

@@ -8,3 +8,5 @@ pub mod WalkLemmas
 pub mod DebtLemmas
 pub mod SetLemmas
 pub mod GainLemmas
+pub mod PartLemmas
+pub mod WorkLemmas

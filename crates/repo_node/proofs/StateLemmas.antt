@@ -17,18 +17,19 @@ use Rattle.run_data.specs.declared.entry.EntryKind.TheVariants.{Gain, Log, Compa
 use Rattle.run_data.specs.declared.entry.By.{By}
 use Rattle.run_data.specs.declared.entry.By.TheVariants.{Script, Job as by_job, Peer}
 use Rattle.node_model.specs.After.{state_after, states}
-use Rattle.node_model.specs.Ends.{End, server_end}
+use Rattle.node_model.specs.Ends.{server_end}
 use Rattle.node_model.specs.Files.{lines_after}
-use Rattle.node_model.specs.Jobs.{Work, works_after}
+use Rattle.node_model.specs.Jobs.{Work}
 use Rattle.node_model.specs.Owed.{Owed, owed_without, owed_after}
 use Rattle.node_model.specs.Rows.{bar_after, content_after, holds_after, present_after}
 use Rattle.node_model.specs.SessionStep.{is_filled, session_fills}
-use Rattle.node_model.specs.Sessions.{is_filling as fills_key}
+use Rattle.node_model.specs.Sessions.{Session, is_filling as fills_key}
 use Rattle.node_model.specs.SetUp.{SetUp, served_connections}
 use Rattle.node_model.specs.State.{State}
 use Rattle.repo_node.specs.declared.setup.Setup.{Setup}
 use Rattle.repo_node.specs.Nodes.{IsState, state_of}
 use Rattle.repo_node.specs.Idle.{IsDirect, IsIdle, IsKept, IsOfFiles, may_fail}
+use Rattle.repo_node.proofs.WorkLemmas.{begun_same, works_same}
 
 -- the state after one more entry
 pub state_more : (s : SetUp) (h : List Entry) (e : Entry) → state_of s (h ++ e ∷ []) ≡ state_after s (state_of s h) e
@@ -45,25 +46,35 @@ lost_none PutFile (by_job job) = refl
 lost_none PutFile (Peer peer slot) = refl
 lost_none _ by = refl
 
-abbrev works_then : (s : SetUp) → State → Entry → List Work → List Work
-works_then s st e ws = works_after (record { present = st.present; bar = st.bar; ends = st.ends }) s.number ws e e.kind
-
 abbrev owed_then : (s : SetUp) → State → Entry → List Owed → List Owed
 owed_then s st e os = owed_after s.repos st.lines (st.wall e.time) st.works s.number os e e.kind
 
+owed_same : (s : SetUp) (st : State) (e : Entry) (kind : EntryKind) → IsDirect kind → owed_after s.repos st.lines (st.wall e.time) st.works s.number [] e kind ≡ []
+owed_same s st e (Gain Script size key) direct = refl
+owed_same s st e (Log file) direct = refl
+owed_same s st e (Compact file) direct = refl
+owed_same s st e (Fault call by) direct = lost_none call by
+owed_same s st e _ direct = absurd direct
+
 pub idle_after : (s : SetUp) (st : State) (time count r : ℕ) (kind : EntryKind) (lines : List (List ℕ)) → IsDirect kind → IsIdle st → IsIdle (state_after s st (made time count r kind lines))
-idle_after s st time count r (Gain Script size key) lines direct i = record { begun = i.begun; works = ap (works_then s st (made time count r (Gain Script size key) lines)) i.works; owed = ap (owed_then s st (made time count r (Gain Script size key) lines)) i.owed; sessions = i.sessions; ends = i.ends }
-idle_after s st time count r (Log file) lines direct i = record { begun = i.begun; works = ap (works_then s st (made time count r (Log file) lines)) i.works; owed = ap (owed_then s st (made time count r (Log file) lines)) i.owed; sessions = i.sessions; ends = i.ends }
-idle_after s st time count r (Compact file) lines direct i = record { begun = i.begun; works = ap (works_then s st (made time count r (Compact file) lines)) i.works; owed = ap (owed_then s st (made time count r (Compact file) lines)) i.owed; sessions = i.sessions; ends = i.ends }
-idle_after s st time count r (Fault call by) lines direct i = record { begun = i.begun; works = ap (works_then s st (made time count r (Fault call by) lines)) i.works; owed = ap (owed_then s st (made time count r (Fault call by) lines)) i.owed ∙ lost_none call by; sessions = i.sessions; ends = i.ends }
-idle_after s st time count r _ lines direct i = absurd direct
+idle_after s st time count r kind lines direct i = record {
+  begun = begun_same st.begun kind direct ∙ i.begun;
+  works = works_same (record { present = st.present; bar = st.bar; ends = st.ends }) s.number st.works (made time count r kind lines) direct ∙ i.works;
+  owed = ap (owed_then s st (made time count r kind lines)) i.owed ∙ owed_same s st (made time count r kind lines) kind direct;
+  sessions = i.sessions;
+}
 
 -- ---- an idle repository fills no key
+
+and_false : (b : Bool) → (b && false) ≡ false
+and_false true = refl
+and_false false = refl
 
 none_fills : (st : State) (key : List ℕ) → IsIdle st → (cs : List (ℕ × ℕ)) → list_any (λ c. session_fills st key (server_end c.0 c.1)) cs ≡ false
 none_fills st key i [] = refl
 none_fills st key i (c ∷ cs) =
-    ap (λ b. b || list_any (λ d. session_fills st key (server_end d.0 d.1)) cs) (ap (λ (x : End). x.opened && fills_key key (st.sessions (server_end c.0 c.1)).doing) (i.ends (server_end c.0 c.1)))
+    ap (λ b. b || list_any (λ d. session_fills st key (server_end d.0 d.1)) cs)
+    (ap (λ (x : Session). (st.ends (server_end c.0 c.1)).opened && fills_key key x.doing) (i.sessions (server_end c.0 c.1)) ∙ and_false (st.ends (server_end c.0 c.1)).opened)
     ∙ none_fills st key i cs
 
 pub unfilled : (s : SetUp) (st : State) (key : List ℕ) → IsIdle st → is_filled s st key ≡ false
@@ -163,7 +174,7 @@ kept_same setup h rows branch known known' same kept = subst (λ (k : Option Con
 
 -- before the first entry
 first_idle : (s : SetUp) → IsIdle (state_of s [])
-first_idle s = record { begun = refl; works = refl; owed = refl; sessions = λ a. refl; ends = λ a. refl }
+first_idle s = record { begun = refl; works = refl; owed = refl; sessions = λ a. refl }
 
 pub kept_first : (setup : Setup) (known : Option Contents) → ForSome known (λ c. (key : List ℕ) → c key ≡ None) → IsKept setup [] (record { holds = []; bars = []; fills = [] }) [] known
 kept_first setup known empty = record {

@@ -7,6 +7,7 @@ use Rattle.annex_base.proofs.Conditions.{by_test, bytes_eq-true, bytes_eq-refl}
 use Rattle.annex_base.proofs.Options.{map_some}
 use Rattle.object_store.specs.Stores.{Contents, Files as StoredFiles, bytes_of, with_at}
 use Rattle.content_lock.specs.Rows.{Rows}
+use Rattle.link_ring.specs.Ends.{EndView}
 use Rattle.union_merge.specs.Branch.{Files, file_at, lines_at, or_none, with_file}
 use Rattle.union_merge.specs.LineSet.{text_of}
 use Rattle.run_data.specs.declared.entry.Entry.{Entry}
@@ -86,61 +87,61 @@ files_written (Err e) branch branch' stored stored' path all there other is stay
 
 -- ---- what clauses see
 
-abbrev pub node_of : {K : Type 0} → K → Rows → Files → Past → NodeView K
-node_of keeper table branch p = record { setup = p.setup; keeper = keeper; table = table; branch = branch; time = p.time; count = p.count; history = p.history.items; outcomes = p.outcomes.items }
+abbrev pub node_of : {K : Type 0} → K → Rows → List EndView → Files → Past → NodeView K
+node_of keeper table links branch p = record { setup = p.setup; keeper = keeper; table = table; links = links; branch = branch; time = p.time; count = p.count; history = p.history.items; outcomes = p.outcomes.items }
 
-node_parts : {K : Type 0} (k : K) (t : Rows) (b b' : Files) (s s' : Setup) (time time' count count' : ℕ) (h h' : List Entry) (o o' : List Ended)
+node_parts : {K : Type 0} (k : K) (t : Rows) (l : List EndView) (b b' : Files) (s s' : Setup) (time time' count count' : ℕ) (h h' : List Entry) (o o' : List Ended)
     → b' ≡ b → s' ≡ s → time' ≡ time → count' ≡ count → h' ≡ h → o' ≡ o
-    → ◌≡◌ {A = NodeView K} (record { setup = s'; keeper = k; table = t; branch = b'; time = time'; count = count'; history = h'; outcomes = o' })
-    (record { setup = s; keeper = k; table = t; branch = b; time = time; count = count; history = h; outcomes = o })
-node_parts {K} k t b b' s s' time time' count count' h h' o o' eb es et ec eh eo =
-    let f1 : Files → NodeView K = λ x. record { setup = s'; keeper = k; table = t; branch = x; time = time'; count = count'; history = h'; outcomes = o' } in
-    let f2 : Setup → NodeView K = λ x. record { setup = x; keeper = k; table = t; branch = b; time = time'; count = count'; history = h'; outcomes = o' } in
-    let f3 : ℕ → NodeView K = λ x. record { setup = s; keeper = k; table = t; branch = b; time = x; count = count'; history = h'; outcomes = o' } in
-    let f4 : ℕ → NodeView K = λ x. record { setup = s; keeper = k; table = t; branch = b; time = time; count = x; history = h'; outcomes = o' } in
-    let f5 : List Entry → NodeView K = λ x. record { setup = s; keeper = k; table = t; branch = b; time = time; count = count; history = x; outcomes = o' } in
-    let f6 : List Ended → NodeView K = λ x. record { setup = s; keeper = k; table = t; branch = b; time = time; count = count; history = h; outcomes = x } in
+    → ◌≡◌ {A = NodeView K} (record { setup = s'; keeper = k; table = t; links = l; branch = b'; time = time'; count = count'; history = h'; outcomes = o' })
+    (record { setup = s; keeper = k; table = t; links = l; branch = b; time = time; count = count; history = h; outcomes = o })
+node_parts {K} k t l b b' s s' time time' count count' h h' o o' eb es et ec eh eo =
+    let f1 : Files → NodeView K = λ x. record { setup = s'; keeper = k; table = t; links = l; branch = x; time = time'; count = count'; history = h'; outcomes = o' } in
+    let f2 : Setup → NodeView K = λ x. record { setup = x; keeper = k; table = t; links = l; branch = b; time = time'; count = count'; history = h'; outcomes = o' } in
+    let f3 : ℕ → NodeView K = λ x. record { setup = s; keeper = k; table = t; links = l; branch = b; time = x; count = count'; history = h'; outcomes = o' } in
+    let f4 : ℕ → NodeView K = λ x. record { setup = s; keeper = k; table = t; links = l; branch = b; time = time; count = x; history = h'; outcomes = o' } in
+    let f5 : List Entry → NodeView K = λ x. record { setup = s; keeper = k; table = t; links = l; branch = b; time = time; count = count; history = x; outcomes = o' } in
+    let f6 : List Ended → NodeView K = λ x. record { setup = s; keeper = k; table = t; links = l; branch = b; time = time; count = count; history = h; outcomes = x } in
     ap f1 eb ∙ ap f2 es ∙ ap f3 et ∙ ap f4 ec ∙ ap f5 eh ∙ ap f6 eo
 
-pub node_adds : {K : Type 0} (k k' : K) (t : Rows) (b b' all : Files) (was now : Past) (kind : EntryKind) (lines : List (List ℕ)) → b' ≡ all → AddsTo kind lines was now
-    → node_of k' t b' now ≡ with_entry (node_of k t b was) k' all kind lines
-node_adds k k' t b b' all was now kind lines is adds =
-    node_parts k' t all b' was.setup now.setup was.time now.time (was.count + 1) now.count _ now.history.items was.outcomes.items now.outcomes.items is adds.setup adds.time adds.count adds.history adds.outcomes
+pub node_adds : {K : Type 0} (k k' : K) (t : Rows) (l : List EndView) (b b' all : Files) (was now : Past) (kind : EntryKind) (lines : List (List ℕ)) → b' ≡ all → AddsTo kind lines was now
+    → node_of k' t l b' now ≡ with_entry (node_of k t l b was) k' all kind lines
+node_adds k k' t l b b' all was now kind lines is adds =
+    node_parts k' t l all b' was.setup now.setup was.time now.time (was.count + 1) now.count _ now.history.items was.outcomes.items now.outcomes.items is adds.setup adds.time adds.count adds.history adds.outcomes
 
-pub node_same : {K : Type 0} (k k' : K) (t : Rows) (b b' : Files) (was now : Past) → b' ≡ b → SamePast was now
-    → node_of k' t b' now ≡ record (node_of k t b was) { keeper = k' }
-node_same k k' t b b' was now is same =
-    node_parts k' t b b' was.setup now.setup was.time now.time was.count now.count was.history.items now.history.items was.outcomes.items now.outcomes.items is same.setup same.time same.count same.history same.outcomes
+pub node_same : {K : Type 0} (k k' : K) (t : Rows) (l : List EndView) (b b' : Files) (was now : Past) → b' ≡ b → SamePast was now
+    → node_of k' t l b' now ≡ record (node_of k t l b was) { keeper = k' }
+node_same k k' t l b b' was now is same =
+    node_parts k' t l b b' was.setup now.setup was.time now.time was.count now.count was.history.items now.history.items was.outcomes.items now.outcomes.items is same.setup same.time same.count same.history same.outcomes
 
-pub node_failed : {K : Type 0} (by : By) (e : NodeRefused) (call : Call) (k k' : K) (t : Rows) (b b' : Files) (was now : Past) → b' ≡ b → FailsFor by e call was now
-    → RefusesFor by e call (node_of k t b was) (node_of k' t b' now)
-node_failed by refusals.Full call k k' t b b' was now is fails = (node_same k k' t b b' was now is fails.0, sym was.history.ok.0 ∙ fails.1)
-node_failed by refusals.StoreFault call k k' t b b' was now is fails = node_adds k k' t b b' b was now (Fault call by) [] is fails
-node_failed by (refusals.BadBundle at) call k k' t b b' was now is fails = absurd fails
-node_failed by refusals.NoMemory call k k' t b b' was now is fails = node_same k k' t b b' was now is fails
+pub node_failed : {K : Type 0} (by : By) (e : NodeRefused) (call : Call) (k k' : K) (t : Rows) (l : List EndView) (b b' : Files) (was now : Past) → b' ≡ b → FailsFor by e call was now
+    → RefusesFor by e call (node_of k t l b was) (node_of k' t l b' now)
+node_failed by refusals.Full call k k' t l b b' was now is fails = (node_same k k' t l b b' was now is fails.0, sym was.history.ok.0 ∙ fails.1)
+node_failed by refusals.StoreFault call k k' t l b b' was now is fails = node_adds k k' t l b b' b was now (Fault call by) [] is fails
+node_failed by (refusals.BadBundle at) call k k' t l b b' was now is fails = absurd fails
+node_failed by refusals.NoMemory call k k' t l b b' was now is fails = node_same k k' t l b b' was now is fails
 
-pub node_written : {K : Type 0} (r : Result (Unit {0}) NodeRefused) (k k' : K) (t : Rows) (b b' all : Files) (was now : Past) (kind : EntryKind) (lines : List (List ℕ))
+pub node_written : {K : Type 0} (r : Result (Unit {0}) NodeRefused) (k k' : K) (t : Rows) (l : List EndView) (b b' all : Files) (was now : Past) (kind : EntryKind) (lines : List (List ℕ))
     → OnOk r (b' ≡ all) → OnOk r (AddsTo kind lines was now)
-    → OnOk r (node_of k' t b' now ≡ with_entry (node_of k t b was) k' all kind lines)
-node_written (Ok x) k k' t b b' all was now kind lines is adds = node_adds k k' t b b' all was now kind lines is adds
-node_written (Err e) k k' t b b' all was now kind lines is adds = tt
+    → OnOk r (node_of k' t l b' now ≡ with_entry (node_of k t l b was) k' all kind lines)
+node_written (Ok x) k k' t l b b' all was now kind lines is adds = node_adds k k' t l b b' all was now kind lines is adds
+node_written (Err e) k k' t l b b' all was now kind lines is adds = tt
 
-pub node_refused : {K : Type 0} (by : By) (r : Result (Unit {0}) NodeRefused) (call : Call) (k k' : K) (t : Rows) (b b' : Files) (was now : Past)
+pub node_refused : {K : Type 0} (by : By) (r : Result (Unit {0}) NodeRefused) (call : Call) (k k' : K) (t : Rows) (l : List EndView) (b b' : Files) (was now : Past)
     → OnErr r (b' ≡ b) → IfErr r (λ e. FailsFor by e call was now)
-    → IfErr r (λ e. RefusesFor by e call (node_of k t b was) (node_of k' t b' now))
-node_refused by (Ok x) call k k' t b b' was now is fails = tt
-node_refused by (Err e) call k k' t b b' was now is fails = node_failed by e call k k' t b b' was now is fails
+    → IfErr r (λ e. RefusesFor by e call (node_of k t l b was) (node_of k' t l b' now))
+node_refused by (Ok x) call k k' t l b b' was now is fails = tt
+node_refused by (Err e) call k k' t l b b' was now is fails = node_failed by e call k k' t l b b' was now is fails
 
 -- the same, of the node as it is seen
-pub seen_written : {K : Type 0} (r : Result (Unit {0}) NodeRefused) (k k' : K) (t : Rows) (b b' : Files) (was now : Past) (n : NodeView K) (path : List ℕ) (all : List (List ℕ)) (kind : EntryKind) (lines : List (List ℕ))
-    → node_of k t b was ≡ n → OnOk r (b' ≡ with_file b path all) → OnOk r (AddsTo kind lines was now)
-    → OnOk r (node_of k' t b' now ≡ with_entry n k' (with_file n.branch path all) kind lines)
-seen_written {K} r k k' t b b' was now n path all kind lines view is adds =
-    subst (λ (m : NodeView K). OnOk r (node_of k' t b' now ≡ with_entry m k' (with_file m.branch path all) kind lines)) view
-    (node_written r k k' t b b' (with_file b path all) was now kind lines is adds)
+pub seen_written : {K : Type 0} (r : Result (Unit {0}) NodeRefused) (k k' : K) (t : Rows) (l : List EndView) (b b' : Files) (was now : Past) (n : NodeView K) (path : List ℕ) (all : List (List ℕ)) (kind : EntryKind) (lines : List (List ℕ))
+    → node_of k t l b was ≡ n → OnOk r (b' ≡ with_file b path all) → OnOk r (AddsTo kind lines was now)
+    → OnOk r (node_of k' t l b' now ≡ with_entry n k' (with_file n.branch path all) kind lines)
+seen_written {K} r k k' t l b b' was now n path all kind lines view is adds =
+    subst (λ (m : NodeView K). OnOk r (node_of k' t l b' now ≡ with_entry m k' (with_file m.branch path all) kind lines)) view
+    (node_written r k k' t l b b' (with_file b path all) was now kind lines is adds)
 
-pub seen_refused : {K : Type 0} (by : By) (r : Result (Unit {0}) NodeRefused) (call : Call) (k k' : K) (t : Rows) (b b' : Files) (was now : Past) (n : NodeView K)
-    → node_of k t b was ≡ n → OnErr r (b' ≡ b) → IfErr r (λ e. FailsFor by e call was now)
-    → IfErr r (λ e. RefusesFor by e call n (node_of k' t b' now))
-seen_refused {K} by r call k k' t b b' was now n view is fails =
-    subst (λ (m : NodeView K). IfErr r (λ e. RefusesFor by e call m (node_of k' t b' now))) view (node_refused by r call k k' t b b' was now is fails)
+pub seen_refused : {K : Type 0} (by : By) (r : Result (Unit {0}) NodeRefused) (call : Call) (k k' : K) (t : Rows) (l : List EndView) (b b' : Files) (was now : Past) (n : NodeView K)
+    → node_of k t l b was ≡ n → OnErr r (b' ≡ b) → IfErr r (λ e. FailsFor by e call was now)
+    → IfErr r (λ e. RefusesFor by e call n (node_of k' t l b' now))
+seen_refused {K} by r call k k' t l b b' was now n view is fails =
+    subst (λ (m : NodeView K). IfErr r (λ e. RefusesFor by e call m (node_of k' t l b' now))) view (node_refused by r call k k' t l b b' was now is fails)

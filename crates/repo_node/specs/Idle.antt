@@ -11,7 +11,7 @@ use Rattle.run_data.specs.declared.entry.By.{By}
 use Rattle.run_data.specs.declared.entry.By.TheVariants.{Script}
 use Rattle.union_merge.specs.Branch.{Files}
 use Rattle.node_model.specs.AnyTime.{is_scripts}
-use Rattle.node_model.specs.Ends.{EndName, never}
+use Rattle.node_model.specs.Ends.{EndName}
 use Rattle.node_model.specs.Sessions.{new_session}
 use Rattle.node_model.specs.SetUp.{SetUp}
 use Rattle.node_model.specs.State.{State}
@@ -23,7 +23,6 @@ pub record IsIdle (st : State) : Type 0 where
   pub works : st.works ≡ []
   pub owed : st.owed ≡ []
   pub sessions : (a : EndName) → st.sessions a ≡ new_session
-  pub ends : (a : EndName) → st.ends a ≡ never
 
 -- what a node keeps: it stands as its history leaves it
 pub record IsKept (setup : Setup) (history : List Entry) (rows : Rows) (branch : Files) (contents : Option Contents) : Type 0 where

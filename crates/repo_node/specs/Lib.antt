@@ -2,6 +2,7 @@
 pub mod Nodes
 pub mod Stored
 pub mod Idle
+pub mod Parts
 pub mod Logs
 pub mod Walks
 pub mod Debts

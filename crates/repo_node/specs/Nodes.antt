@@ -3,6 +3,7 @@ use Rattle.std.specs.Prelude.{◌≡◌, ℕ, ◌+◌, List, [], ◌∷◌, ◌+
 use Rattle.std.specs.Option.{ForSome, option_map}
 use Rattle.object_store.specs.Stores.{Contents, Files as StoredFiles, bytes_of}
 use Rattle.content_lock.specs.Rows.{Rows, bar_at, is_filling}
+use Rattle.link_ring.specs.Ends.{EndView}
 use Rattle.union_merge.specs.Branch.{Files, lines_at}
 use Rattle.union_merge.specs.LineSet.{text_of}
 use Rattle.run_data.specs.Repos.{offset_of}
@@ -21,6 +22,7 @@ pub record NodeView (K : Type 0) : Type 0 where
   pub setup : Setup
   pub keeper : K  -- its store, its rows and its branch
   pub table : Rows
+  pub links : List EndView  -- its ends, with the frames at hand and on the way
   pub branch : Files
   pub time : ℕ  -- of the script, in milliseconds, and the count of its last entry, or a greater one
   pub count : ℕ

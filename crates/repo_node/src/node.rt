@@ -14,6 +14,7 @@ use crate::setup::{Ended, Setup};
 use annex_base::{Call, NoMemory};
 use content_lock::LockTable;
 use link_ring::Links;
+use node_ends::{Ends, ends_begin_closed};
 use object_store::{FailingKeeper, Keeper};
 use run_data::Entry;
 use std::alloc::Global;
@@ -27,19 +28,20 @@ pub struct Node<K: Keeper> {
     pub(crate) table: LockTable,
     pub(crate) branch: Branch,
     pub(crate) past: Past,
-    links: Links,
+    pub(crate) ends: Ends,
 }
 
 impl<K: Keeper> Model for Node<K> {
     ghost use Rattle.repo_node.specs.Nodes.{NodeView, HasFiles};
     ghost use Rattle.repo_node.specs.Idle.{IsKept};
+    ghost use Rattle.repo_node.specs.Parts.{HasParts};
     ghost use Rattle.content_lock.specs.Stored.{Agrees};
 
     ghost Value = { NodeView K };
 
-    ghost view = { λ n. record { setup = n.past.setup; keeper = n.keeper; table = n.table; branch = n.branch; time = n.past.time; count = n.past.count; history = n.past.history.items; outcomes = n.past.outcomes.items } };
+    ghost view = { λ n. record { setup = n.past.setup; keeper = n.keeper; table = n.table; links = n.ends; branch = n.branch; time = n.past.time; count = n.past.count; history = n.past.history.items; outcomes = n.past.outcomes.items } };
 
-    ghost invariant = { λ n. IsKept n.past.setup n.past.history.items n.table n.branch (K.contents n.keeper) × HasFiles (K.files n.keeper) n.branch × Agrees (K.records n.keeper) n.table.holds };
+    ghost invariant = { λ n. IsKept n.past.setup n.past.history.items n.table n.branch (K.contents n.keeper) × HasFiles (K.files n.keeper) n.branch × Agrees (K.records n.keeper) n.table.holds × HasParts n.past.setup n.past.history.items n.table n.ends };
 }
 
 impl<K: Keeper> Node<K> {
@@ -53,15 +55,18 @@ impl<K: Keeper> Node<K> {
         requires oldest { 1 ≤ setup.version }
         requires newest { setup.version ≤ 3 }
         requires links { links.ends.items ≡ replicate (length setup.repos * 8) fresh }
-        ensures { IfOk result (λ n. n ≡ record { setup = setup; keeper = keeper; table = record { holds = []; bars = []; fills = [] }; branch = []; time = 0; count = 0; history = []; outcomes = [] }) }
+        ensures { IfOk result (λ n. n ≡ record { setup = setup; keeper = keeper; table = record { holds = []; bars = []; fills = [] }; links = links.ends.items; branch = []; time = 0; count = 0; history = []; outcomes = [] }) }
     {
+        // A law, for the proof: ends begin closed.
+        ends_begin_closed();
         let table = LockTable::new(alloc)?;
+        let ends = Ends::new(links, setup.repos.as_slice().len());
         Ok(Node {
             keeper,
             table,
             branch: Branch::new(alloc),
             past: Past::new(alloc, setup),
-            links,
+            ends,
         })
     }
 
@@ -119,7 +124,7 @@ impl<K: Keeper> Node<K> {
             table: _,
             branch: _,
             past: _,
-            links: _,
+            ends: _,
         } = self;
         keeper
     }

@@ -1,9 +1,12 @@
 -- What the proof of `node::Node::new` needs beside the tactics.
-use Rattle.std.proofs.Common.{ℕ, List, [], Option, sym, ap, ◌∙◌}
+use Rattle.std.proofs.Common.{ℕ, ◌*◌, List, [], length, replicate, Option, sym, ap, ◌∙◌}
 use Rattle.std.specs.Option.{unwrap_or}
 use Rattle.content_lock.specs.Rows.{Rows}
+use Rattle.link_ring.specs.Ends.{fresh}
+use Rattle.repo_node.specs.declared.setup.Setup.{Setup}
 use Rattle.union_merge.specs.Branch.{Files, lines_at}
 use Rattle.union_merge.specs.LineSet.{text_of}
+use Rattle.repo_node.proofs.PartLemmas.{parts_first}
 use Rattle.repo_node.proofs.StateLemmas.{kept_new, no_records}
 use Rattle.repo_node.proofs.node.Node.new.Goals as goal
 
@@ -17,4 +20,6 @@ invariant_of-result g c =
       kept_new past.setup past.history.items table branch known c.new-3.ensures.history c.in_ok-table.ensures c.new-2.ensures empty.contents,
       λ x told path. ap (λ (o : Option (List ℕ)). unwrap_or o []) (empty.files x told path) ∙ sym (ap (λ (b : Files). text_of (lines_at b path)) c.new-2.ensures),
       λ x told. no_records table.holds x (ap (λ (r : Rows). r.holds) c.in_ok-table.ensures) (empty.records x told),
+      parts_first past.setup past.history.items table c.new-ends.result c.new-3.ensures.history c.in_ok-table.ensures
+          (c.new-ends.ensures ∙ c.requires.links ∙ ap (λ (x : Setup). replicate (length x.repos * 8) fresh) (sym c.new-3.ensures.setup)) c.ends_begin_closed.ensures.never c.ends_begin_closed.ensures.ends,
     )
