@@ -2,6 +2,8 @@
 use Rattle.std.specs.Prelude.{◌≡◌, ◌<◌, ◌==◌, ℕ, All, false, List, Option, Some, None}
 use Rattle.drop_proof.specs.declared.rule.Side.{Side}
 use Rattle.drop_proof.specs.declared.rule.Side.TheVariants.{Local, Remote}
+use Rattle.run_data.specs.declared.entry.EntryKind.{EntryKind}
+use Rattle.run_data.specs.declared.entry.EntryKind.TheVariants.{Share}
 use Rattle.run_data.specs.declared.row.Hold.{Hold}
 use Rattle.object_store.specs.declared.keeper.HoldRecord.{HoldRecord}
 use Rattle.node_model.specs.Jobs.{Work, drop_side}
@@ -42,3 +44,8 @@ CanShare Remote records holds number = Agrees records holds × All (λ h. h.numb
 abbrev pub IsNext : Side → Reading → Work → Work → Type 0
 IsNext Local r v v' = v ≡ v'
 IsNext Remote r v v' = Alike r v v'
+
+-- a hold that an entry of this kind adds has this number
+abbrev pub IsNumbered : ℕ → EntryKind → Type 0
+IsNumbered n (Share hold end owner key) = hold ≡ n
+IsNumbered n kind = Unit {0}

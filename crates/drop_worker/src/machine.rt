@@ -17,7 +17,7 @@ ghost use Rattle.drop_worker.specs.Begun.{CanStand, HasGone};
 ghost use Rattle.drop_worker.specs.Feeding.{FitsLocal, IsOfLocal, KeepsAnswer, KeepsWord, ToldAt};
 ghost use Rattle.drop_worker.specs.Leaving.{Advances, Did, store};
 ghost use Rattle.drop_worker.specs.Remote.{DidRemote, StandsRemote};
-ghost use Rattle.drop_worker.specs.Sides.{CanShare, Fits, HasTarget, side_in};
+ghost use Rattle.drop_worker.specs.Sides.{CanShare, Fits, HasTarget, IsNumbered, side_in};
 ghost use Rattle.drop_worker.specs.States.{Sees, StepsSo};
 ghost use Rattle.drop_worker.specs.Stepping.{AdvancesAlike, AdvancesSo, DidSo};
 
@@ -65,6 +65,7 @@ pub fn step<K: Keeper, H: Here>(
     ensures err { OnErr result ((worker.new ≡ worker.old) × (table.new ≡ table.old) × (K.contents keeper.new ≡ K.contents keeper.old) × (K.records keeper.new ≡ K.records keeper.old)) }
     ensures later { K.faults keeper.old ≤ K.faults keeper.new }
     ensures cause { IfOk result (λ out. IfSome (failed_in out.kind) (λ call. Rose (K.faults keeper.old) (K.faults keeper.new))) }
+    ensures numbered { IfOk result (λ out. IsNumbered input.now.number out.kind) }
 
     // A local drop has no holds.
     ensures holds { side_in worker.old ≡ sides.Local → table.new.holds ≡ table.old.holds }
@@ -90,6 +91,7 @@ fn advance<K: Keeper, H: Here>(
     ensures does { DidSo table.old table.new (store (K.contents keeper.old) (K.records keeper.old) (K.faults keeper.old)) (store (K.contents keeper.new) (K.records keeper.new) (K.faults keeper.new)) worker.old worker.new
         (AdvancesSo (sight (H.reading here.now) (H.ends here.now) input.now.time input.now.number) (K.contents keeper.old) table.old table.new worker.old worker.new input.now.taken input.now.word) result }
     ensures begun { side_in worker.old ≡ sides.Local → IfOk result (λ out. CanStand (H.reading here.now) worker.old.phase → HasGone (H.reading here.now) worker.old worker.new out) }
+    ensures numbered { IfOk result (λ out. IsNumbered input.now.number out.kind) }
 {
     match worker.target() {
         None => step_local(worker, alloc, here, table, keeper, input),
@@ -113,6 +115,7 @@ fn step_local<K: Keeper, H: Here>(
     ensures does { Did table.old table.new (store (K.contents keeper.old) (K.records keeper.old) (K.faults keeper.old)) (store (K.contents keeper.new) (K.records keeper.new) (K.faults keeper.new)) worker.old worker.new
         (Advances (sight (H.reading here.now) (H.ends here.now) input.now.time input.now.number) (K.contents keeper.old) table.old table.new worker.old worker.new input.now.taken input.now.word) result }
     ensures begun { IfOk result (λ out. CanStand (H.reading here.now) worker.old.phase → HasGone (H.reading here.now) worker.old worker.new out) }
+    ensures numbered { IfOk result (λ out. IsNumbered input.now.number out.kind) }
 {
     match worker.awaits() {
         Some(peer) => taking::hear(worker, alloc, input, peer),
@@ -134,8 +137,9 @@ fn step_remote<K: Keeper, H: Here>(
     requires apart { ((H.reading here.now).repo == target) ≡ false }
     requires told { ToldAt (partner worker.old.job.peer (phase_as worker.old.phase)) input.now.taken }
     requires fresh { All (λ h. h.number < input.now.number) table.old.holds }
-    ensures { DidRemote table.old table.new (store (K.contents keeper.old) (K.records keeper.old) (K.faults keeper.old)) (store (K.contents keeper.new) (K.records keeper.new) (K.faults keeper.new)) worker.old worker.new
+    ensures did { DidRemote table.old table.new (store (K.contents keeper.old) (K.records keeper.old) (K.faults keeper.old)) (store (K.contents keeper.new) (K.records keeper.new) (K.faults keeper.new)) worker.old worker.new
         (AdvancesAlike (sight (H.reading here.now) (H.ends here.now) input.now.time input.now.number) (K.contents keeper.old) table.old table.new worker.old worker.new input.now.taken input.now.word) result }
+    ensures numbered { IfOk result (λ out. IsNumbered input.now.number out.kind) }
 {
     match worker.awaits() {
         Some(peer) => {

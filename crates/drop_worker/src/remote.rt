@@ -18,6 +18,7 @@ ghost use Rattle.drop_worker.specs.Doing.{Acts, HasToken};
 ghost use Rattle.drop_worker.specs.Leaving.{stands_on, store};
 ghost use Rattle.drop_worker.specs.Feeding.{HasNoBar};
 ghost use Rattle.drop_worker.specs.Remote.{DidRemote, EndsSo, GoesAlike, IsRemote, IsToEnd, Speaks, StandsRemote, Unreleased, Unshared, known_remotely, remote_candidates, unreleased_phase};
+ghost use Rattle.drop_worker.specs.Sides.{IsNumbered};
 
 use crate::evidence::{failures, proof};
 use crate::here::{Here, Standing};
@@ -49,8 +50,9 @@ pub(crate) fn act<K: Keeper, H: Here>(
     requires apart { ((H.reading here.now).repo == target) ≡ false }
     requires awaits { stands_on worker.old ≡ None }
     requires fresh { All (λ h. h.number < input.now.number) table.old.holds }
-    ensures { DidRemote table.old table.new (store (K.contents keeper.old) (K.records keeper.old) (K.faults keeper.old)) (store (K.contents keeper.new) (K.records keeper.new) (K.faults keeper.new)) worker.old worker.new
+    ensures did { DidRemote table.old table.new (store (K.contents keeper.old) (K.records keeper.old) (K.faults keeper.old)) (store (K.contents keeper.new) (K.records keeper.new) (K.faults keeper.new)) worker.old worker.new
         (GoesAlike (sight (H.reading here.now) (H.ends here.now) input.now.time input.now.number) (K.contents keeper.old) table.old table.new worker.old worker.new) result }
+    ensures numbered { IfOk result (λ out. IsNumbered input.now.number out.kind) }
 {
     match worker.phase() {
         Phase::Fresh => begin(worker, alloc, here, table, keeper, input, target),
@@ -78,8 +80,9 @@ fn begin<K: Keeper, H: Here>(
     requires stands { StandsRemote target (K.records keeper.old) table.old worker.old }
     requires at { worker.old.phase ≡ Phase.Fresh }
     requires fresh { All (λ h. h.number < input.now.number) table.old.holds }
-    ensures { DidRemote table.old table.new (store (K.contents keeper.old) (K.records keeper.old) (K.faults keeper.old)) (store (K.contents keeper.new) (K.records keeper.new) (K.faults keeper.new)) worker.old worker.new
+    ensures did { DidRemote table.old table.new (store (K.contents keeper.old) (K.records keeper.old) (K.faults keeper.old)) (store (K.contents keeper.new) (K.records keeper.new) (K.faults keeper.new)) worker.old worker.new
         (GoesAlike (sight (H.reading here.now) (H.ends here.now) input.now.time input.now.number) (K.contents keeper.old) table.old table.new worker.old worker.new) result }
+    ensures numbered { IfOk result (λ out. IsNumbered input.now.number out.kind) }
 {
     match here.standing(here.repo()) {
         Standing::Asked => share_own(worker, alloc, here, table, keeper, input, target),
@@ -111,8 +114,9 @@ fn share_own<K: Keeper, H: Here>(
     requires at { worker.old.phase ≡ Phase.Fresh }
     requires asked { (H.reading here.now).standing (H.reading here.now).repo ≡ Asked }
     requires fresh { All (λ h. h.number < input.now.number) table.old.holds }
-    ensures { DidRemote table.old table.new (store (K.contents keeper.old) (K.records keeper.old) (K.faults keeper.old)) (store (K.contents keeper.new) (K.records keeper.new) (K.faults keeper.new)) worker.old worker.new
+    ensures did { DidRemote table.old table.new (store (K.contents keeper.old) (K.records keeper.old) (K.faults keeper.old)) (store (K.contents keeper.new) (K.records keeper.new) (K.faults keeper.new)) worker.old worker.new
         (GoesAlike (sight (H.reading here.now) (H.ends here.now) input.now.time input.now.number) (K.contents keeper.old) table.old table.new worker.old worker.new) result }
+    ensures numbered { IfOk result (λ out. IsNumbered input.now.number out.kind) }
 {
     let by = By::Job(worker.number());
     let clock = here.clock(input.time);
@@ -170,8 +174,9 @@ fn go_on<K: Keeper, H: Here>(
     requires stands { StandsRemote target (K.records keeper.old) table.old worker.old }
     requires apart { ((H.reading here.now).repo == target) ≡ false }
     requires at { worker.old.phase ≡ Phase.Next }
-    ensures { (number : ℕ) → DidRemote table.old table.new (store (K.contents keeper.old) (K.records keeper.old) (K.faults keeper.old)) (store (K.contents keeper.new) (K.records keeper.new) (K.faults keeper.new)) worker.old worker.new
+    ensures did { (number : ℕ) → DidRemote table.old table.new (store (K.contents keeper.old) (K.records keeper.old) (K.faults keeper.old)) (store (K.contents keeper.new) (K.records keeper.new) (K.faults keeper.new)) worker.old worker.new
         (GoesAlike (sight (H.reading here.now) (H.ends here.now) time number) (K.contents keeper.old) table.old table.new worker.old worker.new) result }
+    ensures numbered { IfOk result (λ out. (n : ℕ) → IsNumbered n out.kind) }
 {
     let candidates = candidates(alloc, here, target)?;
     let items = gather(worker, alloc, here, Side::Remote, &candidates)?;
@@ -362,8 +367,9 @@ pub(crate) fn finish<K: Keeper, H: Here>(
     requires bare { HasNoBar worker.old.token }
     requires owns { HasToken worker.old.number worker.old.job.key worker.old.token table.old }
     requires agrees { Agrees (K.records keeper.old) table.old.holds }
-    ensures { DidRemote table.old table.new (store (K.contents keeper.old) (K.records keeper.old) (K.faults keeper.old)) (store (K.contents keeper.new) (K.records keeper.new) (K.faults keeper.new)) worker.old worker.new
+    ensures did { DidRemote table.old table.new (store (K.contents keeper.old) (K.records keeper.old) (K.faults keeper.old)) (store (K.contents keeper.new) (K.records keeper.new) (K.faults keeper.new)) worker.old worker.new
         (EndsSo (H.reading here.now) (H.ends here.now) time table.old table.new worker.old worker.new outcome) result }
+    ensures numbered { IfOk result (λ out. (n : ℕ) → IsNumbered n out.kind) }
 {
     let lost = is_lost(&outcome);
     let sends = worker.partings(alloc, here, lost)?;

@@ -1,5 +1,5 @@
 //! The steps of a remote drop that take a frame, or find the connection closed.
-ghost use Rattle.std.specs.Prelude.{◌≡◌, ◌<◌, ◌^◌, [], false, Some, IfOk, OnErr, OnOk};
+ghost use Rattle.std.specs.Prelude.{◌≡◌, ◌<◌, ◌^◌, ℕ, [], false, Some, IfOk, OnErr, OnOk};
 ghost use Rattle.drop_proof.specs.Judging.{least_end};
 ghost use Rattle.node_model.specs.Jobs.{partner};
 ghost use Rattle.content_lock.specs.Rows.{Rows};
@@ -8,6 +8,7 @@ ghost use Rattle.drop_worker.specs.Doing.{Takes};
 ghost use Rattle.drop_worker.specs.Feeding.{FindsClosed, KeepsAnswer, KeepsWord, TakesClose, TakesOther};
 ghost use Rattle.drop_worker.specs.Leaving.{stands_on, store};
 ghost use Rattle.drop_worker.specs.Remote.{DidRemote, IsRemote, ShutsRemote, Speaks, StandsRemote, TakesRemote, is_ordering, known_remotely, parted};
+ghost use Rattle.drop_worker.specs.Sides.{IsNumbered};
 
 use crate::here::Here;
 use crate::phase::{Ending, Heard, Phase};
@@ -47,6 +48,7 @@ pub(crate) fn hear<K: Keeper, H: Here>(
         (TakesRemote (H.reading here.now) (H.ends here.now) input.now.time table.old table.new peer input.now.taken worker.old worker.new) result }
     ensures word { IfOk result (λ out. KeepsWord input.now.taken input.now.word worker.old worker.new) }
     ensures answer { IfOk result (λ out. KeepsAnswer input.now.taken input.now.word worker.old worker.new) }
+    ensures numbered { IfOk result (λ out. (n : ℕ) → IsNumbered n out.kind) }
 {
     match &input.taken {
         Taken::Message(message) => {
@@ -78,6 +80,7 @@ fn take_message<K: Keeper, H: Here>(
         (TakesRemote (H.reading here.now) (H.ends here.now) input.now.time table.old table.new peer (Taken.Message message.now) worker.old worker.new) result }
     ensures word { IfOk result (λ out. KeepsWord (Taken.Message message.now) input.now.word worker.old worker.new) }
     ensures answer { IfOk result (λ out. KeepsAnswer (Taken.Message message.now) input.now.word worker.old worker.new) }
+    ensures numbered { IfOk result (λ out. (n : ℕ) → IsNumbered n out.kind) }
 {
     let time = input.time;
     match worker.phase() {
@@ -110,8 +113,9 @@ fn take_time<K: Keeper, H: Here>(
 ) -> Result<Output, NoMemory>
     requires stands { StandsRemote target (K.records keeper.old) table.old worker.old }
     requires at { worker.old.phase ≡ Phase.AsksTime }
-    ensures { DidRemote table.old table.new (store (K.contents keeper.old) (K.records keeper.old) (K.faults keeper.old)) (store (K.contents keeper.new) (K.records keeper.new) (K.faults keeper.new)) worker.old worker.new
+    ensures did { DidRemote table.old table.new (store (K.contents keeper.old) (K.records keeper.old) (K.faults keeper.old)) (store (K.contents keeper.new) (K.records keeper.new) (K.faults keeper.new)) worker.old worker.new
         (TakesRemote (H.reading here.now) (H.ends here.now) time table.old table.new target (Taken.Message message.now) worker.old worker.new) result }
+    ensures numbered { IfOk result (λ out. (n : ℕ) → IsNumbered n out.kind) }
 {
     match message {
         Message::Timestamp(now) => {
@@ -134,8 +138,9 @@ fn take_timestamp<K: Keeper, H: Here>(
 ) -> Result<Output, NoMemory>
     requires stands { StandsRemote target (K.records keeper.old) table.old worker.old }
     requires at { worker.old.phase ≡ Phase.AsksTime }
-    ensures { DidRemote table.old table.new (store (K.contents keeper.old) (K.records keeper.old) (K.faults keeper.old)) (store (K.contents keeper.new) (K.records keeper.new) (K.faults keeper.new)) worker.old worker.new
+    ensures did { DidRemote table.old table.new (store (K.contents keeper.old) (K.records keeper.old) (K.faults keeper.old)) (store (K.contents keeper.new) (K.records keeper.new) (K.faults keeper.new)) worker.old worker.new
         (TakesRemote (H.reading here.now) (H.ends here.now) time table.old table.new target (Taken.Message (Message.Timestamp now)) worker.old worker.new) result }
+    ensures numbered { IfOk result (λ out. (n : ℕ) → IsNumbered n out.kind) }
 {
     if now >= NO_TIME {
         return shut(worker, alloc, target, target);
@@ -157,8 +162,9 @@ fn order_at<K: Keeper, H: Here>(
     requires stands { StandsRemote target (K.records keeper.old) table.old worker.old }
     requires at { worker.old.phase ≡ Phase.AsksTime }
     requires early { now < 2 ^ 61 }
-    ensures { DidRemote table.old table.new (store (K.contents keeper.old) (K.records keeper.old) (K.faults keeper.old)) (store (K.contents keeper.new) (K.records keeper.new) (K.faults keeper.new)) worker.old worker.new
+    ensures did { DidRemote table.old table.new (store (K.contents keeper.old) (K.records keeper.old) (K.faults keeper.old)) (store (K.contents keeper.new) (K.records keeper.new) (K.faults keeper.new)) worker.old worker.new
         (TakesRemote (H.reading here.now) (H.ends here.now) time table.old table.new target (Taken.Message (Message.Timestamp now)) worker.old worker.new) result }
+    ensures numbered { IfOk result (λ out. (n : ℕ) → IsNumbered n out.kind) }
 {
     reads_all(worker.key());
     match locks_end(worker, alloc, here, target)? {
@@ -183,8 +189,9 @@ fn order_before<K: Keeper, H: Here>(
     requires at { worker.old.phase ≡ Phase.AsksTime }
     requires early { now < 2 ^ 61 }
     requires known { Some end ≡ least_end (known_remotely (H.reading here.now) target worker.old) }
-    ensures { DidRemote table.old table.new (store (K.contents keeper.old) (K.records keeper.old) (K.faults keeper.old)) (store (K.contents keeper.new) (K.records keeper.new) (K.faults keeper.new)) worker.old worker.new
+    ensures did { DidRemote table.old table.new (store (K.contents keeper.old) (K.records keeper.old) (K.faults keeper.old)) (store (K.contents keeper.new) (K.records keeper.new) (K.faults keeper.new)) worker.old worker.new
         (TakesRemote (H.reading here.now) (H.ends here.now) time table.old table.new target (Taken.Message (Message.Timestamp now)) worker.old worker.new) result }
+    ensures numbered { IfOk result (λ out. (n : ℕ) → IsNumbered n out.kind) }
 {
     reads_all(worker.key());
     let clock = here.clock(time);

@@ -1,5 +1,5 @@
 //! How a drop of these tests ends.
-use run_data::{DropRefusal, EntryKind, Outcome};
+use run_data::{Denial, DropRefusal, EntryKind, Outcome};
 
 /// How a drop ended, with the numbers of repositories in its proof.
 #[derive(Clone, Copy, Debug, PartialEq, Eq)]
@@ -8,6 +8,10 @@ pub enum Ended {
         locked: usize,
         trusted: usize,
         recent: usize,
+    },
+    /// The target had none.
+    DroppedAbsent {
+        locked: usize,
     },
     Lacking {
         locked: usize,
@@ -25,6 +29,15 @@ pub enum Ended {
     Expired {
         end: u64,
         clock: u64,
+    },
+    Denied {
+        answer: Denial,
+    },
+    Lost {
+        ordered: bool,
+    },
+    OldProtocol {
+        version: u8,
     },
     StoreFault,
     Other,
@@ -46,6 +59,9 @@ fn outcome_so(outcome: Outcome) -> Ended {
             trusted: proof.trusted.as_slice().len(),
             recent: proof.recent.as_slice().len(),
         },
+        Outcome::DroppedAbsent(proof) => Ended::DroppedAbsent {
+            locked: proof.locked.as_slice().len(),
+        },
         Outcome::Refused(why) => refused_so(why),
         _ => Ended::Other,
     }
@@ -57,6 +73,9 @@ fn refused_so(why: DropRefusal) -> Ended {
         DropRefusal::Barred { job } => Ended::Barred { job },
         DropRefusal::Held { until } => Ended::Held { until },
         DropRefusal::Expired { end, clock } => Ended::Expired { end, clock },
+        DropRefusal::Denied { answer } => Ended::Denied { answer },
+        DropRefusal::Lost { ordered } => Ended::Lost { ordered },
+        DropRefusal::OldProtocol { version } => Ended::OldProtocol { version },
         DropRefusal::StoreFault => Ended::StoreFault,
         DropRefusal::Lacking { proof, causes } => Ended::Lacking {
             locked: proof.locked.as_slice().len(),

@@ -8,3 +8,5 @@ mod ended;
 mod local_tests;
 #[cfg(test)]
 mod peers;
+#[cfg(test)]
+mod remote_tests;

@@ -22,7 +22,7 @@ use std::mem;
 use std::test::Fail;
 
 // What the worker is told: nothing where it awaits no frame.
-fn feed(worker: &Worker, pending: Answer) -> Taken
+pub fn feed(worker: &Worker, pending: Answer) -> Taken
     ensures { ToldAt (partner worker.now.job.peer (phase_as worker.now.phase)) result }
 {
     match worker.awaits() {

@@ -29,6 +29,52 @@ pub fn reply(peer: Peer, said: &ParcelBody, me: RepoId) -> Answer {
     }
 }
 
+/// How the target of a remote drop answers.
+#[derive(Clone, Copy, Debug, PartialEq, Eq)]
+pub enum Target {
+    /// It obeys the order.
+    Obeys,
+    /// It refuses the order.
+    Refuses,
+    /// It closes the connection when it is asked for its version.
+    Closes,
+    /// It closes the connection at the order.
+    Vanishes,
+    /// It answers this version, and obeys.
+    Speaks(u64),
+}
+
+/// What comes of a parcel to the target.
+pub fn obey(target: Target, said: &ParcelBody, me: RepoId) -> Answer {
+    match said {
+        ParcelBody::Open => Answer::Plain(Message::AuthSuccess(me)),
+        ParcelBody::Message(said) => target_answer(target, said.message()),
+        ParcelBody::Close | ParcelBody::Last(_) => Answer::Closed,
+    }
+}
+
+fn target_answer(target: Target, said: &Message) -> Answer {
+    match (target, said) {
+        (Target::Closes, Message::Version(_)) => Answer::Closed,
+        (Target::Speaks(version), Message::Version(_)) => {
+            Answer::Plain(Message::Version(version))
+        }
+        (_, Message::Version(version)) => Answer::Plain(Message::Version(*version)),
+        (_, Message::GetTimestamp) => Answer::Plain(Message::Timestamp(1000)),
+        (_, Message::Remove(_)) => ordered(target),
+        (_, Message::RemoveBefore { before: _, key: _ }) => ordered(target),
+        _ => Answer::Closed,
+    }
+}
+
+fn ordered(target: Target) -> Answer {
+    match target {
+        Target::Refuses => Answer::Plain(Message::Failure),
+        Target::Vanishes => Answer::Closed,
+        _ => Answer::Plain(Message::Success),
+    }
+}
+
 /// What a worker is told.
 #[derive(Debug, Drop)]
 pub enum Answer {

@@ -46,4 +46,4 @@ pub returns-in-Some-clause-does : goal.returns-in-Some-clause-does
 returns-in-Some-clause-does g c =
     let w = c.args.worker.now in
     remote_did (sight (g.H.Here.reading c.args.here.now) (g.H.Here.ends c.args.here.now) c.args.input.now.time c.args.input.now.number) c.args.table.now c.step_remote.new.table (store (g.K.Keeper.contents c.args.keeper.now) (g.K.Keeper.records c.args.keeper.now) (g.K.Keeper.faults c.args.keeper.now)) (store (g.K.Keeper.contents c.step_remote.new.keeper) (g.K.Keeper.records c.step_remote.new.keeper) (g.K.Keeper.faults c.step_remote.new.keeper))
-    w c.step_remote.new.worker c.args.input.now.taken c.args.input.now.word c.step_remote.result (target_remote (side_in c.args.worker.now) c.args.worker.now.job.peer c.in-Some.target (sym c.target.ensures ∙ c.in-Some.is)) c.step_remote.ensures
+    w c.step_remote.new.worker c.args.input.now.taken c.args.input.now.word c.step_remote.result (target_remote (side_in c.args.worker.now) c.args.worker.now.job.peer c.in-Some.target (sym c.target.ensures ∙ c.in-Some.is)) c.step_remote.ensures.did

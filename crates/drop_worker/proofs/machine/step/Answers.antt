@@ -26,4 +26,5 @@ returns g c =
       records = a.records;
       later = a.later;
       cause = a.cause;
+      numbered = c.advance.ensures.numbered;
     }

@@ -9,8 +9,8 @@ use Rattle.drop_worker.specs.Working.{sight}
 use Rattle.drop_worker.proofs.Sharings.{skipped_did}
 use Rattle.drop_worker.proofs.remote.begin.Goals as goal
 
-pub returns-in-Claimed : goal.returns-in-Claimed
-returns-in-Claimed g c =
+pub returns-in-Claimed-clause-did : goal.returns-in-Claimed-clause-did
+returns-in-Claimed-clause-did g c =
     let read = g.H.Here.reading c.args.here.now in
     let w = c.args.worker.now in
     skipped_did (sight read (g.H.Here.ends c.args.here.now) c.args.input.now.time c.args.input.now.number) c.args.table.now c.args.table.now
@@ -18,8 +18,8 @@ returns-in-Claimed g c =
     c.args.target c.requires.stands.remote c.requires.at (subst (λ (ph : Phase). FitsRemote ph w.token) c.requires.at c.requires.stands.fits) c.requires.stands.owns seen.Claimed c.pass_by.result refl (λ t. refl)
     (ap read.standing (sym c.repo.ensures) ∙ (sym c.standing.ensures ∙ ap standing_of c.in-Claimed.is)) c.pass_by.ensures.says.0 c.pass_by.ensures.says.1 c.pass_by.ensures.next refl refl c.requires.stands.agrees
 
-pub returns-in-Ignored : goal.returns-in-Ignored
-returns-in-Ignored g c =
+pub returns-in-Ignored-clause-did : goal.returns-in-Ignored-clause-did
+returns-in-Ignored-clause-did g c =
     let read = g.H.Here.reading c.args.here.now in
     let w = c.args.worker.now in
     skipped_did (sight read (g.H.Here.ends c.args.here.now) c.args.input.now.time c.args.input.now.number) c.args.table.now c.args.table.now

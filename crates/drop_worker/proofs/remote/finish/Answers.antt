@@ -9,8 +9,8 @@ use Rattle.drop_worker.specs.Working.{partings}
 use Rattle.drop_worker.proofs.RemoteEndings.{agrees_still, bare_did, failed_did, lost_did, released_did}
 use Rattle.drop_worker.proofs.remote.finish.Goals as goal
 
-pub returns-then-lost : goal.returns-then-lost
-returns-then-lost g c =
+pub returns-then-lost-clause-did : goal.returns-then-lost-clause-did
+returns-then-lost-clause-did g c =
     let read = g.H.Here.reading c.args.here.now in
     let ends = g.H.Here.ends c.args.here.now in
     let w = c.args.worker.now in
@@ -21,8 +21,8 @@ returns-then-lost g c =
     c.in-Share.share (subst (λ (t : Token). HasToken w.number w.job.key t c.args.table.now) (sym c.take_token.ensures.token ∙ c.in-Share.is) c.requires.owns)
     (sym c.is_lost-lost.ensures ∙ c.if-lost.true) c.abandon.ensures.after c.abandon.ensures.owns c.abandon.ensures.others
 
-pub returns-in-Nothing : goal.returns-in-Nothing
-returns-in-Nothing g c =
+pub returns-in-Nothing-clause-did : goal.returns-in-Nothing-clause-did
+returns-in-Nothing-clause-did g c =
     let read = g.H.Here.reading c.args.here.now in
     let ends = g.H.Here.ends c.args.here.now in
     let w = c.args.worker.now in
@@ -32,8 +32,8 @@ returns-in-Nothing g c =
     (c.in_ok-sends.ensures ∙ ap (partings read ends w) c.is_lost-lost.ensures) c.take_token.ensures.bare refl c.requires.agrees (omega arith)
     (subst (λ (t : Token). HasToken w.number w.job.key t c.args.table.now) (sym c.take_token.ensures.token ∙ c.in-Nothing.is) c.requires.owns) refl
 
-pub returns-in-Ok : goal.returns-in-Ok
-returns-in-Ok g c =
+pub returns-in-Ok-clause-did : goal.returns-in-Ok-clause-did
+returns-in-Ok-clause-did g c =
     let read = g.H.Here.reading c.args.here.now in
     let ends = g.H.Here.ends c.args.here.now in
     let w = c.args.worker.now in
@@ -45,8 +45,8 @@ returns-in-Ok g c =
     c.in-Share.share (subst (λ (t : Token). HasToken w.number w.job.key t c.args.table.now) (sym c.take_token.ensures.token ∙ c.in-Share.is) c.requires.owns)
     (sym c.is_lost-lost.ensures ∙ c.if-lost.false) c.in-Ok.ensures.after c.in-Ok.ensures.ended c.in-Ok.ensures.owns c.in-Ok.ensures.others
 
-pub returns-in-Err : goal.returns-in-Err
-returns-in-Err g c =
+pub returns-in-Err-clause-did : goal.returns-in-Err-clause-did
+returns-in-Err-clause-did g c =
     let read = g.H.Here.reading c.args.here.now in
     let ends = g.H.Here.ends c.args.here.now in
     let w = c.args.worker.now in

@@ -8,10 +8,11 @@ use Rattle.drop_worker.specs.Judging.{asks_of, gathered}
 use Rattle.drop_worker.specs.Leaving.{store}
 use Rattle.drop_worker.specs.Feeding.{FitsRemote}
 use Rattle.drop_worker.proofs.RemoteGoings.{asks_did, lacks_did_remotely, orders_did}
+use Rattle.drop_worker.proofs.Numbers.{speaks_numbered}
 use Rattle.drop_worker.proofs.remote.go_on.Goals as goal
 
-pub returns-in-Enough : goal.returns-in-Enough
-returns-in-Enough g c = λ number.
+pub returns-in-Enough-clause-did : goal.returns-in-Enough-clause-did
+returns-in-Enough-clause-did g c = λ number.
     let read = g.H.Here.reading c.args.here.now in
     let w = c.args.worker.now in
     orders_did read (g.H.Here.ends c.args.here.now) c.args.time number w c.go_to.new.worker c.args.target c.requires.stands.remote c.requires.at c.need.result c.deref-3.result.now c.need.ensures
@@ -19,8 +20,8 @@ returns-in-Enough g c = λ number.
     c.args.table.now (store (g.K.Keeper.contents c.args.keeper.now) (g.K.Keeper.records c.args.keeper.now) (g.K.Keeper.faults c.args.keeper.now)) c.go_to.result (c.judge.ensures.enough c.in-Enough.end c.in-Enough.is)
     c.go_to.ensures.does c.go_to.ensures.speaks c.go_to.ensures.err (subst (λ (ph : Phase). FitsRemote ph w.token) c.requires.at c.requires.stands.fits) c.requires.stands.owns c.requires.stands.agrees
 
-pub returns-in-Some : goal.returns-in-Some
-returns-in-Some g c = λ number.
+pub returns-in-Some-clause-did : goal.returns-in-Some-clause-did
+returns-in-Some-clause-did g c = λ number.
     let read = g.H.Here.reading c.args.here.now in
     let w = c.args.worker.now in
     asks_did read (g.H.Here.ends c.args.here.now) c.args.time number w c.go_to-in-Some.new.worker c.args.target c.requires.stands.remote c.requires.at c.need.result c.deref-3.result.now c.need.ensures
@@ -30,8 +31,8 @@ returns-in-Some g c = λ number.
     (ap (find (asks_of read w)) (sym (c.deref-in-Lacking.ensures.value ∙ c.in_ok-candidates.ensures.all)) ∙ (sym c.next.ensures ∙ c.in-Some.is))
     c.go_to-in-Some.ensures.does c.go_to-in-Some.ensures.speaks c.go_to-in-Some.ensures.err (subst (λ (ph : Phase). FitsRemote ph w.token) c.requires.at c.requires.stands.fits) c.requires.stands.owns c.requires.stands.agrees
 
-pub returns : goal.returns
-returns g c = λ number.
+pub returns-clause-did : goal.returns-clause-did
+returns-clause-did g c = λ number.
     let read = g.H.Here.reading c.args.here.now in
     let w = c.args.worker.now in
     lacks_did_remotely read (g.H.Here.ends c.args.here.now) c.args.time number w c.finish.new.worker c.args.target c.requires.stands.remote c.requires.at c.need.result c.deref-3.result.now c.need.ensures
@@ -39,4 +40,10 @@ returns g c = λ number.
     c.args.table.now c.finish.new.table (store (g.K.Keeper.contents c.args.keeper.now) (g.K.Keeper.records c.args.keeper.now) (g.K.Keeper.faults c.args.keeper.now)) (store (g.K.Keeper.contents c.finish.new.keeper) (g.K.Keeper.records c.finish.new.keeper) (g.K.Keeper.faults c.finish.new.keeper)) (Refused c.in_ok-why-in-None.why) c.finish.result
     (c.judge.ensures.lacking c.in-Lacking.counted c.in-Lacking.needed c.in-Lacking.full c.in-Lacking.full_needed c.in-Lacking.is).0
     (ap (find (asks_of read w)) (sym (c.deref-in-Lacking.ensures.value ∙ c.in_ok-candidates.ensures.all)) ∙ (sym c.next.ensures ∙ c.in-None.is))
-    c.in_ok-why-in-None.ensures c.finish.ensures
+    c.in_ok-why-in-None.ensures c.finish.ensures.did
+
+pub returns-in-Enough-clause-numbered : goal.returns-in-Enough-clause-numbered
+returns-in-Enough-clause-numbered g c = speaks_numbered c.args.worker.now c.go_to.new.worker c.go_to.result c.go_to.ensures.speaks
+
+pub returns-in-Some-clause-numbered : goal.returns-in-Some-clause-numbered
+returns-in-Some-clause-numbered g c = speaks_numbered c.args.worker.now c.go_to-in-Some.new.worker c.go_to-in-Some.result c.go_to-in-Some.ensures.speaks

@@ -14,8 +14,8 @@ use Rattle.drop_worker.specs.Working.{sight}
 use Rattle.drop_worker.proofs.Sharings.{unshared_did}
 use Rattle.drop_worker.proofs.remote.share_own.Goals as goal
 
-pub returns-in-Err : goal.returns-in-Err
-returns-in-Err g c =
+pub returns-in-Err-clause-did : goal.returns-in-Err-clause-did
+returns-in-Err-clause-did g c =
     let read = g.H.Here.reading c.args.here.now in
     let w = c.args.worker.now in
     unshared_did (sight read (g.H.Here.ends c.args.here.now) c.args.input.now.time c.args.input.now.number) c.args.table.now c.share.new.self

@@ -3,6 +3,7 @@ use Rattle.drop_worker.specs.declared.turn.Taken.TheVariants as takens
 use Rattle.drop_worker.specs.Leaving.{store}
 use Rattle.drop_worker.specs.Remote.{TakesRemote}
 use Rattle.drop_worker.proofs.Feedings.{closed_so, other_so, speaks_did}
+use Rattle.drop_worker.proofs.Numbers.{speaks_numbered}
 use Rattle.drop_worker.proofs.remote_taking.hear.Goals as goal
 
 pub returns-in-Message-clause-did : goal.returns-in-Message-clause-did
@@ -25,3 +26,9 @@ returns-in-Closed-clause-did g c =
     let ends = g.H.Here.ends c.args.here.now in
     rw c.in-Closed.is (speaks_did c.args.target c.args.table.now (store (g.K.Keeper.contents c.args.keeper.now) (g.K.Keeper.records c.args.keeper.now) (g.K.Keeper.faults c.args.keeper.now)) w w'
     (TakesRemote read ends c.args.input.now.time c.args.table.now c.args.table.now c.args.peer takens.Closed w w') c.close.result c.requires.stands (closed_so read ends c.args.input.now.time c.args.table.now c.args.peer w w' c.close.result c.close.ensures.does c.close.ensures.here) c.close.ensures.speaks c.close.ensures.err)
+
+pub returns-in-Other-clause-numbered : goal.returns-in-Other-clause-numbered
+returns-in-Other-clause-numbered g c = speaks_numbered c.args.worker.now c.take_other.new.worker c.take_other.result c.take_other.ensures.speaks
+
+pub returns-in-Closed-clause-numbered : goal.returns-in-Closed-clause-numbered
+returns-in-Closed-clause-numbered g c = speaks_numbered c.args.worker.now c.close.new.worker c.close.result c.close.ensures.speaks

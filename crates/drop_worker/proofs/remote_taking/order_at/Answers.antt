@@ -9,8 +9,8 @@ use Rattle.drop_worker.proofs.Takings.{if_ok}
 use Rattle.drop_worker.proofs.Timing.{order_plain, order_speaks, order_takes}
 use Rattle.drop_worker.proofs.remote_taking.order_at.Goals as goal
 
-pub returns-in-None : goal.returns-in-None
-returns-in-None g c =
+pub returns-in-None-clause-did : goal.returns-in-None-clause-did
+returns-in-None-clause-did g c =
     let w = c.args.worker.now in
     let w' = c.order.new.worker in
     let read = g.H.Here.reading c.args.here.now in

@@ -11,8 +11,8 @@ use Rattle.drop_worker.proofs.Takings.{if_ok}
 use Rattle.drop_worker.proofs.Timing.{late_takes, order_speaks, order_takes, order_timed}
 use Rattle.drop_worker.proofs.remote_taking.order_before.Goals as goal
 
-pub returns-in-Ok : goal.returns-in-Ok
-returns-in-Ok g c =
+pub returns-in-Ok-clause-did : goal.returns-in-Ok-clause-did
+returns-in-Ok-clause-did g c =
     let w = c.args.worker.now in
     let w' = c.order.new.worker in
     let read = g.H.Here.reading c.args.here.now in
@@ -28,8 +28,8 @@ returns-in-Ok g c =
     (λ number p rest f. order_timed read ends c.args.time w target c.args.now remote c.requires.at c.clock-clock.result c.args.end before c.requires.known c.clock-clock.ensures.same c.in-Ok.ensures.told.0 c.in-Ok.ensures.told.1 number c.args.table.now p rest f)))
     (if_ok c.order.result (Says (order_of read.need w target (Some before)) target w w') (Speaks w w') c.order.ensures.says (λ out s. order_speaks read w w' target (Some before) out s)) c.order.ensures.err
 
-pub returns-in-Err : goal.returns-in-Err
-returns-in-Err g c =
+pub returns-in-Err-clause-did : goal.returns-in-Err-clause-did
+returns-in-Err-clause-did g c =
     let w = c.args.worker.now in
     let w' = c.finish.new.worker in
     let read = g.H.Here.reading c.args.here.now in
@@ -37,5 +37,5 @@ returns-in-Err g c =
     let target = c.args.target in
     let why = Refused (refusals.Expired c.args.end c.clock-clock.result) in
     did_as_remote c.args.table.now c.finish.new.table (store (g.K.Keeper.contents c.args.keeper.now) (g.K.Keeper.records c.args.keeper.now) (g.K.Keeper.faults c.args.keeper.now)) (store (g.K.Keeper.contents c.finish.new.keeper) (g.K.Keeper.records c.finish.new.keeper) (g.K.Keeper.faults c.finish.new.keeper)) w w'
-    (EndsSo read ends c.args.time c.args.table.now c.finish.new.table w w' why) (TakesRemote read ends c.args.time c.args.table.now c.finish.new.table target (takens.Message (Timestamp c.args.now)) w w') c.finish.result c.finish.ensures
+    (EndsSo read ends c.args.time c.args.table.now c.finish.new.table w w' why) (TakesRemote read ends c.args.time c.args.table.now c.finish.new.table target (takens.Message (Timestamp c.args.now)) w w') c.finish.result c.finish.ensures.did
     (λ out d. late_takes read ends c.args.time w target c.args.now c.requires.stands.remote c.requires.at c.args.table.now c.finish.new.table w' c.clock-clock.result c.args.end out c.requires.early c.requires.known c.clock-clock.ensures.same c.in-Err.ensures.told.0 d)

@@ -6,6 +6,7 @@ use Rattle.drop_worker.specs.Doing.{Takes}
 use Rattle.drop_worker.specs.Leaving.{store}
 use Rattle.drop_worker.specs.Remote.{TakesRemote}
 use Rattle.drop_worker.proofs.Feedings.{at_rows, ordered_peer, speaks_did, takes_so}
+use Rattle.drop_worker.proofs.Numbers.{speaks_numbered}
 use Rattle.drop_worker.proofs.remote_taking.take_message.Goals as goal
 
 pub returns-in-Opens-clause-did : goal.returns-in-Opens-clause-did
@@ -60,3 +61,18 @@ returns-in-Orders-clause-did g c =
     (takes_so read ends c.args.input.now.time c.args.table.now c.args.peer m w w' c.take_answer.result
     (subst (λ (q : ℕ). IfOk c.take_answer.result (Takes c.args.input.now.time q m w w')) (ordered_peer w c.args.target c.args.peer c.requires.stands.remote.peer (sym c.phase.ensures ∙ c.in-Orders.is) c.requires.awaits) c.take_answer.ensures.does))
     c.take_answer.ensures.speaks c.take_answer.ensures.err
+
+pub returns-in-Opens-clause-numbered : goal.returns-in-Opens-clause-numbered
+returns-in-Opens-clause-numbered g c = speaks_numbered c.args.worker.now c.take_opened.new.worker c.take_opened.result c.take_opened.ensures.speaks
+
+pub returns-in-Greets-clause-numbered : goal.returns-in-Greets-clause-numbered
+returns-in-Greets-clause-numbered g c = speaks_numbered c.args.worker.now c.take_version.new.worker c.take_version.result c.take_version.ensures.speaks
+
+pub returns-in-AsksLock-clause-numbered : goal.returns-in-AsksLock-clause-numbered
+returns-in-AsksLock-clause-numbered g c = speaks_numbered c.args.worker.now c.take_lock.new.worker c.take_lock.result c.take_lock.ensures.speaks
+
+pub returns-in-AsksLook-clause-numbered : goal.returns-in-AsksLook-clause-numbered
+returns-in-AsksLook-clause-numbered g c = speaks_numbered c.args.worker.now c.take_look.new.worker c.take_look.result c.take_look.ensures.speaks
+
+pub returns-in-Orders-clause-numbered : goal.returns-in-Orders-clause-numbered
+returns-in-Orders-clause-numbered g c = speaks_numbered c.args.worker.now c.take_answer.new.worker c.take_answer.result c.take_answer.ensures.speaks

@@ -8,11 +8,11 @@ use Rattle.drop_worker.proofs.Feedings.{at_rows, lost_takes, speaks_did, time_el
 use Rattle.drop_worker.proofs.Losses.{shuts_speaks}
 use Rattle.drop_worker.proofs.remote_taking.take_time.Goals as goal
 
-pub returns-in-Timestamp : goal.returns-in-Timestamp
-returns-in-Timestamp g c = rw c.in-Timestamp.is c.take_timestamp.ensures
+pub returns-in-Timestamp-clause-did : goal.returns-in-Timestamp-clause-did
+returns-in-Timestamp-clause-did g c = rw c.in-Timestamp.is c.take_timestamp.ensures.did
 
-pub returns-in_default : goal.returns-in_default
-returns-in_default g c =
+pub returns-in_default-clause-did : goal.returns-in_default-clause-did
+returns-in_default-clause-did g c =
     let w = c.args.worker.now in
     let w' = c.shut.new.worker in
     let read = g.H.Here.reading c.args.here.now in

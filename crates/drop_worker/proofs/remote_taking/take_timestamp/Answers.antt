@@ -9,8 +9,8 @@ use Rattle.drop_worker.proofs.Losses.{shuts_speaks}
 use Rattle.drop_worker.proofs.Timing.{no_time}
 use Rattle.drop_worker.proofs.remote_taking.take_timestamp.Goals as goal
 
-pub returns-then-now-ge-NO_TIME : goal.returns-then-now-ge-NO_TIME
-returns-then-now-ge-NO_TIME g c =
+pub returns-then-now-ge-NO_TIME-clause-did : goal.returns-then-now-ge-NO_TIME-clause-did
+returns-then-now-ge-NO_TIME-clause-did g c =
     let w = c.args.worker.now in
     let w' = c.shut.new.worker in
     let read = g.H.Here.reading c.args.here.now in
