@@ -31,6 +31,8 @@ enum Act {
     Gives,
     Takes,
     Closes,
+    /// Drops the frames that are never taken.
+    Drops,
 }
 
 #[derive(Clone, Copy, PartialEq, Eq)]
@@ -199,6 +201,10 @@ fn does(alloc: Global, ends: &mut Ends, id: EndId, what: Act) -> Result<Option<S
         Act::Gives => give(alloc, ends, id),
         Act::Takes => Ok(take(ends, id)),
         Act::Closes => Ok(close(ends, id)),
+        Act::Drops => {
+            ends.drop_old();
+            Ok(None)
+        }
     }
 }
 
@@ -318,6 +324,33 @@ fn a_connection_is_opened_and_closed(rt: HostRuntime) -> Result<(), Fail> {
             (Side::Client, Act::Closes, None),
             (Side::Client, Act::Opens, Some((2, 1, Kind::Open))),
             (Side::Server, Act::Takes, Some((2, 1, Kind::Open))),
+        ],
+    )?;
+    assert_eq!(rt; other, None);
+    Ok(())
+}
+
+/// What is sent to an end that was closed is never taken, and fills the way until it is dropped there.
+#[test]
+fn dropped_frames_free_their_places(rt: HostRuntime) -> Result<(), Fail> {
+    let other = first_other(
+        rt.alloc(),
+        &[
+            (Side::Client, Act::Opens, Some((1, 1, Kind::Open))),
+            (Side::Server, Act::Takes, Some((1, 1, Kind::Open))),
+            (Side::Server, Act::Closes, Some((1, 1, Kind::Close))),
+            (Side::Client, Act::Gives, Some((1, 2, Kind::Bytes(1)))),
+            (Side::Client, Act::Gives, Some((1, 3, Kind::Bytes(1)))),
+            (Side::Client, Act::Gives, Some((1, 4, Kind::Bytes(1)))),
+            (Side::Client, Act::Gives, Some((1, 5, Kind::Bytes(1)))),
+            (Side::Client, Act::Gives, Some((1, 6, Kind::Bytes(1)))),
+            (Side::Client, Act::Gives, Some((1, 7, Kind::Bytes(1)))),
+            (Side::Client, Act::Gives, Some((1, 8, Kind::Bytes(1)))),
+            (Side::Client, Act::Gives, None),
+            (Side::Server, Act::Takes, None),
+            (Side::Client, Act::Gives, None),
+            (Side::Server, Act::Drops, None),
+            (Side::Client, Act::Gives, Some((1, 9, Kind::Bytes(1)))),
         ],
     )?;
     assert_eq!(rt; other, None);

@@ -4,3 +4,4 @@ pub mod Naming
 pub mod Waiting
 pub mod Joining
 pub mod Listing
+pub mod Dropping

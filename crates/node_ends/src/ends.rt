@@ -1,8 +1,8 @@
 //! The ends of a repository.
-ghost use Rattle.std.specs.Prelude.{◌≡◌, ◌≢◌, ℕ, ◌*◌, [], ◌∷◌, ◌++◌, List, true, Some, IfSome, is_some, length, replicate};
+ghost use Rattle.std.specs.Prelude.{◌≡◌, ◌≢◌, ℕ, ◌*◌, [], ◌∷◌, ◌++◌, List, true, Some, IfSome, is_some, length, map, replicate};
 ghost use Rattle.std.specs.declared.option.Option.{Option};
 ghost use Rattle.std.specs.Option.{option_and_then, option_copied, option_map};
-ghost use Rattle.link_ring.specs.Ends.{EndView, after_take, fresh, next_frame};
+ghost use Rattle.link_ring.specs.Ends.{EndView, after_drop, after_take, fresh, next_frame};
 ghost use Rattle.run_data.specs.declared.entry.FrameView.{FrameView};
 ghost use Rattle.run_data.specs.declared.entry.FrameText.TheVariants as texts;
 ghost use Rattle.node_model.specs.Ends.{EndName, end_sends, end_takes, frames};
@@ -110,5 +110,19 @@ impl Ends {
     {
         let listed = places::send(&mut self.links.ends, id, sender, word, said);
         listed
+    }
+
+    /// Drops, at each end, the frames that are never taken: of an older epoch, or of one that the end has closed. It takes no
+    /// memory.
+    pub fn drop_old(&mut self)
+        ensures ends { self.new ≡ map after_drop self.old }
+        ensures waits { (a : EndName) → wait_at self.new a ≡ wait_at self.old a }
+        ensures room { (a : EndName) → room_at self.new a ≡ room_at self.old a }
+        ensures stand { (a : EndName) → end_at self.new a ≡ end_at self.old a }
+        ensures there { (a : EndName) → is_some (link_at self.new a) ≡ is_some (link_at self.old a) }
+        ensures count { length self.new ≡ length self.old }
+        ensures paired { StayPaired self.old self.new }
+    {
+        places::drop_old(&mut self.links.ends);
     }
 }

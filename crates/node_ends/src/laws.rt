@@ -1,7 +1,7 @@
 //! The laws of ends. Each is the contract of a function that does nothing.
-ghost use Rattle.std.specs.Prelude.{◌≡◌, ◌≢◌, ◌<◌, ◌*◌, ℕ, List, [], true, None, is_some, length, replicate};
+ghost use Rattle.std.specs.Prelude.{◌≡◌, ◌≢◌, ◌<◌, ◌*◌, ℕ, List, [], true, None, is_some, length, map, replicate};
 ghost use Rattle.annex_base.specs.Lists.{Member};
-ghost use Rattle.link_ring.specs.Ends.{EndView, fresh};
+ghost use Rattle.link_ring.specs.Ends.{EndView, after_drop, fresh};
 ghost use Rattle.run_data.specs.declared.entry.Entry.{Entry};
 ghost use Rattle.run_data.specs.declared.entry.FrameText.{FrameText};
 ghost use Rattle.run_data.specs.declared.entry.FrameText.TheVariants as texts;
@@ -55,4 +55,10 @@ pub fn ends_stay_joined()
     ensures other { (a b : ℕ) (xs ys : List EndView) → AreJoined a b xs ys → AreJoined b a ys xs }
     ensures elsewhere { (a b c : ℕ) (xs now ys zs : List EndView) → c ≢ b → AreCarried a b xs now ys → AreJoined a c xs zs → AreJoined a c now zs }
     ensures call { (a b : ℕ) (xs now ys : List EndView) → StayPaired xs now → AreJoined a b xs ys → AreJoined a b now ys }
+{}
+
+/// An end that drops the frames that are never taken is that of the same state, and a look finds the same there.
+pub fn dropped_frames_change_no_end()
+    ensures ends { (links : List EndView) (s : SetUp) (st : State) → AreEnds links s st → AreEnds (map after_drop links) s st }
+    ensures looks { (links : List EndView) (s : SetUp) (k : Look) → SeesEnds links s k → SeesEnds (map after_drop links) s k }
 {}

@@ -13,8 +13,8 @@ mod single;
 pub use carrying::carry_ends;
 pub use ends::Ends;
 pub use laws::{
-    ends_are_there, ends_begin_closed, ends_go_on, ends_stay_joined, frames_wait_at_ends,
-    room_permits_frames,
+    dropped_frames_change_no_end, ends_are_there, ends_begin_closed, ends_go_on, ends_stay_joined,
+    frames_wait_at_ends, room_permits_frames,
 };
 pub use name::EndId;
 pub use sending::Sending;

@@ -1,11 +1,11 @@
 //! What is done at one of the ends, which is found by its place.
-ghost use Rattle.std.specs.Prelude.{◌≡◌, ◌<◌, ◌∷◌, [], true, Some, is_some, length};
+ghost use Rattle.std.specs.Prelude.{◌≡◌, ◌<◌, ◌∷◌, [], true, Some, is_some, length, map};
 ghost use Rattle.std.specs.Option.{option_and_then, option_copied};
-ghost use Rattle.link_ring.specs.Ends.{after_take, next_frame};
+ghost use Rattle.link_ring.specs.Ends.{after_drop, after_take, next_frame};
 ghost use Rattle.link_ring.specs.Places.{end_place};
-ghost use Rattle.node_model.specs.Ends.{frames};
+ghost use Rattle.node_model.specs.Ends.{EndName, frames};
 ghost use Rattle.node_ends.specs.Changes.{IsChanged, frame_waiting};
-ghost use Rattle.node_ends.specs.Ends.{end_at, link_at, name_of, room_at};
+ghost use Rattle.node_ends.specs.Ends.{end_at, link_at, name_of, room_at, wait_at};
 ghost use Rattle.node_ends.specs.Invariant.{each_may_close};
 ghost use Rattle.node_ends.specs.Joined.{StayPaired};
 ghost use Rattle.node_ends.specs.Sent.{IsListed, link_sends, may_send, text_of_sending};
@@ -81,4 +81,28 @@ pub(crate) fn send(
 {
     let place = place_in(ends, id);
     single::send(&mut ends[place], id, sender, word, said)
+}
+
+// Drops the frames that are never taken, at each end.
+fn drop_each(ends: &mut Vec<End>)
+    ensures { ends.new.items ≡ map after_drop ends.old.items }
+{
+    for end in ends.iter_mut() {
+        end.drop_old();
+    }
+}
+
+// The same; no end stands otherwise, nor does anything else wait there.
+pub(crate) fn drop_old(ends: &mut Vec<End>)
+    requires close { each_may_close ends.old.items ≡ true }
+    ensures ends { ends.new.items ≡ map after_drop ends.old.items }
+    ensures waits { (a : EndName) → wait_at ends.new.items a ≡ wait_at ends.old.items a }
+    ensures room { (a : EndName) → room_at ends.new.items a ≡ room_at ends.old.items a }
+    ensures stand { (a : EndName) → end_at ends.new.items a ≡ end_at ends.old.items a }
+    ensures there { (a : EndName) → is_some (link_at ends.new.items a) ≡ is_some (link_at ends.old.items a) }
+    ensures count { length ends.new.items ≡ length ends.old.items }
+    ensures close { each_may_close ends.new.items ≡ true }
+    ensures paired { StayPaired ends.old.items ends.new.items }
+{
+    drop_each(ends);
 }
