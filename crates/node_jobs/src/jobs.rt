@@ -74,6 +74,13 @@ impl Jobs {
         self.begun
     }
 
+    /// How many jobs run.
+    pub fn running(&self) -> usize
+        ensures { result ≡ length self.now.running }
+    {
+        self.running.len()
+    }
+
     /// Begins a drop of the repository's own copy, and gives its number. It makes no step yet.
     pub fn begin(&mut self, alloc: Global, what: Job) -> Result<u32, BeginRefused>
         requires kind { what.kind ≡ JobKind.Drop }
