@@ -67,6 +67,13 @@ impl Jobs {
         }
     }
 
+    /// The number of its repository.
+    pub fn number(&self) -> u32
+        ensures { result ≡ self.now.place.number }
+    {
+        self.place.number()
+    }
+
     /// How many jobs were begun.
     pub fn begun(&self) -> u32
         ensures { result ≡ self.now.begun }
