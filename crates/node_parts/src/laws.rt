@@ -1,18 +1,16 @@
 //! The laws of a repository's parts. Each is the contract of a function that does nothing.
+ghost use Rattle.std.specs.Prelude.{◌≡◌, ℕ, List, length};
+ghost use Rattle.run_data.specs.declared.entry.Entry.{Entry};
+ghost use Rattle.trust_groups.specs.Settings.{settings};
+ghost use Rattle.content_lock.specs.Rows.{is_filling};
+ghost use Rattle.node_model.specs.After.{states};
+ghost use Rattle.node_model.specs.SessionStep.{is_filled};
+ghost use Rattle.node_model.specs.SetUp.{SetUp};
+ghost use Rattle.node_model.specs.State.{State};
+ghost use Rattle.node_parts.specs.Parts.{AreParts, PartsView};
+ghost use Rattle.node_parts.specs.Sound.{AreSound};
 
-use node_ends::ends_go_on;
-use node_jobs::jobs_stay;
-use node_sessions::{sessions_and_jobs_fill, sessions_stay};
-
-/// The parts are those of the state after an entry that moves none of them.
-pub fn parts_stay()
-    ensures { (s : SetUp) (st : State) (e : Entry) (p : PartsView) → AreSound p → MovesNothing e → AreParts s st p → AreParts s (state_after s st e) p }
-{
-    // Laws, for the proof.
-    ends_go_on();
-    jobs_stay();
-    sessions_stay();
-}
+use node_sessions::sessions_and_jobs_fill;
 
 /// The keys that the table fills are those that the state does.
 pub fn tables_fill_as_states()

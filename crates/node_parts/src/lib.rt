@@ -1,7 +1,6 @@
 //! The moving parts of a repository: its lock table, its ends, its sessions and its running jobs, over one store.
 #![tactic(auto)]
 
-mod acting;
 mod done;
 mod laws;
 mod moment;
@@ -10,6 +9,6 @@ mod serving;
 mod taking;
 
 pub use done::Done;
-pub use laws::{parts_stay, states_have_their_settings, tables_fill_as_states};
+pub use laws::{states_have_their_settings, tables_fill_as_states};
 pub use moment::Moment;
 pub use parts::Parts;

@@ -1,4 +1,5 @@
 //! When an entry is made.
+ghost use Rattle.std.specs.Prelude.{◌≡◌};
 use annex_base::EntryStamp;
 use drop_worker::Time;
 use node_jobs::Clock;

@@ -1,6 +1,22 @@
 //! The moving parts of a repository.
+ghost use Rattle.std.specs.Prelude.{◌≡◌, ℕ, ◌≤◌, ◌<◌, ◌+◌, ◌-◌, ◌*◌, ◌^◌, List, [], All, None, Some, IfOk, IfSome, IsErrOf, OnErr, OnOk, is_some, length, map, replicate, slice_get};
+ghost use Rattle.std.specs.Option.{ForSome};
+ghost use Rattle.annex_base.specs.Causes.{Rose};
+ghost use Rattle.run_data.specs.declared.entry.Entry.{Entry};
+ghost use Rattle.run_data.specs.declared.entry.EntryKind.TheVariants.{Begin};
+ghost use Rattle.run_data.specs.declared.run.RepoView.{RepoView};
+ghost use Rattle.object_store.specs.Stores.{Parts as StoredParts};
+ghost use Rattle.content_lock.specs.Stored.{Agrees};
+ghost use Rattle.link_ring.specs.Ends.{after_drop, fresh};
+ghost use Rattle.node_model.specs.After.{first_state, state_after};
+ghost use Rattle.node_model.specs.SetUp.{SetUp};
+ghost use Rattle.node_model.specs.State.{State};
+ghost use Rattle.node_ends.specs.Joined.{AreCarried, AreJoined, StayPaired};
+ghost use Rattle.node_sessions.specs.Sessions.{FedAll, IsSetUp};
+ghost use Rattle.node_jobs.specs.Acting.{with_job};
+ghost use Rattle.node_parts.specs.Parts.{AreParts};
+ghost use Rattle.node_parts.specs.Steps.{LeavesSo, Serves, failed_by};
 
-use crate::acting::act;
 use crate::done::Done;
 use crate::moment::Moment;
 use crate::serving::{listing, serve};
@@ -11,10 +27,9 @@ use node_ends::{Ends, carry_ends, dropped_frames_change_no_end, ends_go_on};
 use node_jobs::{BeginRefused, Jobs, Place};
 use node_sessions::Sessions;
 use object_store::Keeper;
-use run_data::Job;
+use run_data::{Job, JobKind};
 use std::alloc::Global;
 use std::marker::Model;
-use trust_groups::Settings;
 
 /// The moving parts of a repository: its lock table, its ends, its sessions and its running jobs (own). They have tokens to
 /// spend, so they are dissolved and never dropped.
@@ -150,61 +165,6 @@ impl Parts {
             None => Ok(None),
             Some(served) => Ok(Some(serve(&mut self.ends, stamp, served, room))),
         }
-    }
-
-    /// The step of the first job, in order of slot, that has one: its frames are taken and sent. A job that ends is off the list.
-    /// After NoMemory all is as before.
-    pub fn act<K: Keeper>(
-        &mut self,
-        alloc: Global,
-        settings: &Settings,
-        keeper: &mut K,
-        moment: Moment,
-    ) -> Result<Option<Done>, NoMemory>
-        requires agrees { Agrees (K.records keeper.old) self.old.table.holds }
-        requires fresh { All (λ h. h.number < moment.number) self.old.table.holds }
-
-        // Over a store that tells: of each state that these and the store are, with these settings, this is the step of its jobs.
-        ensures step { IfOk result (λ o. ForSome (K.contents keeper.old) (λ c. Acts self.old self.new c (K.contents keeper.new) moment.clock (settings_of settings.now) moment.time moment.number o)) }
-        ensures leaves { IfOk result (LeavesSo moment.number self.old self.new) }
-        ensures sessions { self.new.sessions ≡ self.old.sessions }
-        ensures told { is_some (K.contents keeper.new) ≡ is_some (K.contents keeper.old) }
-        ensures parts { K.parts keeper.new ≡ K.parts keeper.old }
-        ensures files { K.files keeper.new ≡ K.files keeper.old }
-        ensures records { K.records keeper.new ≡ K.records keeper.old }
-        ensures agrees { Agrees (K.records keeper.new) self.new.table.holds }
-        ensures paired { StayPaired self.old.links self.new.links }
-        ensures later { K.faults keeper.old ≤ K.faults keeper.new }
-        ensures cause { IfOk result (λ o. IfSome (failed_by o) (λ call. Rose (K.faults keeper.old) (K.faults keeper.new))) }
-        ensures err { OnErr result ((self.new ≡ self.old) × (K.contents keeper.new ≡ K.contents keeper.old)) }
-    {
-        let stamp = moment.stamp(self.jobs.number());
-        let acted = self.jobs.step(
-            alloc,
-            moment.clock,
-            settings,
-            &mut self.ends,
-            &mut self.table,
-            keeper,
-            moment.time,
-            moment.number,
-        )?;
-        match acted {
-            None => Ok(None),
-            Some(acted) => Ok(Some(act(&mut self.ends, stamp, acted))),
-        }
-    }
-
-    /// Whether a session or a job has a step; nothing changes.
-    pub fn is_ready(&mut self, alloc: Global, moment: Moment) -> Result<bool, NoMemory>
-        ensures ready { IfOk result (λ b. (c : Contents) (s : SetUp) (st : State) (k : Look) → SeesParts self.old c moment.clock moment.time moment.number s st k → is_some (first_of (session_step s st k) (job_step s st k)) ≡ b) }
-        ensures same { self.new ≡ self.old }
-    {
-        if self.sessions.is_ready(&mut self.ends) {
-            return Ok(true);
-        }
-        self.jobs
-            .is_ready(alloc, moment.clock, &mut self.ends, moment.time)
     }
 
     /// Carries the frames of all connections with another repository to the ends that take them.

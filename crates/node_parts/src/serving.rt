@@ -1,4 +1,9 @@
 //! The step of a session: its frames are taken and sent.
+ghost use Rattle.std.specs.Prelude.{◌≡◌, ◌≤◌, [], IfOk, length, vec_capacity};
+ghost use Rattle.node_ends.specs.Going.{AreAfter};
+ghost use Rattle.node_ends.specs.Joined.{StayPaired};
+ghost use Rattle.node_sessions.specs.Serving.{ServesAt, made_by};
+ghost use Rattle.node_parts.specs.Steps.{made_of};
 
 use crate::done::Done;
 use crate::taking::take;

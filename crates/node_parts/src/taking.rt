@@ -1,4 +1,11 @@
 //! Frames are taken at an end.
+ghost use Rattle.std.specs.Prelude.{◌≡◌, ◌≢◌, ℕ, List, [], Some, true, is_some, length};
+ghost use Rattle.run_data.specs.declared.entry.FrameText.TheVariants as texts;
+ghost use Rattle.node_model.specs.Ends.{EndName, end_took};
+ghost use Rattle.node_ends.specs.Ends.{end_at, frame_at, link_at, name_of, room_at, text_in, wait_at};
+ghost use Rattle.node_ends.specs.Going.{AreAfter};
+ghost use Rattle.node_ends.specs.Joined.{StayPaired};
+ghost use Rattle.node_ends.specs.Sent.{may_send};
 use annex_base::{EntryStamp, Word};
 use link_ring::{Body, Frame};
 use node_ends::{EndId, Ends};
