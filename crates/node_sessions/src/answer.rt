@@ -25,6 +25,7 @@ use crate::served::Served;
 use crate::words::word_beside;
 use annex_base::NoMemory;
 use content_lock::LockTable;
+use key_verify::verdicts_are_matches;
 use link_ring::{Body, Frame};
 use object_store::Keeper;
 use p2p_server::{Incoming, Place, Session, Step, replies_are_short_lines};
@@ -106,8 +107,9 @@ fn reply_to<K: Keeper>(
     ensures err_records { OnErr result (K.records keeper.new ≡ K.records keeper.old) }
     ensures later { K.faults keeper.old ≤ K.faults keeper.new }
 {
-    // For the proof, which cites it.
+    // For the proof, which cites them.
     replies_are_short_lines();
+    verdicts_are_matches();
     let incoming = heard(alloc, &frame.body)?;
     let room = Room::new(alloc)?;
     let step = session.take(alloc, table, keeper, &incoming, clock, number)?;
