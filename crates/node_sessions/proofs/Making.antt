@@ -19,7 +19,7 @@ use Rattle.node_model.specs.Ends.{End, EndName, end_takes, server_end}
 use Rattle.node_model.specs.Look.{Look, Made, failing, first_of, first_some, unless, waiting}
 use Rattle.node_model.specs.Sessions as sessions
 use Rattle.node_model.specs.Sessions.{reaches}
-use Rattle.node_model.specs.SessionStep.{Here, Reply, bar_on, by_of, bytes_left, check_answer, close_kind, content_of, gives_made, gives_next, here, is_held, is_here, lock_answer, now_of, on_bytes, on_frame, on_lock, on_message, on_piece, on_put, on_remove, on_remove_before, on_request, on_text, on_unlock, on_valid, put_answer, refuses, remove_answer, reply, reply_made, session_at, session_makes, session_step, shuts, silent_reply, tries, unexpected_reply, valid_answer}
+use Rattle.node_model.specs.SessionStep.{Here, Reply, bar_on, by_of, bytes_left, check_answer, close_kind, content_of, gives_made, gives_next, here, is_held, is_here, lock_answer, now_of, on_bytes, on_frame, on_message, on_piece, on_put, on_remove, on_remove_before, on_request, on_text, on_unlock, on_valid, put_answer, refuses, remove_answer, reply, reply_made, session_at, session_makes, session_step, shuts, silent_reply, tries, unexpected_reply, valid_answer}
 use Rattle.node_model.specs.SetUp.{SetUp, served_connections}
 use Rattle.node_model.specs.State.{State}
 use Rattle.node_sessions.specs.Kinds.{IsOfSession}

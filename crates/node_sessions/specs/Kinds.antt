@@ -1,5 +1,5 @@
 -- The entries of a repository's sessions, by their kind (own).
-use Rattle.std.specs.Prelude.{◌≢◌, Option, None, false}
+use Rattle.std.specs.Prelude.{◌≢◌, None, false}
 use Rattle.annex_base.specs.declared.kinds.Call.TheVariants.{PutFile}
 use Rattle.run_data.specs.declared.entry.By.TheVariants.{Peer}
 use Rattle.run_data.specs.declared.entry.EntryKind.{EntryKind}

@@ -1,6 +1,5 @@
 -- A session has a step where one has something to do.
-use Rattle.std.proofs.Common.{◌≡◌, List, ◌∙◌, sym, subst}
-use Rattle.std.specs.Prelude.{is_some}
+use Rattle.std.proofs.Common.{List, ◌∙◌, sym, subst}
 use Rattle.p2p_server.specs.declared.session.Session.{Session}
 use Rattle.node_sessions.specs.Turns.{IsFirst}
 use Rattle.node_sessions.proofs.Stepping.{is_made}
