@@ -1,16 +1,21 @@
 //! The laws of running jobs. Each is the contract of a function that does nothing.
-ghost use Rattle.std.specs.Prelude.{◌≡◌, ℕ, List, [], None};
+ghost use Rattle.std.specs.Prelude.{◌≡◌, ℕ, List, [], None, Some};
+ghost use Rattle.annex_base.specs.Lists.{Each};
 ghost use Rattle.run_data.specs.declared.entry.Entry.{Entry};
 ghost use Rattle.run_data.specs.declared.entry.EntryKind.TheVariants as kinds;
 ghost use Rattle.node_model.specs.After.{state_after};
+ghost use Rattle.node_model.specs.Ends.{end_took, taken_at};
 ghost use Rattle.node_model.specs.Evidence as drops;
 ghost use Rattle.node_model.specs.Evidence.{standing_by};
+ghost use Rattle.node_model.specs.Look.{Look, Made};
 ghost use Rattle.node_model.specs.SetUp.{SetUp};
 ghost use Rattle.node_model.specs.Slots.{job_of};
 ghost use Rattle.node_model.specs.State.{State};
+ghost use Rattle.node_model.specs.Turns.{job_step};
 ghost use Rattle.content_lock.specs.Rows.{Rows};
 ghost use Rattle.trust_groups.specs.Settings.{Lines, settings};
-ghost use Rattle.node_jobs.specs.Running.{AreWorks, Jobs, OwnAll};
+ghost use Rattle.node_jobs.specs.Running.{AreWorks, IsDrop, Jobs, OwnAll};
+ghost use Rattle.node_jobs.specs.Sending.{BeginsUnheard, IsOwnEntry, SendsWell};
 
 use log_lines::readings_are_exact;
 
@@ -29,3 +34,18 @@ pub fn nameless_are_asked()
     // A law, for the proof.
     readings_are_exact();
 }
+
+/// The step of a job that drops its own copy sends each frame where it has its place, at the ends after they took the frame that
+/// the step takes: a Close at an end that is open then, any other as the first at an end with room. A job that is to begin has
+/// heard nothing, so that it has no lock to give back.
+pub fn local_drops_send_where_there_is_room()
+    ensures { (s : SetUp) (st : State) (k : Look) (jobs : Jobs) (m : Made) → AreWorks s st jobs → Each (IsDrop jobs.place) jobs.running → Each BeginsUnheard jobs.running
+        → job_step s st k ≡ Some m
+        → SendsWell (λ a. end_took (st.ends a) (taken_at a m.taken)) k.room m.sent }
+{}
+
+/// The entry that such a step makes is one of a job's: it adds no line, and takes and sends frames only at ends whose client the
+/// repository is.
+pub fn jobs_make_their_own_entries()
+    ensures { (s : SetUp) (st : State) (k : Look) (jobs : Jobs) (m : Made) → AreWorks s st jobs → Each (IsDrop jobs.place) jobs.running → job_step s st k ≡ Some m → IsOwnEntry m }
+{}
