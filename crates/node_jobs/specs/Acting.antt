@@ -1,5 +1,5 @@
 -- The step of the first job that has one (own).
-use Rattle.std.specs.Prelude.{◌≡◌, ◌≢◌, ℕ, ◌+◌, ◌*◌, ◌∷◌, List, [], length, map, Option, Some, None, option_and_then}
+use Rattle.std.specs.Prelude.{◌≡◌, ◌≢◌, ℕ, ◌+◌, ◌*◌, ◌∷◌, true, is_some, List, [], length, map, Option, Some, None, option_and_then}
 use Rattle.std.specs.Option.{option_map}
 use Rattle.annex_base.specs.Settings.{Settings}
 use Rattle.annex_base.specs.declared.kinds.Word.{Word}
@@ -7,7 +7,7 @@ use Rattle.run_data.specs.declared.entry.FrameView.{FrameView}
 use Rattle.run_data.specs.declared.job.Job.{Job}
 use Rattle.link_ring.specs.declared.frame.Frame.{Frame}
 use Rattle.link_ring.specs.Ends.{EndView, next_frame}
-use Rattle.node_ends.specs.Ends.{SeesEnds, end_at, link_at, wait_at}
+use Rattle.node_ends.specs.Ends.{SeesEnds, end_at, link_at, room_at, wait_at}
 use Rattle.node_model.specs.Clocks.{ClockSet, runs_on}
 use Rattle.node_model.specs.Ends.{EndName}
 use Rattle.node_model.specs.Evidence as drops
@@ -43,6 +43,10 @@ with_job jobs what = record jobs { running = record { worker = new_worker jobs w
 -- the frame that is taken from the peer, at a client's end
 abbrev pub taken_by : List EndView → ℕ → Option ℕ → Option FrameView
 taken_by links slot takes = option_and_then (λ peer. wait_at links (end_in slot peer)) takes
+
+-- where a frame is taken from a peer, the end has room and a frame waits there
+abbrev pub WaitsFor : List EndView → ℕ → Option ℕ → Type 0
+WaitsFor links slot takes = (peer : ℕ) → takes ≡ Some peer → (room_at links (end_in slot peer) ≡ true) × (is_some (wait_at links (end_in slot peer)) ≡ true)
 
 -- the word beside the first frame at hand
 abbrev pub word_at : List EndView → EndName → Option Word
