@@ -47,6 +47,8 @@ pub(crate) fn act<K: Keeper, H: Here>(
     ensures does { Did table.old table.new (store (K.contents keeper.old) (K.records keeper.old) (K.faults keeper.old)) (store (K.contents keeper.new) (K.records keeper.new) (K.faults keeper.new)) worker.old worker.new
         (GoesSo (sight (H.reading here.now) (H.ends here.now) input.now.time input.now.number) (K.contents keeper.old) table.old table.new worker.old worker.new) result }
     ensures begun { IfOk result (HasGone (H.reading here.now) worker.old worker.new) }
+    ensures parts { K.parts keeper.new ≡ K.parts keeper.old }
+    ensures files { K.files keeper.new ≡ K.files keeper.old }
 {
     match worker.phase() {
         Phase::Fresh => begin(worker, alloc, here, table, keeper, input),
@@ -75,6 +77,8 @@ fn begin<K: Keeper, H: Here>(
     ensures does { Did table.old table.new (store (K.contents keeper.old) (K.records keeper.old) (K.faults keeper.old)) (store (K.contents keeper.new) (K.records keeper.new) (K.faults keeper.new)) worker.old worker.new
         (GoesSo (sight (H.reading here.now) (H.ends here.now) input.now.time input.now.number) (K.contents keeper.old) table.old table.new worker.old worker.new) result }
     ensures begun { IfOk result (HasGone (H.reading here.now) worker.old worker.new) }
+    ensures parts { K.parts keeper.new ≡ K.parts keeper.old }
+    ensures files { K.files keeper.new ≡ K.files keeper.old }
 {
     let sends = worker.partings(alloc, here, false)?;
     let key = worker.key().copy()?;
@@ -139,6 +143,8 @@ fn go_on<K: Keeper, H: Here>(
     ensures does { (number : ℕ) → Did table.old table.new (store (K.contents keeper.old) (K.records keeper.old) (K.faults keeper.old)) (store (K.contents keeper.new) (K.records keeper.new) (K.faults keeper.new)) worker.old worker.new
         (GoesSo (sight (H.reading here.now) (H.ends here.now) time number) (K.contents keeper.old) table.old table.new worker.old worker.new) result }
     ensures begun { IfOk result (HasGone (H.reading here.now) worker.old worker.new) }
+    ensures parts { K.parts keeper.new ≡ K.parts keeper.old }
+    ensures files { K.files keeper.new ≡ K.files keeper.old }
 {
     let candidates = others(alloc, here)?;
     let items = gather(worker, alloc, here, Side::Local, &candidates)?;
@@ -164,6 +170,8 @@ fn remove<K: Keeper>(
     ensures does { (x : Sight) → Did table.old table.new (store (K.contents keeper.old) (K.records keeper.old) (K.faults keeper.old)) (store (K.contents keeper.new) (K.records keeper.new) (K.faults keeper.new)) worker.old worker.new
         (ActsOver x (K.contents keeper.old) table.old table.new worker.old worker.new removes_now) result }
     ensures begun { IfOk result (λ out. (r : Reading) → HasGone r worker.old worker.new out) }
+    ensures parts { K.parts keeper.new ≡ K.parts keeper.old }
+    ensures files { K.files keeper.new ≡ K.files keeper.old }
 {
     let key = worker.key().copy()?;
     match worker.take_token() {
