@@ -1,4 +1,4 @@
 -- The lemmas of this crate.
 pub mod Sounding
 pub mod Going
-pub mod Serving
+pub mod Served

@@ -1,5 +1,5 @@
 //! The moving parts of a repository.
-ghost use Rattle.std.specs.Prelude.{◌≡◌, ℕ, ◌≤◌, ◌<◌, ◌+◌, ◌-◌, ◌*◌, ◌^◌, List, [], All, None, Some, IfOk, IfSome, IsErrOf, OnErr, OnOk, is_some, length, map, replicate, slice_get};
+ghost use Rattle.std.specs.Prelude.{◌≡◌, ℕ, ◌≤◌, ◌<◌, ◌+◌, ◌-◌, ◌*◌, ◌^◌, List, [], true, All, None, Some, IfOk, IfSome, IsErrOf, OnErr, OnOk, is_some, length, map, replicate, slice_get};
 ghost use Rattle.std.specs.Option.{ForSome};
 ghost use Rattle.annex_base.specs.Causes.{Rose};
 ghost use Rattle.run_data.specs.declared.entry.Entry.{Entry};
@@ -23,9 +23,12 @@ use crate::serving::{listing, serve};
 use annex_base::{Items, NoMemory, RepoId};
 use content_lock::LockTable;
 use link_ring::Links;
-use node_ends::{Ends, carry_ends, dropped_frames_change_no_end, ends_go_on};
-use node_jobs::{BeginRefused, Jobs, Place};
-use node_sessions::Sessions;
+use node_ends::{Ends, carry_ends, ends_begin_closed, ends_go_on};
+use node_jobs::{BeginRefused, Jobs, Place, jobs_stay};
+use node_sessions::{
+    Sessions, looks_see_parts, sessions_and_jobs_fill, sessions_make_their_own_entries, sessions_of_closed_ends_are_new,
+    sessions_stay,
+};
 use object_store::Keeper;
 use run_data::{Job, JobKind};
 use std::alloc::Global;
@@ -73,6 +76,8 @@ impl Parts {
         ensures parts { IfOk result (λ p. (s : SetUp) → IsSetUp s id version locks number (length ids) → map (λ (repo : RepoView). repo.id) s.repos ≡ ids → AreParts s (first_state s) p) }
         ensures fed { IfOk result (λ p. (q : StoredParts) → FedAll q p.sessions) }
     {
+        // A law, for the proof.
+        ends_begin_closed();
         let count = ids.as_slice().len();
         let table = LockTable::new(alloc)?;
         let sessions = Sessions::new(alloc, id, version, locks, number, count as u32)?;
@@ -113,12 +118,17 @@ impl Parts {
         ensures err { OnErr result (self.new ≡ self.old) }
         ensures parts { OnOk result ((s : SetUp) (st : State) (e : Entry) → AreParts s st self.old → e.kind ≡ Begin (self.old.jobs.begun + 1) what → e.taken ≡ None → e.sent ≡ [] → AreParts s (state_after s st e) self.new) }
     {
+        // Laws, for the proof.
+        ends_go_on();
+        sessions_stay();
         self.jobs.begin(alloc, what)
     }
 
     /// Drops, at each end, the frames that are never taken.
     pub fn drop_old(&mut self)
-        ensures { self.new ≡ record self.old { links = map after_drop self.old.links } }
+        ensures links { self.new ≡ record self.old { links = map after_drop self.old.links } }
+        ensures paired { StayPaired self.old.links self.new.links }
+        ensures parts { (s : SetUp) (st : State) → AreParts s st self.old → AreParts s st self.new }
     {
         self.ends.drop_old();
     }
@@ -137,7 +147,7 @@ impl Parts {
         ensures step { IfOk result (λ o. ForSome (K.contents keeper.old) (λ c. ForSome (K.parts keeper.old) (λ q. FedAll q self.old.sessions → Serves self.old self.new c (K.contents keeper.new) moment.clock moment.time moment.number o))) }
         ensures leaves { IfOk result (LeavesSo moment.number self.old self.new) }
         ensures fed { ForSome (K.parts keeper.old) (λ q. FedAll q self.old.sessions → ForSome (K.parts keeper.new) (λ q'. FedAll q' self.new.sessions)) }
-        ensures told_contents { is_some (K.contents keeper.new) ≡ is_some (K.contents keeper.old) }
+        ensures told_contents { is_some (K.parts keeper.old) ≡ true → is_some (K.contents keeper.new) ≡ is_some (K.contents keeper.old) }
         ensures told_parts { is_some (K.parts keeper.new) ≡ is_some (K.parts keeper.old) }
         ensures files { K.files keeper.new ≡ K.files keeper.old }
         ensures agrees { Agrees (K.records keeper.new) self.new.table.holds }
@@ -150,16 +160,29 @@ impl Parts {
         ensures err_parts { OnErr result (K.parts keeper.new ≡ K.parts keeper.old) }
         ensures err_records { OnErr result (K.records keeper.new ≡ K.records keeper.old) }
     {
+        // Laws, for the proof.
+        ends_go_on();
+        jobs_stay();
+        looks_see_parts();
+        sessions_and_jobs_fill();
+        sessions_make_their_own_entries();
+        sessions_of_closed_ends_are_new();
         let stamp = moment.stamp(self.jobs.number());
+        let Moment {
+            time,
+            clock,
+            count: _,
+            number,
+        } = moment;
+        let shows = clock.read(time);
         let room = listing(alloc)?;
-        let clock = moment.clock.read(moment.time);
         let served = self.sessions.step(
             alloc,
             &mut self.ends,
             &mut self.table,
             keeper,
-            clock,
-            moment.number,
+            shows,
+            number,
         )?;
         match served {
             None => Ok(None),

@@ -1,4 +1,4 @@
--- The step of the sessions, as that of the parts.
+-- What the sessions serve is the step of the parts.
 use Rattle.std.proofs.Common.{◌≡◌, ℕ, ◌<◌, ◌+◌, Bool, true, false, List, [], ◌∷◌, Option, Some, None, length, map, refl, sym, ap, subst, ◌∙◌}
 use Rattle.std.specs.Prelude.{◌&&◌, ◌||◌, All, bytes_eq, fold}
 use Rattle.std.specs.List.{list_any}
