@@ -74,10 +74,6 @@ pub among_bars : (links : List EndView) (clock number at : ℕ) (xs xs' : List S
     → ServesAmong links clock number at xs xs' rows rows' contents contents' parts parts' records records' faults faults' v → (key : List ℕ) → bar_at rows' key ≡ bar_at rows key
 among_bars links clock number at xs xs' rows rows' contents contents' parts parts' records records' faults faults' v a = a.serves.bars
 
-pub among_told : (links : List EndView) (clock number at : ℕ) (xs xs' : List Session) (rows rows' : Rows) (contents contents' : Option Contents) (parts parts' : Option Parts) (records records' : Option (List HoldRecord)) (faults faults' : ℕ) (v : Served)
-    → ServesAmong links clock number at xs xs' rows rows' contents contents' parts parts' records records' faults faults' v → ForSome parts (λ p. FedAll p xs → is_some contents ≡ true → is_some contents' ≡ true)
-among_told links clock number at xs xs' rows rows' contents contents' parts parts' records records' faults faults' v a = λ p is fed told. a.serves.told p is (fed at a.was a.here) told
-
 judged_one : (xs : List Session) (was : Session) (v w : Served) (x : Session) → server_in xs v ≡ Some was → IsJudgedOf was v.kind → Some v ≡ Some w → server_in xs w ≡ Some x → IsJudgedOf x w.kind
 judged_one xs was v w x is judged e found =
     let same : v ≡ w = cc in

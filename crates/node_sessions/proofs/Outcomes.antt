@@ -30,7 +30,7 @@ use Rattle.p2p_server.specs.declared.more.More.{More}
 use Rattle.p2p_server.specs.declared.place.Place.{Place}
 use Rattle.p2p_server.specs.declared.session.Session.{Session}
 use Rattle.p2p_server.specs.declared.step.Step.{Step}
-use Rattle.p2p_server.specs.Answers.{failed_in, is_in, owner_at, reply_of, size_in}
+use Rattle.p2p_server.specs.Answers.{failed_in, owner_at, reply_of, size_in}
 use Rattle.p2p_server.specs.Bounds.{IsReplyIf}
 use Rattle.p2p_server.specs.Giving.{failed_more, reply_more, session_sent}
 use Rattle.p2p_server.specs.States.{IsScene, Keeps, Stand, stand_after, stand_of}
@@ -38,13 +38,12 @@ use Rattle.p2p_server.specs.Stepping.{LeavesOthers, moment_of}
 use Rattle.p2p_server.specs.Talking.{AreAfterStep, Brings, FillsSo, HasFillOf, IsFedOf, IsJudgedOf, SaysSo, SeesPartOf, SeesSize, parts_after_of, place_of, session_of, share_of}
 use Rattle.node_sessions.specs.declared.served.Served.{Served}
 use Rattle.node_sessions.specs.Built.{IsClosed}
-use Rattle.node_sessions.specs.Moments.{GivesAt, IsReady, LeavesParts, Makes, SeesOne, Serves, TellsOn, WaitsAt}
+use Rattle.node_sessions.specs.Moments.{GivesAt, IsReady, LeavesParts, Makes, SeesOne, Serves, WaitsAt}
 use Rattle.node_sessions.specs.Serving.{IsTalk, SeesPartAt, ServesAt, end_by, made_by, reply_by, says_by, taken_by}
 use Rattle.node_sessions.specs.Sessions.{end_of, owner_of}
 use Rattle.node_sessions.specs.Words.{word_beside, word_to}
 use Rattle.node_sessions.proofs.Answering.{KindSo, RepliesAreLines, given_kind, given_next, gives_made_so, giving_bare, giving_fills_so, keeps_on, parts_kept, parts_stay, says_so, sees_size, still_below, still_open, taken_is, taken_none, takes_made}
 use Rattle.node_sessions.proofs.Framing.{IsFrameAt, waits_form}
-use Rattle.node_sessions.proofs.Seeing.{VerdictsMatch, sees_brought}
 
 pub end_is : (peer slot : ℕ) (q p : Place) → peer ≡ q.peer → slot ≡ q.slot → q ≡ p → server_end peer slot ≡ server_end p.peer p.slot
 end_is peer slot q p e1 e2 e3 = ap (λ (x : ℕ). server_end x slot) e1 ∙ ap (λ (x : ℕ). server_end q.peer x) e2 ∙ ap (λ (x : Place). server_end x.peer x.slot) e3
@@ -64,7 +63,6 @@ hung_up links clock number was now rows rows' frame contents parts records fault
   makes = makes;
   after = h.after;
   bars = h.after.bars;
-  told = λ p is fed told. told;
   numbers = λ n more. h.numbers n (still_below number n rows.holds more fresh);
   filled = subst (λ (x : sessions.Session). FillsSo (session_of was).doing x.doing (is_filling rows) (is_filling rows')) (sym h.session) h.filled;
   parts = parts_kept (session_of was).doing parts parts refl;
@@ -147,36 +145,17 @@ closing_only (bodies.Line text) e = absurd cc
 closing_only (bodies.Bytes bytes) e = absurd cc
 closing_only bodies.Close e = refl
 
--- a table and a store that tells have these rows
-abbrev stand_at : Rows → Contents → Stand
-stand_at rows c = record { present = is_in c; content = size_in c; bar = bar_at rows; holds = rows.holds }
-
-keeps_itself : (rows : Rows) (known : Option Contents) (c : Contents) → known ≡ Some c → Keeps rows known (stand_at rows c)
-keeps_itself rows known c is = record { contents = c; told = is; present = λ key. refl; content = λ key. refl; bar = λ key. refl; holds = refl }
-
-tells_on : VerdictsMatch → (i : Incoming) (body : FrameText) (was : Session) (rows rows' : Rows) (contents contents' : Option Contents) (parts : Option Parts) (kind : EntryKind) → Brings body i
-    → ((stand : Stand) (part : ℕ) (right : Bool) → Keeps rows contents stand → SeesPartOf parts was i part right → Keeps rows' contents' (stand_after kind stand)) → TellsOn was parts contents contents'
-tells_on law i body was rows rows' contents contents' parts kind brings keeps = λ p is fed told. go p is fed contents refl told
-  where
-    go : (p : Parts) → parts ≡ Some p → IsFedOf p was → (o : Option Contents) → contents ≡ o → is_some o ≡ true → is_some contents' ≡ true
-    go p is fed None e told = absurd (true≢false (sym told))
-    go p is fed (Some c) e told =
-        let h = sees_brought law p was.doing i body brings fed in
-        let sees : SeesPartOf parts was i (h.0) (h.1) = subst (λ (o : Option Parts). SeesPartOf o was i (h.0) (h.1)) (sym is) (h.2) in
-        ap is_some (keeps (stand_at rows c) (h.0) (h.1) (keeps_itself rows contents c e) sees).told
-
-pub replies : RepliesAreLines → VerdictsMatch → (links : List EndView) (clock number : ℕ) (i : Incoming) (frame : Frame) (was now : Session) (rows rows' : Rows) (contents contents' : Option Contents) (parts parts' : Option Parts) (records records' : Option (List HoldRecord)) (faults faults' : ℕ)
+pub replies : RepliesAreLines → (links : List EndView) (clock number : ℕ) (i : Incoming) (frame : Frame) (was now : Session) (rows rows' : Rows) (contents contents' : Option Contents) (parts parts' : Option Parts) (records records' : Option (List HoldRecord)) (faults faults' : ℕ)
     (x : Step) (p : Place) (v : Served) → (frame.body ≡ bodies.Close → ⊥) → Brings (text_in frame.body) i → WaitsAt links was frame → p ≡ place_of was
     → TookSo clock number i was now rows rows' contents contents' parts parts' records' faults faults' x → AnsweredSo p i x v
     → Serves links clock number (moment_of was rows contents parts records faults) (moment_of now rows' contents' parts' records' faults') v
-replies law verdicts links clock number i frame was now rows rows' contents contents' parts parts' records records' faults faults' x p v other brings w place t y = record {
+replies law links clock number i frame was now rows rows' contents contents' parts parts' records records' faults faults' x p v other brings w place t y = record {
   place = t.place;
   at = end;
   stands = stands;
   makes = makes;
   after = subst (λ (kind : EntryKind). AreAfterStep kind rows rows') (sym y.kind) t.after;
   bars = t.bars;
-  told = tells_on verdicts i (text_in frame.body) was rows rows' contents contents' parts x.kind brings t.keeps;
   numbers = t.numbers;
   filled = t.filled;
   parts = subst (λ (o : Option Parts). LeavesParts (session_of was).doing parts o) (sym t.parts_are) (parts_stay was.doing i x.kind parts);
@@ -264,7 +243,6 @@ gives_so links clock number was now rows contents contents' parts parts' records
   makes = makes;
   after = so.1;
   bars = λ key. refl;
-  told = λ q is fed told. ap is_some t.same_contents ∙ told;
   numbers = λ n more. still_below number n rows.holds more ready.fresh;
   filled = giving_fills_so m (session_of was) (session_of now) (is_filling rows) w.gives t.next;
   parts = parts_kept (session_of was).doing parts parts' t.same_parts;

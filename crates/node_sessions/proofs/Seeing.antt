@@ -105,10 +105,6 @@ took_right law p d fed t is =
     let taken : IsTakenOf t (p t.fill) = subst (IsFed p) is fed in
     subst (λ (x : Doing). SeesTaken (Some p) t (right_of x)) (sym is) (taken, right_told law t.sum t.fill (p t.fill) taken.1)
 
--- of what a body brings, a store that tells its parts has an answer
-pub sees_brought : VerdictsMatch → (p : Parts) (d : Doing) (i : Incoming) (body : FrameText) → Brings body i → IsFed p d → (part : ℕ) × (right : Bool) × SeesPart (Some p) d i part right
-sees_brought law p d i body brings fed = (part_of p body, right_of d, sees_of p d i (part_of p body) (right_of d) (λ file key is. put_part p body i file key brings is) (took_right law p d fed))
-
 at_one : VerdictsMatch → (p : Parts) (xs : List Session) (links : List EndView) (v : Served) (x : Option Session) (f : Option FrameView) → ((y : Session) → x ≡ Some y → IsFed p y.doing) → (part : ℕ) × (right : Bool) × SeesPartAt (Some p) x f part right
 at_one law p xs links v None f fed = (0, false, tt)
 at_one law p xs links v (Some x) None fed = (0, false, tt)

@@ -65,10 +65,6 @@ pub record Makes (links : List EndView) (was now : Moment) (v : Served) (s : Set
   pub next : session_of now.session ≡ session_after st.content v.kind (session_of was.session) (made_by links v).sent (taken_by links v)
   pub keeps : Keeps now.rows now.contents (stand_after v.kind (stand_of st))
 
--- the store tells its contents on, where it tells its parts and the session has taken what they are
-abbrev pub TellsOn : Session → Option Parts → Option Contents → Option Contents → Type 0
-TellsOn x parts contents contents' = ForSome parts (λ p. IsFedOf p x → is_some contents ≡ true → is_some contents' ≡ true)
-
 -- this is served, from one moment to the next
 pub record Serves (links : List EndView) (clock number : ℕ) (was now : Moment) (v : Served) : Type 0 where
   pub place : place_of now.session ≡ place_of was.session
@@ -77,7 +73,6 @@ pub record Serves (links : List EndView) (clock number : ℕ) (was now : Moment)
   pub makes : (s : SetUp) (st : State) (k : Look) → SeesOne links clock number was v s st k → Makes links was now v s st k
   pub after : AreAfterStep v.kind was.rows now.rows
   pub bars : (key : List ℕ) → bar_at now.rows key ≡ bar_at was.rows key
-  pub told : TellsOn was.session was.parts was.contents now.contents
   pub numbers : (n : ℕ) → number < n → All (λ h. h.number < n) now.rows.holds
   pub filled : FillsSo (session_of was.session).doing (session_of now.session).doing (is_filling was.rows) (is_filling now.rows)
   pub parts : LeavesParts (session_of was.session).doing was.parts now.parts

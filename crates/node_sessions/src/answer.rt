@@ -1,5 +1,5 @@
 //! The answer to a frame.
-ghost use Rattle.std.specs.Prelude.{◌≡◌, ◌≤◌, ◌+◌, ◌<◌, ◌^◌, ℕ, Bool, List, All, true, false, Some, None, IfOk, OnErr};
+ghost use Rattle.std.specs.Prelude.{◌≡◌, ◌≤◌, ◌+◌, ◌<◌, ◌^◌, ℕ, Bool, List, All, true, false, Some, None, IfOk, OnErr, is_some};
 ghost use Rattle.std.specs.Option.{ForSome};
 ghost use Rattle.link_ring.specs.Ends.{EndView};
 ghost use Rattle.content_lock.specs.Stored.{Agrees};
@@ -25,7 +25,6 @@ use crate::served::Served;
 use crate::words::word_beside;
 use annex_base::NoMemory;
 use content_lock::LockTable;
-use key_verify::verdicts_are_matches;
 use link_ring::{Body, Frame};
 use object_store::Keeper;
 use p2p_server::{Incoming, Place, Session, Step, replies_are_short_lines};
@@ -105,11 +104,12 @@ fn reply_to<K: Keeper>(
     ensures err_contents { OnErr result (K.contents keeper.new ≡ K.contents keeper.old) }
     ensures err_parts { OnErr result (K.parts keeper.new ≡ K.parts keeper.old) }
     ensures err_records { OnErr result (K.records keeper.new ≡ K.records keeper.old) }
+    ensures files { K.files keeper.new ≡ K.files keeper.old }
+    ensures told { is_some (K.parts keeper.old) ≡ true → is_some (K.contents keeper.new) ≡ is_some (K.contents keeper.old) }
     ensures later { K.faults keeper.old ≤ K.faults keeper.new }
 {
-    // For the proof, which cites them.
+    // For the proof, which cites it.
     replies_are_short_lines();
-    verdicts_are_matches();
     let incoming = heard(alloc, &frame.body)?;
     let room = Room::new(alloc)?;
     let step = session.take(alloc, table, keeper, &incoming, clock, number)?;
@@ -139,6 +139,8 @@ pub(crate) fn answer<K: Keeper>(
     ensures err_contents { OnErr result (K.contents keeper.new ≡ K.contents keeper.old) }
     ensures err_parts { OnErr result (K.parts keeper.new ≡ K.parts keeper.old) }
     ensures err_records { OnErr result (K.records keeper.new ≡ K.records keeper.old) }
+    ensures files { K.files keeper.new ≡ K.files keeper.old }
+    ensures told { is_some (K.parts keeper.old) ≡ true → is_some (K.contents keeper.new) ≡ is_some (K.contents keeper.old) }
     ensures later { K.faults keeper.old ≤ K.faults keeper.new }
 {
     match &frame.body {

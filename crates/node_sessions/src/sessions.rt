@@ -170,8 +170,9 @@ impl Sessions {
         ensures parts { LeavesPartsOf self.old (K.parts keeper.old) (K.parts keeper.new) }
         ensures fed { ForSome (K.parts keeper.old) (λ p. FedAll p self.old → ForSome (K.parts keeper.new) (λ p'. FedAll p' self.new)) }
 
-        // A store that tells its parts and its contents goes on to tell its contents.
-        ensures told { ForSome (K.parts keeper.old) (λ p. FedAll p self.old → is_some (K.contents keeper.old) ≡ true → is_some (K.contents keeper.new) ≡ true) }
+        // The files stay, and a store that tells its parts and its contents goes on to tell its contents.
+        ensures files { K.files keeper.new ≡ K.files keeper.old }
+        ensures told { is_some (K.parts keeper.old) ≡ true → is_some (K.contents keeper.new) ≡ is_some (K.contents keeper.old) }
 
         ensures judged { IfOk result (JudgedBy self.old) }
         ensures agrees { Agrees (K.records keeper.new) table.new.holds }
