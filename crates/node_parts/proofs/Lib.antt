@@ -2,3 +2,4 @@
 pub mod Sounding
 pub mod Going
 pub mod Served
+pub mod Staying
