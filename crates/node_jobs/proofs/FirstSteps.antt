@@ -14,8 +14,8 @@ use Rattle.node_model.specs.State.{State}
 use Rattle.node_model.specs.Turns.{job_step, slot_step}
 use Rattle.drop_worker.specs.declared.phase.Phase.TheVariants as phases
 use Rattle.drop_worker.specs.Working.{heard_as}
-use Rattle.node_jobs.specs.Running.{AreWorks, DropJob, IsDrop, Jobs as JobsView, work_now}
-use Rattle.node_jobs.specs.Sending.{BeginsUnheard, IsOwnEntry, SendsWell}
+use Rattle.node_jobs.specs.Running.{AreWorks, BeginsUnheard, DropJob, IsDrop, Jobs as JobsView, work_now}
+use Rattle.node_jobs.specs.Sending.{IsOwnEntry, SendsWell}
 use Rattle.node_jobs.proofs.Among.{find_mapped}
 use Rattle.node_jobs.proofs.DropSteps.{step_well, well_own}
 
@@ -55,8 +55,8 @@ module _ (s : SetUp) (st : State) (k : Look) (jobs : JobsView) (m : Made) (are :
       let well = step_well t drop.side (BeginsUnheard j) j.worker.token j.worker.phase refl drop.fits unheard (partner j.worker.job.peer (work_now j).phase) m by.does in
       (well.room, well_own t drop.side (BeginsUnheard j) m well)
 
-  pub sends_where_room : Each BeginsUnheard jobs.running → job_step s st k ≡ Some m → SendsWell (λ a. end_took (st.ends a) (taken_at a m.taken)) k.room m.sent
-  sends_where_room begin is = let made = made_by_job is in (job_well made.0 made.1).0 (Each-member BeginsUnheard jobs.running made.0 begin made.1.among)
+  pub sends_where_room : job_step s st k ≡ Some m → SendsWell (λ a. end_took (st.ends a) (taken_at a m.taken)) k.room m.sent
+  sends_where_room is = let made = made_by_job is in (job_well made.0 made.1).0 (Each-member (IsDrop jobs.place) jobs.running made.0 drops made.1.among).unheard
 
   pub makes_own : job_step s st k ≡ Some m → IsOwnEntry m
   makes_own is = let made = made_by_job is in (job_well made.0 made.1).1

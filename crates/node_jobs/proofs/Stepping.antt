@@ -40,7 +40,7 @@ use Rattle.drop_worker.specs.States.{Keeps}
 use Rattle.drop_worker.specs.Working.{end_in, failed_in, frames_of, phase_as, sight, words_of}
 use Rattle.node_jobs.specs.declared.acted.Acted.{Acted}
 use Rattle.node_jobs.specs.declared.finding.Found.{Found}
-use Rattle.node_jobs.specs.Acting.{SeesActed, SeesJobs, StepsJobs, WaitsFor, made_by, taken_by}
+use Rattle.node_jobs.specs.Acting.{IsKindOf, SeesActed, SeesJobs, StepsJobs, WaitsFor, made_by, taken_by}
 use Rattle.node_jobs.specs.Changes.{Changes, input_of, kept, output_of}
 use Rattle.node_jobs.specs.Doings.{ActsSo, ReadsOn, SeesAct}
 use Rattle.node_jobs.specs.Feeds.{SeesJob}
@@ -191,6 +191,12 @@ module _ (links : List EndView) (clock : ClockSet) (settings : Settings) (jobs :
 
   gone : HasGone (place_reading jobs.place) ch.j.worker ch.j'.worker (output_of a)
   gone = ch.steps.gone (can_stand jobs.place ch.j.worker.phase ch.j.known drop.stands)
+
+  pub kind_is : IsKindOf a.job a
+  kind_is = (
+    λ going. subst (λ (n : ℕ). IsOnward n a.kind) (sym ch.job) (gone.onward going),
+    λ ended. subst (λ (n : ℕ). IsLast n a.kind) (sym ch.job) (gone.last ended),
+  )
 
   -- the same, as the list has it
   abbrev made : Made

@@ -9,8 +9,6 @@ use Rattle.run_data.specs.declared.entry.FrameView.{FrameView}
 use Rattle.node_model.specs.Ends.{End, EndName, end_sends, sent_at, taken_at}
 use Rattle.node_model.specs.Look.{Made}
 use Rattle.node_model.specs.Sessions.{is_closing}
-use Rattle.drop_worker.specs.declared.phase.Phase.TheVariants as phases
-use Rattle.node_jobs.specs.Running.{DropJob}
 
 -- ---- room
 
@@ -30,10 +28,6 @@ abbrev pub SendsWell : (EndName → End) → (EndName → Bool) → List FrameVi
 SendsWell ends room sent = (xs ys : List FrameView) (f : FrameView) → sent ≡ xs ++ f ∷ ys → HasPlace ends room xs f
 
 -- ---- what a job makes
-
--- a job that is to begin has heard nothing
-abbrev pub BeginsUnheard : DropJob → Type 0
-BeginsUnheard j = j.worker.phase ≡ phases.Fresh → j.worker.heard ≡ []
 
 -- the store calls of a job that drops its own copy
 abbrev pub IsCallOfJob : Call → Type 0

@@ -17,7 +17,7 @@ ghost use Rattle.content_lock.specs.Rows.{AreAfter, Rows};
 ghost use Rattle.drop_worker.specs.Doing.{OthersStay, contents_after};
 ghost use Rattle.drop_worker.specs.States.{Keeps};
 ghost use Rattle.drop_worker.specs.Working.{failed_in};
-ghost use Rattle.node_jobs.specs.Acting.{SeesActed, SeesJobs, StepsJobs, WaitsFor, running_now, with_job};
+ghost use Rattle.node_jobs.specs.Acting.{IsKindOf, SeesActed, SeesJobs, StepsJobs, WaitsFor, running_now, with_job};
 ghost use Rattle.node_jobs.specs.Leaving.{LeavesSo};
 ghost use Rattle.node_jobs.specs.Running.{AreWorks, Follows, IsDrop, OwnAll};
 
@@ -65,6 +65,13 @@ impl Jobs {
             running: Vec::new(alloc),
             begun: 0,
         }
+    }
+
+    /// The number of its repository.
+    pub fn number(&self) -> u32
+        ensures { result ≡ self.now.place.number }
+    {
+        self.place.number()
     }
 
     /// How many jobs were begun.
@@ -150,6 +157,7 @@ impl Jobs {
             → StepsJobs s st k ends.old self.old self.new a)) }
         ensures waits { IfOk result (λ a. IfSome a (λ it. WaitsFor ends.old it.slot it.takes)) }
         ensures slot { IfOk result (λ a. IfSome a (λ it. it.slot < 4)) }
+        ensures kind { IfOk result (λ a. IfSome a (λ it. IsKindOf it.job it)) }
         ensures owns { OwnAll self.new table.new }
         ensures leaves { IfOk result (LeavesSo ends.old self.old self.new table.old table.new (K.contents keeper.old) (K.contents keeper.new)) }
         ensures place { self.new.place ≡ self.old.place }

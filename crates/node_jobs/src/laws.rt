@@ -1,6 +1,8 @@
 //! The laws of running jobs. Each is the contract of a function that does nothing.
 ghost use Rattle.std.specs.Prelude.{◌≡◌, ℕ, List, [], None, Some};
 ghost use Rattle.annex_base.specs.Lists.{Each};
+ghost use Rattle.annex_base.specs.declared.kinds.Call.TheVariants.{PutFile};
+ghost use Rattle.run_data.specs.declared.entry.By.{By};
 ghost use Rattle.run_data.specs.declared.entry.Entry.{Entry};
 ghost use Rattle.run_data.specs.declared.entry.EntryKind.TheVariants as kinds;
 ghost use Rattle.node_model.specs.After.{state_after};
@@ -15,7 +17,7 @@ ghost use Rattle.node_model.specs.Turns.{job_step};
 ghost use Rattle.content_lock.specs.Rows.{Rows};
 ghost use Rattle.trust_groups.specs.Settings.{Lines, settings};
 ghost use Rattle.node_jobs.specs.Running.{AreWorks, IsDrop, Jobs, OwnAll};
-ghost use Rattle.node_jobs.specs.Sending.{BeginsUnheard, IsOwnEntry, SendsWell};
+ghost use Rattle.node_jobs.specs.Sending.{IsOwnEntry, SendsWell};
 
 use log_lines::readings_are_exact;
 
@@ -24,6 +26,11 @@ use log_lines::readings_are_exact;
 pub fn jobs_stay()
     ensures { (s : SetUp) (st : State) (e : Entry) (jobs : Jobs) (rows : Rows) → AreWorks s st jobs → OwnAll jobs rows → job_of e.kind ≡ None → ((clock : ℕ) → e.kind ≡ kinds.Crash clock → ⊥)
         → AreWorks s (state_after s st e) jobs }
+{}
+
+/// The running jobs are those of the state after an entry that says that a line couldn't be written, whoever owed it.
+pub fn jobs_stay_where_lines_fail()
+    ensures { (s : SetUp) (st : State) (e : Entry) (jobs : Jobs) (rows : Rows) (by : By) → AreWorks s st jobs → OwnAll jobs rows → e.kind ≡ kinds.Fault PutFile by → AreWorks s (state_after s st e) jobs }
 {}
 
 /// No line of a log names a repository without an identifier, so that logs see one as a repository that is asked (git-annex
@@ -36,11 +43,9 @@ pub fn nameless_are_asked()
 }
 
 /// The step of a job that drops its own copy sends each frame where it has its place, at the ends after they took the frame that
-/// the step takes: a Close at an end that is open then, any other as the first at an end with room. A job that is to begin has
-/// heard nothing, so that it has no lock to give back.
+/// the step takes: a Close at an end that is open then, any other as the first at an end with room.
 pub fn local_drops_send_where_there_is_room()
-    ensures { (s : SetUp) (st : State) (k : Look) (jobs : Jobs) (m : Made) → AreWorks s st jobs → Each (IsDrop jobs.place) jobs.running → Each BeginsUnheard jobs.running
-        → job_step s st k ≡ Some m
+    ensures { (s : SetUp) (st : State) (k : Look) (jobs : Jobs) (m : Made) → AreWorks s st jobs → Each (IsDrop jobs.place) jobs.running → job_step s st k ≡ Some m
         → SendsWell (λ a. end_took (st.ends a) (taken_at a m.taken)) k.room m.sent }
 {}
 

@@ -154,6 +154,7 @@ impl Sessions {
         ensures serves { IfOk result (ServesIf ends.old) }
         ensures among { IfOk result (λ o. ForSome o (λ v. Member (v.peer, v.slot) (map connection_of self.old))) }
         ensures same { ends.new ≡ ends.old }
+        ensures idle { IfOk result (λ o. o ≡ None → self.new ≡ self.old) }
 
         // The holds and bars are those that the entry leaves, also where the store doesn't tell its contents.
         ensures after { IfOk result (λ o. AreAfterIf o table.old table.new) }
