@@ -1,4 +1,5 @@
 -- The lemmas of this crate.
+pub mod OwedLemmas
 pub mod StateLemmas
 pub mod WriteLemmas
 pub mod PastLemmas

@@ -1,4 +1,5 @@
 -- The definitions of this crate.
+pub mod Owing
 pub mod Nodes
 pub mod Stored
 pub mod Idle

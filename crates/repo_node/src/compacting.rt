@@ -86,6 +86,7 @@ impl<K: Keeper> Node<K> {
             none,
             &[],
             By::Script,
+            false,
         )
     }
 

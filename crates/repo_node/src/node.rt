@@ -34,6 +34,8 @@ pub struct Node<K: Keeper> {
     pub(crate) past: Past,
     /// The index of the branch's settings; none after a line couldn't be added to it for want of memory.
     pub(crate) index: Option<Settings>,
+    /// The places in the history of the entries whose lines are owed, the first to be paid first.
+    pub(crate) debts: Vec<usize>,
     links: Links,
 }
 
@@ -41,13 +43,14 @@ impl<K: Keeper> Model for Node<K> {
     ghost use Rattle.repo_node.specs.Nodes.{NodeView, HasFiles};
     ghost use Rattle.repo_node.specs.Idle.{IsKept};
     ghost use Rattle.repo_node.specs.Indexed.{IsIndexed};
+    ghost use Rattle.repo_node.specs.Owing.{AreDebts, owed_at};
     ghost use Rattle.content_lock.specs.Stored.{Agrees};
 
     ghost Value = { NodeView K };
 
-    ghost view = { λ n. record { setup = n.past.setup; keeper = n.keeper; table = n.table; branch = n.branch; time = n.past.time; count = n.past.count; history = n.past.history.items; outcomes = n.past.outcomes.items } };
+    ghost view = { λ n. record { setup = n.past.setup; keeper = n.keeper; table = n.table; branch = n.branch; time = n.past.time; count = n.past.count; history = n.past.history.items; outcomes = n.past.outcomes.items; owed = owed_at n.past.setup.number n.past.history.items n.debts.items } };
 
-    ghost invariant = { λ n. IsKept n.past.setup n.past.history.items n.table n.branch (K.contents n.keeper) × HasFiles (K.files n.keeper) n.branch × Agrees (K.records n.keeper) n.table.holds × IsIndexed n.index n.branch };
+    ghost invariant = { λ n. IsKept n.past.setup n.past.history.items n.table n.branch (K.contents n.keeper) (owed_at n.past.setup.number n.past.history.items n.debts.items) × HasFiles (K.files n.keeper) n.branch × Agrees (K.records n.keeper) n.table.holds × IsIndexed n.index n.branch × AreDebts n.past.setup.number n.past.history.items n.debts.items };
 }
 
 impl<K: Keeper> Node<K> {
@@ -61,7 +64,7 @@ impl<K: Keeper> Node<K> {
         requires oldest { 1 ≤ setup.version }
         requires newest { setup.version ≤ 3 }
         requires links { links.ends.items ≡ replicate (length setup.repos * 8) fresh }
-        ensures { IfOk result (λ n. n ≡ record { setup = setup; keeper = keeper; table = record { holds = []; bars = []; fills = [] }; branch = []; time = 0; count = 0; history = []; outcomes = [] }) }
+        ensures { IfOk result (λ n. n ≡ record { setup = setup; keeper = keeper; table = record { holds = []; bars = []; fills = [] }; branch = []; time = 0; count = 0; history = []; outcomes = []; owed = [] }) }
     {
         let table = LockTable::new(alloc)?;
         Ok(Node {
@@ -70,6 +73,7 @@ impl<K: Keeper> Node<K> {
             branch: Branch::new(alloc),
             past: Past::new(alloc, setup),
             index: Some(Settings::new(alloc)),
+            debts: Vec::new(alloc),
             links,
         })
     }
@@ -90,6 +94,7 @@ impl<K: Keeper> Node<K> {
         ensures state { (s : SetUp) → Fits self.now.setup s → IsState s self.now.table self.now.branch (K.contents self.now.keeper) (state_of s self.now.history) }
         ensures files { HasFiles (K.files self.now.keeper) self.now.branch }
         ensures records { Agrees (K.records self.now.keeper) self.now.table.holds }
+        ensures owed { (s : SetUp) → Fits self.now.setup s → (state_of s self.now.history).owed ≡ self.now.owed }
     {
         &self.past.history
     }
@@ -145,6 +150,7 @@ impl<K: Keeper> Node<K> {
             branch: _,
             past: _,
             index: _,
+            debts: _,
             links: _,
         } = self;
         keeper
