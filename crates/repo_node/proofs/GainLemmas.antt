@@ -1,5 +1,5 @@
 -- A node after a content came, or a part.
-use Rattle.std.proofs.Common.{◌≡◌, ℕ, ◌+◌, inl, inr, Bool, true, false, if◌then◌else◌, ◌||◌, List, [], ◌++◌, length, Option, Some, None, Result, Ok, Err, OnOk, OnErr, IfErr, option_map, is_some, bytes_eq, refl, sym, ap, subst, ◌∙◌}
+use Rattle.std.proofs.Common.{◌≡◌, ℕ, inl, inr, Bool, true, false, if◌then◌else◌, ◌||◌, List, [], ◌++◌, length, Option, Some, None, Result, Ok, Err, OnOk, OnErr, IfErr, option_map, is_some, bytes_eq, refl, sym, ap, subst, ◌∙◌}
 use Rattle.std.specs.Option.{ForSome}
 use Rattle.annex_base.proofs.Conditions.{by_test, bytes_eq-refl}
 use Rattle.object_store.specs.Stores.{Contents, Parts, contents_after_commit, with_at}

@@ -1,5 +1,5 @@
 -- What a node is: a repository of a run that knows its own state and nothing else (own).
-use Rattle.std.specs.Prelude.{◌≡◌, ℕ, ◌+◌, Bool, true, false, ◌&&◌, List, [], ◌∷◌, ◌++◌, length, map, reverse, slice_get, bytes_eq, Option, Some, None, is_some}
+use Rattle.std.specs.Prelude.{◌≡◌, ℕ, ◌+◌, Bool, false, ◌&&◌, List, [], ◌∷◌, ◌++◌, length, map, reverse, slice_get, bytes_eq, Option, Some, None, is_some}
 use Rattle.std.specs.Option.{ForSome, option_map, unwrap_or}
 use Rattle.object_store.specs.Stores.{Contents, Files as StoredFiles, bytes_of}
 use Rattle.content_lock.specs.Rows.{Rows, bar_at, is_filling}
@@ -81,7 +81,8 @@ abbrev pub are_due : {K : Type 0} → NodeView K → LogFile → List (List ℕ)
 are_due n file lines [] = false
 are_due n file lines (o ∷ os) = is_due n (file_path file) lines o
 
--- the lines that it owes after its next entry: who writes what the first is due pays it, and a job or a peer that fails to leaves it
+-- The lines that it owes after its next entry. Who writes what the first is due pays it; a job or a peer that fails to write a file
+-- leaves the first unpaid for good.
 abbrev pub owed_now : {K : Type 0} → NodeView K → EntryKind → List (List ℕ) → List Owed
 owed_now n (Log file) lines = rest_if (are_due n file lines n.owed) n.owed
 owed_now n (Fault call by) lines = owed_without call by n.owed

@@ -1,5 +1,4 @@
 -- What the proof of `node::Node::pay` needs beside the tactics.
-use Rattle.std.proofs.Common.{List, ℕ, ◌∙◌}
 use Rattle.repo_node.proofs.DebtLemmas.{err_paid, ok_paid, pays_due, rest_paid, step_paid}
 use Rattle.repo_node.proofs.node.Node.pay.Goals as goal
 
