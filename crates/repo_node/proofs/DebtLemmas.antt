@@ -1,66 +1,159 @@
 -- What a node writes of a line that is owed is what the step writes.
-use Rattle.std.proofs.Common.{◌≡◌, ℕ, zero, suc, ◌+◌, Bool, List, [], ◌∷◌, ◌++◌, map, reverse, Option, Some, None, Result, Ok, Err, OnOk, IfErr, refl, sym, ap, ◌∙◌}
-use Rattle.std.specs.Prelude.{slice_get}
-use Rattle.std.specs.Option.{unwrap_or}
+use Rattle.std.proofs.Common.{◌≡◌, ℕ, ◌+◌, Bool, true, false, ◌&&◌, List, [], ◌∷◌, ◌++◌, length, drop, Option, Some, None, Result, Ok, Err, OnOk, IfOk, IfErr, bytes_eq, refl, sym, ap, subst, ◌∙◌}
+use Rattle.std.specs.Prelude.{nat_eq, slice_get, option_to_list}
+use Rattle.std.specs.Cmp.Lexicographic.{pointwise}
 use Rattle.annex_base.specs.declared.kinds.Call.{Call}
 use Rattle.annex_base.specs.declared.kinds.Call.TheVariants.{PutFile}
+use Rattle.annex_base.proofs.Conditions.{bytes_eq-refl}
 use Rattle.hash_dirs.specs.LogPath.{location_path}
 use Rattle.object_store.specs.Stores.{Contents}
+use Rattle.run_data.specs.Files.{file_path}
+use Rattle.run_data.specs.declared.entry.By.{By}
 use Rattle.run_data.specs.declared.entry.Entry.{Entry}
 use Rattle.run_data.specs.declared.entry.EntryKind.{EntryKind}
 use Rattle.run_data.specs.declared.entry.EntryKind.TheVariants.{Log, Fault}
+use Rattle.run_data.specs.declared.entry.LogFile.{LogFile}
 use Rattle.run_data.specs.declared.entry.LogFile.TheVariants.{Location}
-use Rattle.run_data.specs.declared.run.RepoView.{RepoView}
-use Rattle.run_data.specs.Repos.{id_of}
-use Rattle.union_merge.specs.Branch.{lines_at, merged_file}
-use Rattle.node_model.specs.After.{states}
-use Rattle.node_model.specs.Clocks.{wall}
+use Rattle.union_merge.specs.Branch.{Files, lines_at, merged_file}
 use Rattle.node_model.specs.Look.{Look, Made, entry_of, failing, unless}
-use Rattle.node_model.specs.Owed.{Owed, due, if_new, status_line}
-use Rattle.node_model.specs.OwedStep.{pays_first}
+use Rattle.node_model.specs.Owed.{Owed, due, if_new, same_lines, status_line}
+use Rattle.node_model.specs.OwedStep.{owed_step, pays_first}
 use Rattle.node_model.specs.SetUp.{SetUp}
 use Rattle.node_model.specs.State.{State}
-use Rattle.repo_node.specs.Debts.{AddsStep, WhereMade, due_by, failed_put, id_known, with_status}
-use Rattle.repo_node.specs.Nodes.{Fits, IsState, NodeView, next_entry, state_of, with_entry}
+use Rattle.repo_node.specs.Debts.{AddsStep, IsDraftOf, IsFirstDraft, WhereMade, failed_put, with_status}
+use Rattle.repo_node.specs.declared.owed.Draft.{Draft}
+use Rattle.repo_node.specs.Nodes.{Fits, IsState, NodeView, are_due, due_by, id_known, next_entry, state_of, with_entry}
+use Rattle.repo_node.specs.Owing.{AreDebts, IsFirstOf, is_owing, owed_at, owed_of, rest_if}
 use Rattle.repo_node.specs.Refusals.{RefusesFor}
 use Rattle.repo_node.specs.declared.refused.NodeRefused.{NodeRefused}
 use Rattle.repo_node.specs.declared.refused.NodeRefused.TheVariants as refusals
+use Rattle.repo_node.proofs.OwedLemmas.{due_is}
 
--- the identifier that the node knows is the repository's
-id_is : (repos : List RepoView) (r : ℕ) → id_of repos r ≡ unwrap_or (slice_get (map (λ repo. repo.id) repos) r) []
-id_is [] r = refl
-id_is (x ∷ xs) zero = refl
-id_is (x ∷ xs) (suc r) = id_is xs r
+none_one : ◌≡◌ {A = ℕ} 0 1 → ⊥
+none_one one = absurd cc
 
--- the wall clock stays the set-up's
-wall_is : (s : SetUp) (past : List Entry) → (states s past).wall ≡ wall s.repos s.number
-wall_is s [] = refl
-wall_is s (e ∷ past) = wall_is s past
+none_place : (place : ℕ) → None ≡ Some place → ⊥
+none_place place is = absurd cc
 
-pub due_is : {K : Type 0} (n : NodeView K) (s : SetUp) (known : Option Contents) (o : Owed) → Fits n.setup s → IsState s n.table n.branch known (state_of s n.history)
-    → due s.repos (state_of s n.history).lines ((state_of s n.history).wall n.time) o ≡ due_by n o.key o.repo o.there
-due_is n s known o fits is =
-    let st : State = state_of s n.history in
-    let path : List ℕ = location_path o.key in
-    let has : List (List ℕ) = lines_at n.branch path in
-    let lines : st.lines path ≡ has = sym (is.lines path) in
-    let clock : st.wall n.time ≡ n.time + n.setup.offset = ap (λ (w : ℕ → ℕ). w n.time) (wall_is s (reverse n.history)) ∙ ap (λ (offset : ℕ). n.time + offset) fits.offset in
-    let id : id_of s.repos o.repo ≡ id_known n o.repo = id_is s.repos o.repo ∙ ap (λ (ids : List (List ℕ)). unwrap_or (slice_get ids o.repo) []) fits.ids in
-    ap (λ (w : List (List ℕ)). if_new w (status_line w (id_of s.repos o.repo) o.there (st.wall n.time))) lines
-    ∙ ap (λ (c : ℕ). if_new has (status_line has (id_of s.repos o.repo) o.there c)) clock
-    ∙ ap (λ (i : List ℕ). if_new has (status_line has i o.there (n.time + n.setup.offset))) id
+some_place : (p q : ℕ) → Some p ≡ Some q → p ≡ q
+some_place p q is = cc
+
+cons_same : (d o : Owed) (ds os : List Owed) → d ∷ ds ≡ o ∷ os → d ≡ o
+cons_same d o ds os is = cc
+
+-- ---- the first line that is owed
+
+one_first : (o : Option Owed) (xs ys : List Owed) → option_to_list o ≡ xs → length xs ≡ 1 → IsFirstOf o (xs ++ ys)
+one_first None xs ys is one = absurd (none_one (ap (λ (w : List Owed). length w) is ∙ one))
+one_first (Some o) xs ys is one = subst (λ (w : List Owed). w ++ ys ≡ o ∷ drop 1 (w ++ ys)) is refl
+
+pub first_some : (r : ℕ) (h : List Entry) (places : List ℕ) (place : ℕ) (o : Option Owed) → slice_get places 0 ≡ Some place → option_to_list o ≡ owed_of r (slice_get h place) → AreDebts r h places → IsFirstOf o (owed_at r h places)
+first_some r h [] place o at is debts = absurd (none_place place at)
+first_some r h (p ∷ places) place o at is debts =
+    one_first o (owed_of r (slice_get h p)) (owed_at r h places) (is ∙ ap (λ (x : ℕ). owed_of r (slice_get h x)) (sym (some_place p place at))) debts.0
+
+pub first_none : (r : ℕ) (h : List Entry) (places : List ℕ) → slice_get places 0 ≡ None → owed_at r h places ≡ []
+first_none r h [] at = refl
+first_none r h (p ∷ places) at = absurd (none_place p (sym at))
+
+one_owing : (xs ys : List Owed) → length xs ≡ 1 → true ≡ is_owing (xs ++ ys)
+one_owing [] ys one = absurd (none_one one)
+one_owing (x ∷ xs) ys one = refl
+
+pub some_owing : (r : ℕ) (h : List Entry) (places : List ℕ) (place : ℕ) → slice_get places 0 ≡ Some place → AreDebts r h places → true ≡ is_owing (owed_at r h places)
+some_owing r h [] place at debts = absurd (none_place place at)
+some_owing r h (p ∷ places) place at debts = one_owing (owed_of r (slice_get h p)) (owed_at r h places) debts.0
+
+pub none_owing : (r : ℕ) (h : List Entry) (places : List ℕ) → slice_get places 0 ≡ None → false ≡ is_owing (owed_at r h places)
+none_owing r h places at = ap is_owing (sym (first_none r h places at))
+
+-- ---- lines that are due
+
+pub same_lines_is : (xs ys : List (List ℕ)) → pointwise (pointwise nat_eq) xs ys ≡ same_lines xs ys
+same_lines_is [] [] = refl
+same_lines_is [] (y ∷ ys) = refl
+same_lines_is (x ∷ xs) [] = refl
+same_lines_is (x ∷ xs) (y ∷ ys) = ap (λ (b : Bool). bytes_eq x y && b) (same_lines_is xs ys)
+
+same_self : (xs : List (List ℕ)) → same_lines xs xs ≡ true
+same_self [] = refl
+same_self (x ∷ xs) = ap (λ (b : Bool). b && same_lines xs xs) (bytes_eq-refl x) ∙ same_self xs
+
+-- lines of a file are what the first owed line is due, or aren't
+pub due_first : {K E : Type 0} (r : Result Bool E) (n : NodeView K) (file : LogFile) (path : List ℕ) (lines : List (List ℕ)) (o : Owed) → path ≡ file_path file → n.owed ≡ o ∷ drop 1 n.owed
+    → IfOk r (λ b. b ≡ (bytes_eq path (location_path o.key) && same_lines lines (due_by n o.key o.repo o.there))) → IfOk r (λ b. b ≡ are_due n file lines n.owed)
+due_first {K} (Ok b) n file path lines o here first is =
+    is ∙ ap (λ (p : List ℕ). bytes_eq p (location_path o.key) && same_lines lines (due_by n o.key o.repo o.there)) here ∙ ap (are_due n file lines) (sym first)
+due_first (Err e) n file path lines o here first is = tt
+
+-- what it is due is due
+due_paid : {K : Type 0} (n : NodeView K) (o : Owed) (os : List Owed) → are_due n (Location o.key) (due_by n o.key o.repo o.there) (o ∷ os) ≡ true
+due_paid n o os =
+    ap (λ (b : Bool). b && same_lines (due_by n o.key o.repo o.there) (due_by n o.key o.repo o.there)) (bytes_eq-refl (location_path o.key))
+    ∙ same_self (due_by n o.key o.repo o.there)
+
+pub pays_due : {K : Type 0} (n : NodeView K) (file : LogFile) (new : List (List ℕ)) (o : Owed) → file ≡ Location o.key → new ≡ due_by n o.key o.repo o.there → n.owed ≡ o ∷ drop 1 n.owed → true ≡ are_due n file new n.owed
+pays_due n file new o is due first =
+    sym (ap (λ (f : LogFile). are_due n f new n.owed) is ∙ ap (λ (w : List (List ℕ)). are_due n (Location o.key) w n.owed) due
+    ∙ ap (are_due n (Location o.key) (due_by n o.key o.repo o.there)) first ∙ due_paid n o (drop 1 n.owed))
+
+-- what is due, by the parts of the node
+pub ok_due : {K E : Type 0} (r : Result (List (List ℕ)) E) (n : NodeView K) (branch : Files) (key path line id : List ℕ) (repo : ℕ) (there : Bool) → path ≡ location_path key → branch ≡ n.branch → id ≡ id_known n repo
+    → line ≡ status_line (lines_at branch path) id there (n.time + n.setup.offset) → IfOk r (λ s. s ≡ if_new (lines_at branch path) line) → IfOk r (λ s. s ≡ due_by n key repo there)
+ok_due {K} (Ok s) n branch key path line id repo there here same known text new =
+    let clock : ℕ = n.time + n.setup.offset in
+    let lacks : Files → List ℕ → List ℕ → List (List ℕ) = λ b p i. if_new (lines_at b p) (status_line (lines_at b p) i there clock) in
+    new ∙ ap (λ (l : List ℕ). if_new (lines_at branch path) l) text
+    ∙ ap (λ (b : Files). lacks b path id) same ∙ ap (λ (p : List ℕ). lacks n.branch p id) here ∙ ap (λ (i : List ℕ). lacks n.branch (location_path key) i) known
+ok_due (Err e) n branch key path line id repo there here same known text new = tt
+
+-- ---- the node with such a line
 
 -- a log entry with what the log lacks of the status is that of the status
-pub ok_status : {K : Type 0} (r : Result (Unit {0}) NodeRefused) (n m : NodeView K) (key copy path line id : List ℕ) (repo : ℕ) (there : Bool) (new : List (List ℕ))
-    → copy ≡ key → path ≡ location_path copy → id ≡ id_known n repo → line ≡ status_line (lines_at n.branch path) id there (n.time + n.setup.offset) → new ≡ if_new (lines_at n.branch path) line
-    → OnOk r (m ≡ with_entry n m.keeper (merged_file n.branch (location_path copy) new) (Log (Location copy)) new) → OnOk r (m ≡ with_status n m.keeper key repo there)
-ok_status {K} (Ok x) n m key copy path line id repo there new same here known is news ok =
-    let clock : ℕ = n.time + n.setup.offset in
-    let lacks : List ℕ → List ℕ → List (List ℕ) = λ p i. if_new (lines_at n.branch p) (status_line (lines_at n.branch p) i there clock) in
-    let due : new ≡ due_by n key repo there = news ∙ ap (λ (l : List ℕ). if_new (lines_at n.branch path) l) is ∙ ap (λ (p : List ℕ). lacks p id) (here ∙ ap location_path same) ∙ ap (λ (i : List ℕ). lacks (location_path key) i) known in
-    ok ∙ ap (λ (k : List ℕ). with_entry n m.keeper (merged_file n.branch (location_path k) new) (Log (Location k)) new) same
+pub ok_status : {K : Type 0} (r : Result (Unit {0}) NodeRefused) (n m : NodeView K) (key : List ℕ) (repo : ℕ) (there : Bool) (file : LogFile) (new : List (List ℕ)) → file ≡ Location key → new ≡ due_by n key repo there
+    → OnOk r (m ≡ with_entry n m.keeper (merged_file n.branch (file_path file) new) (Log file) new) → OnOk r (m ≡ with_status n m.keeper key repo there)
+ok_status {K} (Ok x) n m key repo there file new is due ok =
+    ok ∙ ap (λ (f : LogFile). with_entry n m.keeper (merged_file n.branch (file_path f) new) (Log f) new) is
     ∙ ap (λ (ls : List (List ℕ)). with_entry n m.keeper (merged_file n.branch (location_path key) ls) (Log (Location key)) ls) due
-ok_status (Err e) n m key copy path line id repo there new same here known is news ok = tt
+ok_status (Err e) n m key repo there file new is due ok = tt
+
+paid_rest : {K : Type 0} (r : Result (Unit {0}) NodeRefused) (n m : NodeView K) (o : Owed) (os : List Owed) → n.owed ≡ o ∷ os → OnOk r (m ≡ with_status n m.keeper o.key o.repo o.there) → OnOk r (m.owed ≡ os)
+paid_rest {K} (Ok x) n m o os is ok =
+    ap (λ (v : NodeView K). v.owed) ok
+    ∙ ap (λ (w : List Owed). rest_if (are_due n (Location o.key) (due_by n o.key o.repo o.there) w) w) is
+    ∙ ap (λ (b : Bool). rest_if b (o ∷ os)) (due_paid n o os)
+paid_rest (Err e) n m o os is ok = tt
+
+-- ---- the draft of the first line
+
+pub ok_first : {K E : Type 0} (r : Result Draft E) (n : NodeView K) (o : Owed) → n.owed ≡ o ∷ drop 1 n.owed → IfOk r (λ d. IsDraftOf n o d) → IfOk r (λ d. IsFirstDraft n d)
+ok_first (Ok d) n o first draft = record { owed = o; first = first; draft = draft }
+ok_first (Err e) n o first draft = tt
+
+-- the first line that is owed is this one
+draft_same : {K : Type 0} (n : NodeView K) (d : Draft) (o : Owed) (os : List Owed) → IsFirstDraft n d → n.owed ≡ o ∷ os → IsDraftOf n o d
+draft_same n d o os f is = subst (λ (x : Owed). IsDraftOf n x d) (cons_same f.owed o (drop 1 n.owed) os (sym f.first ∙ is)) f.draft
+
+ok_drafted : {K : Type 0} (r : Result (Unit {0}) NodeRefused) (n m : NodeView K) (d : Draft) (o : Owed) → IsDraftOf n o d
+    → OnOk r (m ≡ with_entry n m.keeper (merged_file n.branch (file_path d.file) d.new) (Log d.file) d.new) → OnOk r (m ≡ with_status n m.keeper o.key o.repo o.there)
+ok_drafted r n m d o draft ok = ok_status r n m o.key o.repo o.there d.file d.new draft.file draft.new ok
+
+err_drafted : {K : Type 0} (r : Result (Unit {0}) NodeRefused) (n m : NodeView K) (d : Draft) (o : Owed) → IsDraftOf n o d → IfErr r (λ e. RefusesFor d.by e PutFile n m) → IfErr r (λ e. RefusesFor o.by e PutFile n m)
+err_drafted r n m d o draft err = subst (λ (by : By). IfErr r (λ e. RefusesFor by e PutFile n m)) draft.by err
+
+pub ok_paid : {K : Type 0} (r : Result (Unit {0}) NodeRefused) (n m : NodeView K) (d : Draft) (o : Owed) (os : List Owed) → IsFirstDraft n d → n.owed ≡ o ∷ os
+    → OnOk r (m ≡ with_entry n m.keeper (merged_file n.branch (file_path d.file) d.new) (Log d.file) d.new) → OnOk r (m ≡ with_status n m.keeper o.key o.repo o.there)
+ok_paid r n m d o os f is ok = ok_drafted r n m d o (draft_same n d o os f is) ok
+
+pub rest_paid : {K : Type 0} (r : Result (Unit {0}) NodeRefused) (n m : NodeView K) (d : Draft) (o : Owed) (os : List Owed) → IsFirstDraft n d → n.owed ≡ o ∷ os
+    → OnOk r (m ≡ with_entry n m.keeper (merged_file n.branch (file_path d.file) d.new) (Log d.file) d.new) → OnOk r (m.owed ≡ os)
+rest_paid r n m d o os f is ok = paid_rest r n m o os is (ok_paid r n m d o os f is ok)
+
+pub err_paid : {K : Type 0} (r : Result (Unit {0}) NodeRefused) (n m : NodeView K) (d : Draft) (o : Owed) (os : List Owed) → IsFirstDraft n d → n.owed ≡ o ∷ os
+    → IfErr r (λ e. RefusesFor d.by e PutFile n m) → IfErr r (λ e. RefusesFor o.by e PutFile n m)
+err_paid r n m d o os f is err = err_drafted r n m d o (draft_same n d o os f is) err
+
+-- ---- the step
 
 -- the entry of the node is the entry of the step
 entry_is : {K : Type 0} (n : NodeView K) (k : Look) (kind : EntryKind) (lines others : List (List ℕ)) → k.time ≡ n.time → k.count ≡ n.count + 1 → others ≡ lines
@@ -114,3 +207,13 @@ step_made {K} (Err refusals.StoreFault) n m s k known o os fits is time count fa
 step_made (Err refusals.Full) n m s k known o os fits is time count fails ok err = tt
 step_made (Err (refusals.BadBundle at)) n m s k known o os fits is time count fails ok err = tt
 step_made (Err refusals.NoMemory) n m s k known o os fits is time count fails ok err = tt
+
+-- the same, of the step of the state
+pub step_paid : {K : Type 0} (r : Result (Unit {0}) NodeRefused) (n m : NodeView K) (d : Draft) (s : SetUp) (k : Look) (known : Option Contents)
+    → IsFirstDraft n d → (state_of s n.history).owed ≡ n.owed
+    → Fits n.setup s → IsState s n.table n.branch known (state_of s n.history) → k.time ≡ n.time → k.count ≡ n.count + 1 → failing k.fails (PutFile ∷ []) ≡ failed_put r
+    → OnOk r (m ≡ with_entry n m.keeper (merged_file n.branch (file_path d.file) d.new) (Log d.file) d.new) → IfErr r (λ e. RefusesFor d.by e PutFile n m)
+    → WhereMade r (AddsStep (owed_step s (state_of s n.history) k) n.setup.number k n.history m.history)
+step_paid {K} r n m d s k known f owes fits is time count fails ok err =
+    subst (λ (os : List Owed). WhereMade r (AddsStep (pays_first s (state_of s n.history) k os) n.setup.number k n.history m.history)) (sym (owes ∙ f.first))
+    (step_made r n m s k known f.owed (drop 1 n.owed) fits is time count fails (ok_drafted r n m d f.owed f.draft ok) (err_drafted r n m d f.owed f.draft err))

@@ -1,11 +1,12 @@
 -- A node after a content came, or a part.
-use Rattle.std.proofs.Common.{◌≡◌, ℕ, ◌+◌, inl, inr, Bool, true, false, if◌then◌else◌, ◌||◌, List, [], ◌++◌, length, Option, Some, None, Result, Ok, Err, OnOk, OnErr, IfErr, option_map, is_some, bytes_eq, refl, sym, ap, subst, ◌∙◌}
+use Rattle.std.proofs.Common.{◌≡◌, ℕ, inl, inr, Bool, true, false, if◌then◌else◌, ◌||◌, List, [], ◌++◌, length, Option, Some, None, Result, Ok, Err, OnOk, OnErr, IfErr, option_map, is_some, bytes_eq, refl, sym, ap, subst, ◌∙◌}
 use Rattle.std.specs.Option.{ForSome}
 use Rattle.annex_base.proofs.Conditions.{by_test, bytes_eq-refl}
 use Rattle.object_store.specs.Stores.{Contents, Parts, contents_after_commit, with_at}
 use Rattle.run_data.specs.declared.entry.EntryKind.TheVariants.{Gain}
 use Rattle.run_data.specs.declared.entry.By.{By}
 use Rattle.run_data.specs.declared.entry.By.TheVariants.{Script}
+use Rattle.node_model.specs.Owed.{Owed}
 use Rattle.node_model.specs.Rows.{content_after, present_after}
 use Rattle.annex_base.specs.declared.kinds.Call.{Call}
 use Rattle.annex_base.specs.declared.kinds.Call.TheVariants.{Commit, PutFile}
@@ -15,15 +16,16 @@ use Rattle.repo_node.specs.declared.past.Past.{Past}
 use Rattle.repo_node.specs.declared.refused.NodeRefused.{NodeRefused}
 use Rattle.repo_node.specs.declared.refused.NodeRefused.TheVariants as refusals
 use Rattle.repo_node.specs.Debts.{with_status}
-use Rattle.repo_node.specs.Idle.{IsKept}
+use Rattle.repo_node.specs.Idle.{IsKept, owed_refused}
 use Rattle.repo_node.specs.Nodes.{NodeView}
 use Rattle.repo_node.specs.Pasts.{AddsTo, FailsAtScripts, FailsFor, SamePast}
 use Rattle.repo_node.specs.Placing.{HasPart, IsPlaced, IsTaken, StopsBefore, StopsPlacing, with_content, with_gain, with_placed}
 use Rattle.repo_node.specs.Refusals.{RefusesFor}
 use Rattle.repo_node.specs.Walks.{over}
+use Rattle.repo_node.proofs.OwedLemmas.{Grows, grows_failed, grows_same, refused_stay}
 use Rattle.repo_node.proofs.PastLemmas.{fails_after, same_after}
 use Rattle.repo_node.proofs.StateLemmas.{Moves, kept_more}
-use Rattle.repo_node.proofs.WriteLemmas.{kept_equal, kept_failed, kept_past, node_adds, node_failed, node_of, node_same}
+use Rattle.repo_node.proofs.WriteLemmas.{kept_equal, kept_failed, kept_past, node_adds, node_failed, node_of, node_same, storeless}
 
 or_true : (b : Bool) → true ≡ (b || true)
 or_true true = refl
@@ -102,40 +104,53 @@ pub on_err : {X E : Type 0} {P : Type 0} (r : Result X E) → P → OnErr r P
 on_err (Ok x) p = tt
 on_err (Err e) p = p
 
-pub kept_brought : {X : Type 0} (r : Result X NodeRefused) (was now : Past) (rows : Rows) (branch : Files) (known known' : Option Contents)
-    → OnOk r (SamePast was now) → IfErr r (λ e. FailsAtScripts e was now) → known' ≡ known
-    → IsKept was.setup was.history.items rows branch known → IsKept now.setup now.history.items rows branch known'
-kept_brought (Ok x) was now rows branch known known' same fails is kept = kept_past was now rows branch branch known known' same refl is kept
-kept_brought (Err e) was now rows branch known known' same fails is kept = kept_failed Script e fails.call was now rows branch branch known known' fails.scripts fails.fails refl is kept
+pub kept_brought : {X : Type 0} (r : Result X NodeRefused) (was now : Past) (rows : Rows) (branch : Files) (known known' : Option Contents) (owed owed' : List Owed)
+    → OnOk r (SamePast was now) → IfErr r (λ e. FailsAtScripts e was now) → known' ≡ known → owed' ≡ owed
+    → IsKept was.setup was.history.items rows branch known owed → IsKept now.setup now.history.items rows branch known' owed'
+kept_brought (Ok x) was now rows branch known known' owed owed' same fails is owes kept = kept_past was now rows branch branch known known' owed owed' same refl is owes kept
+kept_brought (Err e) was now rows branch known known' owed owed' same fails is owes kept =
+    kept_failed Script e fails.call was now rows branch branch known known' owed owed' fails.scripts fails.fails refl is (owes ∙ sym (refused_stay e fails.call owed)) kept
 
-pub kept_gained : (r : Result (Unit {0}) NodeRefused) (was now : Past) (rows : Rows) (branch : Files) (known known' : Option Contents) (parts : Option Parts) (key : List ℕ) (size : ℕ)
+pub kept_gained : (r : Result (Unit {0}) NodeRefused) (was now : Past) (rows : Rows) (branch : Files) (known known' : Option Contents) (parts : Option Parts) (key : List ℕ) (size : ℕ) (owed owed' : List Owed)
     → OnOk r (AddsTo (Gain Script size key) [] was now) → IfErr r (λ e. FailsFor Script e Commit was now)
-    → OnOk r (known' ≡ contents_after_commit known parts key) → OnErr r (known' ≡ known) → ForSome parts (λ p. length (p key) ≡ size)
-    → IsKept was.setup was.history.items rows branch known → IsKept now.setup now.history.items rows branch known'
-kept_gained (Ok x) was now rows branch known known' parts key size adds fails is stays long kept =
-    kept_equal was.setup now.setup _ now.history.items rows branch branch known' adds.setup adds.history refl
-    (kept_more was.setup was.history.items rows branch branch known known' was.time (was.count + 1) was.setup.number (Gain Script size key) [] tt kept (λ p. refl) (gain_moves known known' parts key size long is))
-kept_gained (Err e) was now rows branch known known' parts key size adds fails is stays long kept = kept_failed Script e Commit was now rows branch branch known known' refl fails refl stays kept
+    → OnOk r (known' ≡ contents_after_commit known parts key) → OnErr r (known' ≡ known) → ForSome parts (λ p. length (p key) ≡ size) → owed' ≡ owed
+    → IsKept was.setup was.history.items rows branch known owed → IsKept now.setup now.history.items rows branch known' owed'
+kept_gained (Ok x) was now rows branch known known' parts key size owed owed' adds fails is stays long owes kept =
+    kept_equal was.setup now.setup _ now.history.items rows branch branch known' owed' adds.setup adds.history refl
+    (kept_more (storeless rows branch was owed) branch known known' owed' (Gain Script size key) [] tt kept (λ p. refl) (gain_moves known known' parts key size long is) owes)
+kept_gained (Err e) was now rows branch known known' parts key size owed owed' adds fails is stays long owes kept =
+    kept_failed Script e Commit was now rows branch branch known known' owed owed' refl fails refl stays (owes ∙ sym (refused_stay e Commit owed)) kept
 
 -- ---- what clauses see
 
-pub seen_same : {K X : Type 0} (r : Result X NodeRefused) (k k' : K) (t : Rows) (b : Files) (was now : Past) (n : NodeView K) → node_of k t b was ≡ n → OnOk r (SamePast was now) → OnOk r (node_of k' t b now ≡ over k' n)
-seen_same {K} (Ok x) k k' t b was now n view same = node_same k k' t b b was now refl same ∙ ap (λ (m : NodeView K). over k' m) view
-seen_same (Err e) k k' t b was now n view same = tt
+pub seen_same : {K X : Type 0} (r : Result X NodeRefused) (k k' : K) (t : Rows) (b : Files) (was now : Past) (owed owed' : List Owed) (n : NodeView K) → node_of k t b was owed ≡ n → OnOk r (SamePast was now) → owed' ≡ owed
+    → OnOk r (node_of k' t b now owed' ≡ over k' n)
+seen_same {K} (Ok x) k k' t b was now owed owed' n view same owes = node_same k k' t b b was now owed owed' refl same owes ∙ ap (λ (m : NodeView K). over k' m) view
+seen_same (Err e) k k' t b was now owed owed' n view same owes = tt
 
-pub seen_stops : {K X : Type 0} (r : Result X NodeRefused) (k k' : K) (t : Rows) (b : Files) (was now : Past) (n : NodeView K) → node_of k t b was ≡ n → IfErr r (λ e. FailsAtScripts e was now)
-    → IfErr r (λ e. StopsBefore e n (node_of k' t b now))
-seen_stops (Ok x) k k' t b was now n view fails = tt
-seen_stops {K} (Err e) k k' t b was now n view fails = record {
+pub seen_stops : {K X : Type 0} (r : Result X NodeRefused) (k k' : K) (t : Rows) (b : Files) (was now : Past) (owed owed' : List Owed) (n : NodeView K) → node_of k t b was owed ≡ n → IfErr r (λ e. FailsAtScripts e was now) → owed' ≡ owed
+    → IfErr r (λ e. StopsBefore e n (node_of k' t b now owed'))
+seen_stops (Ok x) k k' t b was now owed owed' n view fails owes = tt
+seen_stops {K} (Err e) k k' t b was now owed owed' n view fails owes = record {
   call = fails.call;
   scripts = fails.scripts;
-  refused = subst (λ (m : NodeView K). RefusesFor Script e fails.call m (node_of k' t b now)) view (node_failed Script e fails.call k k' t b b was now refl fails.fails);
+  refused = subst (λ (m : NodeView K). RefusesFor Script e fails.call m (node_of k' t b now owed')) view
+      (node_failed Script e fails.call k k' t b b was now owed owed' refl fails.fails (owes ∙ sym (refused_stay e fails.call owed)));
 }
 
-pub seen_gained : {K : Type 0} (r : Result (Unit {0}) NodeRefused) (k k' : K) (t : Rows) (b : Files) (was now : Past) (n : NodeView K) (key : List ℕ) (size : ℕ) → node_of k t b was ≡ n → OnOk r (AddsTo (Gain Script size key) [] was now)
-    → OnOk r (node_of k' t b now ≡ with_gain n k' key size)
-seen_gained {K} (Ok x) k k' t b was now n key size view adds = node_adds k k' t b b b was now (Gain Script size key) [] refl adds ∙ ap (λ (m : NodeView K). with_gain m k' key size) view
-seen_gained (Err e) k k' t b was now n key size view adds = tt
+pub seen_gained : {K : Type 0} (r : Result (Unit {0}) NodeRefused) (k k' : K) (t : Rows) (b : Files) (was now : Past) (owed owed' : List Owed) (n : NodeView K) (key : List ℕ) (size : ℕ) → node_of k t b was owed ≡ n → OnOk r (AddsTo (Gain Script size key) [] was now) → owed' ≡ owed
+    → OnOk r (node_of k' t b now owed' ≡ with_gain n k' key size)
+seen_gained {K} (Ok x) k k' t b was now owed owed' n key size view adds owes = node_adds k k' t b b b was now owed owed' (Gain Script size key) [] refl adds owes ∙ ap (λ (m : NodeView K). with_gain m k' key size) view
+seen_gained (Err e) k k' t b was now owed owed' n key size view adds owes = tt
+
+-- of a call that a script's step makes
+pub grows_brought : {X : Type 0} (r : Result X NodeRefused) (was now : Past) → OnOk r (SamePast was now) → IfErr r (λ e. FailsAtScripts e was now) → Grows was now
+grows_brought (Ok x) was now same fails = grows_same was now same
+grows_brought (Err e) was now same fails = grows_failed Script e fails.call was now fails.fails
+
+pub refused_same : {X : Type 0} (r : Result X NodeRefused) (call : Call) (owed owed' : List Owed) → owed' ≡ owed → IfErr r (λ e. owed' ≡ owed_refused Script e call owed)
+refused_same (Ok x) call owed owed' owes = tt
+refused_same (Err e) call owed owed' owes = owes ∙ sym (refused_stay e call owed)
 
 -- ---- a content that is placed
 

@@ -1,4 +1,5 @@
 -- The lemmas of this crate.
+pub mod OwedLemmas
 pub mod StateLemmas
 pub mod WriteLemmas
 pub mod PastLemmas
@@ -8,3 +9,4 @@ pub mod WalkLemmas
 pub mod DebtLemmas
 pub mod SetLemmas
 pub mod GainLemmas
+pub mod IndexLemmas

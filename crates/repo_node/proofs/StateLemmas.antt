@@ -1,5 +1,5 @@
 -- What stands beside a history stays so with one more entry.
-use Rattle.std.proofs.Common.{◌≡◌, ℕ, Bool, true, false, ◌||◌, ◌&&◌, List, [], ◌∷◌, ◌++◌, length, Option, Some, None, option_map, is_some, bytes_eq, refl, sym, ap, subst, ◌∙◌}
+use Rattle.std.proofs.Common.{◌≡◌, ℕ, Bool, true, false, ◌||◌, ◌&&◌, List, [], ◌∷◌, ◌++◌, ◌+◌, length, Option, Some, None, option_map, is_some, bytes_eq, refl, sym, ap, subst, ◌∙◌}
 use Rattle.std.proofs.lemmas.List.{reverse-append}
 use Rattle.std.specs.List.{list_any}
 use Rattle.std.specs.Option.{ForSome}
@@ -20,15 +20,17 @@ use Rattle.node_model.specs.After.{state_after, states}
 use Rattle.node_model.specs.Ends.{End, server_end}
 use Rattle.node_model.specs.Files.{lines_after}
 use Rattle.node_model.specs.Jobs.{Work, works_after}
-use Rattle.node_model.specs.Owed.{Owed, owed_without, owed_after}
+use Rattle.node_model.specs.Owed.{Owed, owed_after}
 use Rattle.node_model.specs.Rows.{bar_after, content_after, holds_after, present_after}
 use Rattle.node_model.specs.SessionStep.{is_filled, session_fills}
 use Rattle.node_model.specs.Sessions.{is_filling as fills_key}
 use Rattle.node_model.specs.SetUp.{SetUp, served_connections}
 use Rattle.node_model.specs.State.{State}
 use Rattle.repo_node.specs.declared.setup.Setup.{Setup}
-use Rattle.repo_node.specs.Nodes.{IsState, state_of}
+use Rattle.repo_node.specs.Nodes.{Fits, IsState, NodeView, owed_now, state_of}
 use Rattle.repo_node.specs.Idle.{IsDirect, IsIdle, IsKept, IsOfFiles, may_fail}
+use Rattle.repo_node.specs.Owing.{AreDebts, owed_at}
+use Rattle.repo_node.proofs.OwedLemmas.{owed_is}
 
 -- the state after one more entry
 pub state_more : (s : SetUp) (h : List Entry) (e : Entry) → state_of s (h ++ e ∷ []) ≡ state_after s (state_of s h) e
@@ -39,36 +41,31 @@ made time count r kind lines = record { time = time; count = count; repo = Some 
 
 -- ---- an idle repository stays so
 
-lost_none : (call : Call) (by : By) → owed_without call by [] ≡ []
-lost_none PutFile Script = refl
-lost_none PutFile (by_job job) = refl
-lost_none PutFile (Peer peer slot) = refl
-lost_none _ by = refl
-
 abbrev works_then : (s : SetUp) → State → Entry → List Work → List Work
 works_then s st e ws = works_after (record { present = st.present; bar = st.bar; ends = st.ends }) s.number ws e e.kind
 
 abbrev owed_then : (s : SetUp) → State → Entry → List Owed → List Owed
 owed_then s st e os = owed_after s.repos st.lines (st.wall e.time) st.works s.number os e e.kind
 
-pub idle_after : (s : SetUp) (st : State) (time count r : ℕ) (kind : EntryKind) (lines : List (List ℕ)) → IsDirect kind → IsIdle st → IsIdle (state_after s st (made time count r kind lines))
-idle_after s st time count r (Gain Script size key) lines direct i = record { begun = i.begun; works = ap (works_then s st (made time count r (Gain Script size key) lines)) i.works; owed = ap (owed_then s st (made time count r (Gain Script size key) lines)) i.owed; sessions = i.sessions; ends = i.ends }
-idle_after s st time count r (Log file) lines direct i = record { begun = i.begun; works = ap (works_then s st (made time count r (Log file) lines)) i.works; owed = ap (owed_then s st (made time count r (Log file) lines)) i.owed; sessions = i.sessions; ends = i.ends }
-idle_after s st time count r (Compact file) lines direct i = record { begun = i.begun; works = ap (works_then s st (made time count r (Compact file) lines)) i.works; owed = ap (owed_then s st (made time count r (Compact file) lines)) i.owed; sessions = i.sessions; ends = i.ends }
-idle_after s st time count r (Fault call by) lines direct i = record { begun = i.begun; works = ap (works_then s st (made time count r (Fault call by) lines)) i.works; owed = ap (owed_then s st (made time count r (Fault call by) lines)) i.owed ∙ lost_none call by; sessions = i.sessions; ends = i.ends }
-idle_after s st time count r _ lines direct i = absurd direct
+pub idle_after : (s : SetUp) (st : State) (time count r : ℕ) (kind : EntryKind) (lines : List (List ℕ)) (owed owed' : List Owed) → IsDirect kind → IsIdle st owed
+    → owed_then s st (made time count r kind lines) st.owed ≡ owed' → IsIdle (state_after s st (made time count r kind lines)) owed'
+idle_after s st time count r (Gain Script size key) lines owed owed' direct i owes = record { begun = i.begun; works = ap (works_then s st (made time count r (Gain Script size key) lines)) i.works; owed = owes; sessions = i.sessions; ends = i.ends }
+idle_after s st time count r (Log file) lines owed owed' direct i owes = record { begun = i.begun; works = ap (works_then s st (made time count r (Log file) lines)) i.works; owed = owes; sessions = i.sessions; ends = i.ends }
+idle_after s st time count r (Compact file) lines owed owed' direct i owes = record { begun = i.begun; works = ap (works_then s st (made time count r (Compact file) lines)) i.works; owed = owes; sessions = i.sessions; ends = i.ends }
+idle_after s st time count r (Fault call by) lines owed owed' direct i owes = record { begun = i.begun; works = ap (works_then s st (made time count r (Fault call by) lines)) i.works; owed = owes; sessions = i.sessions; ends = i.ends }
+idle_after s st time count r _ lines owed owed' direct i owes = absurd direct
 
 -- ---- an idle repository fills no key
 
-none_fills : (st : State) (key : List ℕ) → IsIdle st → (cs : List (ℕ × ℕ)) → list_any (λ c. session_fills st key (server_end c.0 c.1)) cs ≡ false
-none_fills st key i [] = refl
-none_fills st key i (c ∷ cs) =
+none_fills : (st : State) (key : List ℕ) (owed : List Owed) → IsIdle st owed → (cs : List (ℕ × ℕ)) → list_any (λ c. session_fills st key (server_end c.0 c.1)) cs ≡ false
+none_fills st key owed i [] = refl
+none_fills st key owed i (c ∷ cs) =
     ap (λ b. b || list_any (λ d. session_fills st key (server_end d.0 d.1)) cs) (ap (λ (x : End). x.opened && fills_key key (st.sessions (server_end c.0 c.1)).doing) (i.ends (server_end c.0 c.1)))
-    ∙ none_fills st key i cs
+    ∙ none_fills st key owed i cs
 
-pub unfilled : (s : SetUp) (st : State) (key : List ℕ) → IsIdle st → is_filled s st key ≡ false
-unfilled s st key i =
-    ap (λ b. b || list_any (λ w. w.fills && bytes_eq w.what.key key) st.works) (none_fills st key i (served_connections s))
+pub unfilled : (s : SetUp) (st : State) (key : List ℕ) (owed : List Owed) → IsIdle st owed → is_filled s st key ≡ false
+unfilled s st key owed i =
+    ap (λ b. b || list_any (λ w. w.fills && bytes_eq w.what.key key) st.works) (none_fills st key owed i (served_connections s))
     ∙ ap (λ (ws : List Work). list_any (λ w. w.fills && bytes_eq w.what.key key) ws) i.works
 
 -- ---- rows
@@ -124,32 +121,35 @@ files_move kind known known' of_files same = record {
   there = λ present was c is key. was c (sym same ∙ is) key ∙ sym (present_same key (present key) kind of_files);
 }
 
-state_kept : (s : SetUp) (st : State) (rows : Rows) (branch branch' : Files) (known known' : Option Contents) (time count r : ℕ) (kind : EntryKind) (lines : List (List ℕ))
-    → IsDirect kind → IsIdle st → IsState s rows branch known st
+state_kept : (s : SetUp) (st : State) (rows : Rows) (branch branch' : Files) (known known' : Option Contents) (time count r : ℕ) (kind : EntryKind) (lines : List (List ℕ)) (owed owed' : List Owed)
+    → IsDirect kind → IsIdle st owed → IsIdle (state_after s st (made time count r kind lines)) owed' → IsState s rows branch known st
     → ((p : List ℕ) → lines_at branch' p ≡ lines_after p (lines_at branch p) kind lines)
     → Moves kind known known'
     → IsState s rows branch' known' (state_after s st (made time count r kind lines))
-state_kept s st rows branch branch' known known' time count r kind lines d i was here moves = record {
+state_kept s st rows branch branch' known known' time count r kind lines owed owed' d i then was here moves = record {
   holds = was.holds ∙ sym (holds_same st.holds kind d);
   bars = λ key. was.bars key ∙ sym (bar_same key (st.bar key) kind d);
-  fills = λ key. was.fills key ∙ unfilled s st key i ∙ sym (unfilled s (state_after s st (made time count r kind lines)) key (idle_after s st time count r kind lines d i));
+  fills = λ key. was.fills key ∙ unfilled s st key owed i ∙ sym (unfilled s (state_after s st (made time count r kind lines)) key owed' then);
   lines = λ p. here p ∙ ap (λ (w : List (List ℕ)). lines_after p w kind lines) (was.lines p);
   sizes = moves.sizes st.content was.sizes;
   there = moves.there st.present was.there;
 }
 
 -- a node with one more entry is kept
-pub kept_more : (setup : Setup) (h : List Entry) (rows : Rows) (branch branch' : Files) (known known' : Option Contents) (time count r : ℕ) (kind : EntryKind) (lines : List (List ℕ))
-    → IsDirect kind → IsKept setup h rows branch known
-    → ((p : List ℕ) → lines_at branch' p ≡ lines_after p (lines_at branch p) kind lines)
-    → Moves kind known known'
-    → IsKept setup (h ++ made time count r kind lines ∷ []) rows branch' known'
-kept_more setup h rows branch branch' known known' time count r kind lines d kept here moves = record {
-  state = λ s fits. subst (IsState s rows branch' known') (sym (state_more s h (made time count r kind lines)))
-      (state_kept s (state_of s h) rows branch branch' known known' time count r kind lines d (kept.idle s fits) (kept.state s fits) here moves);
-  idle = λ s fits. subst IsIdle (sym (state_more s h (made time count r kind lines)))
-      (idle_after s (state_of s h) time count r kind lines d (kept.idle s fits));
+pub kept_more : {K : Type 0} (n : NodeView K) (branch' : Files) (known known' : Option Contents) (owed' : List Owed) (kind : EntryKind) (lines : List (List ℕ))
+    → IsDirect kind → IsKept n.setup n.history n.table n.branch known n.owed
+    → ((p : List ℕ) → lines_at branch' p ≡ lines_after p (lines_at n.branch p) kind lines)
+    → Moves kind known known' → owed' ≡ owed_now n kind lines
+    → IsKept n.setup (n.history ++ made n.time (n.count + 1) n.setup.number kind lines ∷ []) n.table branch' known' owed'
+kept_more n branch' known known' owed' kind lines d kept here moves owes = record {
+  state = λ s fits. subst (IsState s n.table branch' known') (sym (state_more s n.history (made n.time (n.count + 1) n.setup.number kind lines)))
+      (state_kept s (state_of s n.history) n.table n.branch branch' known known' n.time (n.count + 1) n.setup.number kind lines n.owed owed' d (kept.idle s fits) (next s fits) (kept.state s fits) here moves);
+  idle = λ s fits. subst (λ (st : State). IsIdle st owed') (sym (state_more s n.history (made n.time (n.count + 1) n.setup.number kind lines))) (next s fits);
 }
+  where
+    next : (s : SetUp) → Fits n.setup s → IsIdle (state_after s (state_of s n.history) (made n.time (n.count + 1) n.setup.number kind lines)) owed'
+    next s fits = idle_after s (state_of s n.history) n.time (n.count + 1) n.setup.number kind lines n.owed owed' d (kept.idle s fits)
+        (owed_is n s known kind lines d fits (kept.state s fits) (kept.idle s fits).owed ∙ sym owes)
 
 -- the call that writes a file may fail for whomever it is made
 pub put_may_fail : (by : By) → may_fail by PutFile ≡ true
@@ -158,19 +158,19 @@ put_may_fail (by_job job) = refl
 put_may_fail (Peer peer slot) = refl
 
 -- what is kept of one store is kept of one with the same contents
-pub kept_same : (setup : Setup) (h : List Entry) (rows : Rows) (branch : Files) (known known' : Option Contents) → known' ≡ known → IsKept setup h rows branch known → IsKept setup h rows branch known'
-kept_same setup h rows branch known known' same kept = subst (λ (k : Option Contents). IsKept setup h rows branch k) (sym same) kept
+pub kept_same : (setup : Setup) (h : List Entry) (rows : Rows) (branch : Files) (known known' : Option Contents) (owed : List Owed) → known' ≡ known → IsKept setup h rows branch known owed → IsKept setup h rows branch known' owed
+kept_same setup h rows branch known known' owed same kept = subst (λ (k : Option Contents). IsKept setup h rows branch k owed) (sym same) kept
 
 -- before the first entry
-first_idle : (s : SetUp) → IsIdle (state_of s [])
+first_idle : (s : SetUp) → IsIdle (state_of s []) []
 first_idle s = record { begun = refl; works = refl; owed = refl; sessions = λ a. refl; ends = λ a. refl }
 
-pub kept_first : (setup : Setup) (known : Option Contents) → ForSome known (λ c. (key : List ℕ) → c key ≡ None) → IsKept setup [] (record { holds = []; bars = []; fills = [] }) [] known
+pub kept_first : (setup : Setup) (known : Option Contents) → ForSome known (λ c. (key : List ℕ) → c key ≡ None) → IsKept setup [] (record { holds = []; bars = []; fills = [] }) [] known []
 kept_first setup known empty = record {
   state = λ s fits. record {
     holds = refl;
     bars = λ key. refl;
-    fills = λ key. sym (unfilled s (state_of s []) key (first_idle s));
+    fills = λ key. sym (unfilled s (state_of s []) key [] (first_idle s));
     lines = λ path. refl;
     sizes = λ c is key. ap (option_map length) (empty c is key);
     there = λ c is key. ap is_some (empty c is key);
@@ -178,12 +178,16 @@ kept_first setup known empty = record {
   idle = λ s fits. first_idle s;
 }
 
-pub kept_new : (setup : Setup) (history : List Entry) (rows : Rows) (branch : Files) (known : Option Contents)
-    → history ≡ [] → rows ≡ record { holds = []; bars = []; fills = [] } → branch ≡ [] → ForSome known (λ c. (key : List ℕ) → c key ≡ None) → IsKept setup history rows branch known
-kept_new setup history rows branch known first empty none content =
-    subst (λ (h : List Entry). IsKept setup h rows branch known) (sym first)
-    (subst (λ (x : Rows). IsKept setup [] x branch known) (sym empty)
-    (subst (λ (x : Files). IsKept setup [] (record { holds = []; bars = []; fills = [] }) x known) (sym none) (kept_first setup known content)))
+pub kept_new : (setup : Setup) (history : List Entry) (rows : Rows) (branch : Files) (known : Option Contents) (debts : List ℕ)
+    → history ≡ [] → rows ≡ record { holds = []; bars = []; fills = [] } → branch ≡ [] → debts ≡ [] → ForSome known (λ c. (key : List ℕ) → c key ≡ None) → IsKept setup history rows branch known (owed_at setup.number history debts)
+kept_new setup history rows branch known debts first empty none free content =
+    subst (λ (ds : List ℕ). IsKept setup history rows branch known (owed_at setup.number history ds)) (sym free)
+    (subst (λ (h : List Entry). IsKept setup h rows branch known []) (sym first)
+    (subst (λ (x : Rows). IsKept setup [] x branch known []) (sym empty)
+    (subst (λ (x : Files). IsKept setup [] (record { holds = []; bars = []; fills = [] }) x known []) (sym none) (kept_first setup known content))))
+
+pub no_debts : (r : ℕ) (history : List Entry) (debts : List ℕ) → debts ≡ [] → AreDebts r history debts
+no_debts r history debts free = subst (AreDebts r history) (sym free) tt
 
 pub no_records : (holds : List Hold) (records : List HoldRecord) → holds ≡ [] → records ≡ [] → AreRecordsOf holds records
 no_records holds records none empty =

@@ -1,4 +1,5 @@
 -- The definitions of this crate.
+pub mod Owing
 pub mod Nodes
 pub mod Stored
 pub mod Idle
@@ -6,5 +7,6 @@ pub mod Logs
 pub mod Walks
 pub mod Debts
 pub mod Placing
+pub mod Indexed
 pub mod Refusals
 pub mod Pasts

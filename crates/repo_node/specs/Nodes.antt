@@ -1,19 +1,25 @@
 -- What a node is: a repository of a run that knows its own state and nothing else (own).
-use Rattle.std.specs.Prelude.{◌≡◌, ℕ, ◌+◌, List, [], ◌∷◌, ◌++◌, length, map, reverse, Option, Some, None, is_some}
-use Rattle.std.specs.Option.{ForSome, option_map}
+use Rattle.std.specs.Prelude.{◌≡◌, ℕ, ◌+◌, Bool, false, ◌&&◌, List, [], ◌∷◌, ◌++◌, length, map, reverse, slice_get, bytes_eq, Option, Some, None, is_some}
+use Rattle.std.specs.Option.{ForSome, option_map, unwrap_or}
 use Rattle.object_store.specs.Stores.{Contents, Files as StoredFiles, bytes_of}
 use Rattle.content_lock.specs.Rows.{Rows, bar_at, is_filling}
 use Rattle.union_merge.specs.Branch.{Files, lines_at}
 use Rattle.union_merge.specs.LineSet.{text_of}
+use Rattle.hash_dirs.specs.LogPath.{location_path}
+use Rattle.run_data.specs.Files.{file_path}
 use Rattle.run_data.specs.Repos.{offset_of}
 use Rattle.run_data.specs.declared.entry.Entry.{Entry}
 use Rattle.run_data.specs.declared.entry.EntryKind.{EntryKind}
+use Rattle.run_data.specs.declared.entry.EntryKind.TheVariants.{Fault, Log}
+use Rattle.run_data.specs.declared.entry.LogFile.{LogFile}
 use Rattle.node_model.specs.SetUp.{SetUp, version_of, gives_locks}
 use Rattle.node_model.specs.State.{State}
+use Rattle.node_model.specs.Owed.{Owed, if_new, owed_without, same_lines, status_line}
 use Rattle.node_model.specs.After.{states}
 use Rattle.node_model.specs.SessionStep.{is_filled}
 use Rattle.repo_node.specs.declared.setup.Setup.{Setup}
 use Rattle.repo_node.specs.declared.setup.Ended.{Ended}
+use Rattle.repo_node.specs.Owing.{rest_if}
 
 -- ---- a node
 
@@ -26,6 +32,7 @@ pub record NodeView (K : Type 0) : Type 0 where
   pub count : ℕ
   pub history : List Entry  -- its entries, the oldest first
   pub outcomes : List Ended  -- of its jobs that have ended, in the order of their ends
+  pub owed : List Owed  -- the lines that it owes its branch, in the order in which it pays them
 
 -- ---- the state that a history leaves
 
@@ -54,6 +61,33 @@ pub record IsState (s : SetUp) (rows : Rows) (branch : Files) (contents : Option
 abbrev pub HasFiles : Option StoredFiles → Files → Type 0
 HasFiles known branch = ForSome known (λ files. (path : List ℕ) → bytes_of files path ≡ text_of (lines_at branch path))
 
+-- ---- the lines that it owes
+
+-- the identifier of a repository of the run, as the node knows it
+abbrev pub id_known : {K : Type 0} → NodeView K → ℕ → List ℕ
+id_known n repo = unwrap_or (slice_get n.setup.repos repo) []
+
+-- what the key's location log lacks of the line that says whether the repository has the content, at the node's wall clock
+abbrev pub due_by : {K : Type 0} → NodeView K → List ℕ → ℕ → Bool → List (List ℕ)
+due_by n key repo there =
+    let has = lines_at n.branch (location_path key) in if_new has (status_line has (id_known n repo) there (n.time + n.setup.offset))
+
+-- whether new lines of the file of this path are just those that a line is due
+abbrev pub is_due : {K : Type 0} → NodeView K → List ℕ → List (List ℕ) → Owed → Bool
+is_due n path lines o = bytes_eq path (location_path o.key) && same_lines lines (due_by n o.key o.repo o.there)
+
+-- whether those of a file are those of the first of these owed lines
+abbrev pub are_due : {K : Type 0} → NodeView K → LogFile → List (List ℕ) → List Owed → Bool
+are_due n file lines [] = false
+are_due n file lines (o ∷ os) = is_due n (file_path file) lines o
+
+-- The lines that it owes after its next entry. Who writes what the first is due pays it; a job or a peer that fails to write a file
+-- leaves the first unpaid for good.
+abbrev pub owed_now : {K : Type 0} → NodeView K → EntryKind → List (List ℕ) → List Owed
+owed_now n (Log file) lines = rest_if (are_due n file lines n.owed) n.owed
+owed_now n (Fault call by) lines = owed_without call by n.owed
+owed_now n kind lines = n.owed
+
 -- ---- its next entry
 
 -- the node's next entry, where it takes no frame and sends none
@@ -67,4 +101,5 @@ with_entry n keeper branch kind lines = record n {
   branch = branch;
   count = n.count + 1;
   history = n.history ++ next_entry n kind lines ∷ [];
+  owed = owed_now n kind lines;
 }

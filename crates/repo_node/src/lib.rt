@@ -3,6 +3,7 @@
 
 mod compacting;
 mod entries;
+mod indexing;
 mod logs;
 mod merging;
 mod node;

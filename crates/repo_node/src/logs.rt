@@ -7,16 +7,17 @@ ghost use Rattle.run_data.specs.declared.entry.EntryKind.TheVariants as kinds;
 ghost use Rattle.union_merge.specs.Branch.{lines_at, merged_file};
 ghost use Rattle.union_merge.specs.LineSet.{IsLine, difference, union};
 ghost use Rattle.repo_node.specs.Logs.{with_lines, with_log};
-ghost use Rattle.repo_node.specs.Nodes.{with_entry};
+ghost use Rattle.repo_node.specs.Nodes.{are_due, with_entry};
 ghost use Rattle.repo_node.specs.Refusals.{RefusesFor, RefusesSo};
 
 use crate::node::Node;
 use crate::refused::NodeRefused;
 use annex_base::{Items, Line, NoMemory};
+use log_lines::readings_depend_on_the_set;
 use object_store::Keeper;
 use run_data::{By, EntryKind, LogFile};
 use std::alloc::Global;
-use union_merge::{Branch, LineSet, files_are_changed_alone};
+use union_merge::{Branch, LineSet, files_are_changed_alone, unions_have_the_lines_of_both};
 
 /// Those of the lines that a file of the branch lacks.
 fn new_lines(
@@ -83,7 +84,8 @@ impl<K: Keeper> Node<K> {
         self.past.alloc
     }
 
-    /// Adds these lines, which the file lacks, by one log entry, which stands also without a line.
+    /// Adds these lines, which the file lacks, by one log entry, which stands also without a line. Where they are what the first
+    /// owed line is due, they pay it.
     pub(crate) fn log(
         &mut self,
         file: LogFile,
@@ -101,12 +103,46 @@ impl<K: Keeper> Node<K> {
         ensures later { K.faults self.old.keeper ≤ K.faults self.new.keeper }
         ensures cause { IsErrOf result NodeRefused.StoreFault → Rose (K.faults self.old.keeper) (K.faults self.new.keeper) }
     {
-        // A law, for the proof: only the file of this path changes.
+        let paid = self.are_due(path, new.lines())?;
+        self.log_paid(file, path, new, by, paid)
+    }
+
+    /// The same, where it is known whether they are what the first owed line is due.
+    pub(crate) fn log_paid(
+        &mut self,
+        file: LogFile,
+        path: &[u8],
+        new: &LineSet,
+        by: By,
+        paid: bool,
+    ) -> Result<(), NodeRefused>
+        requires line { IsLine path.now }
+        requires here { path.now ≡ file_path file }
+        requires paid { paid ≡ are_due self.old file new.now self.old.owed }
+        ensures ok { OnOk result (self.new ≡ with_entry self.old self.new.keeper (merged_file self.old.branch (file_path file) new.now) (kinds.Log file) new.now) }
+        ensures some { OnOk result (new.now ≢ [] → self.new ≡ with_log self.old self.new.keeper file new.now) }
+        ensures err { IfErr result (λ e. RefusesFor by e calls.PutFile self.old self.new) }
+        ensures contents { K.contents self.new.keeper ≡ K.contents self.old.keeper }
+        ensures parts { K.parts self.new.keeper ≡ K.parts self.old.keeper }
+        ensures later { K.faults self.old.keeper ≤ K.faults self.new.keeper }
+        ensures cause { IsErrOf result NodeRefused.StoreFault → Rose (K.faults self.old.keeper) (K.faults self.new.keeper) }
+    {
+        // Laws, for the proof: only the file of this path changes, and what lines say depends on which they are.
         files_are_changed_alone();
+        unions_have_the_lines_of_both();
+        readings_depend_on_the_set();
         let alloc = self.allocator();
         let all = all_lines(alloc, self.branch(), path, new)?;
         let lines = listed(alloc, new.lines())?;
-        self.write(path, all, EntryKind::Log { file }, lines, by)
+        self.write(
+            path,
+            all,
+            EntryKind::Log { file },
+            lines,
+            new.lines(),
+            by,
+            paid,
+        )
     }
 
     /// Adds those of these lines that the file lacks, by one log entry; where it lacks none, nothing is done.

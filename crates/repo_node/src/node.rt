@@ -1,6 +1,9 @@
 //! A node, and what it shows of itself.
 ghost use Rattle.std.specs.Prelude.{◌≡◌, ◌≢◌, ◌≤◌, ◌<◌, ◌^◌, ◌*◌, ℕ, [], Some, max, length, replicate, slice_get, AllPairs, IfOk, OnOk, OnErr};
-ghost use Rattle.std.specs.Option.{ForSome, option_map};
+ghost use Rattle.std.specs.Option.{ForSome, option_copied, option_map};
+ghost use Rattle.trust_groups.specs.Settings.{settings};
+ghost use Rattle.trust_groups.specs.View.{settings_of};
+ghost use Rattle.union_merge.specs.Branch.{lines_at};
 ghost use Rattle.content_lock.specs.Stored.{Agrees};
 ghost use Rattle.link_ring.specs.Ends.{fresh};
 ghost use Rattle.object_store.specs.Calls.{one_more};
@@ -9,6 +12,7 @@ ghost use Rattle.repo_node.specs.Nodes.{Fits, HasFiles, IsState, state_of};
 ghost use Rattle.repo_node.specs.Refusals.{most_entries};
 ghost use Rattle.repo_node.specs.Stored.{HasNothing};
 
+use crate::indexing::make_index;
 use crate::past::Past;
 use crate::setup::{Ended, Setup};
 use annex_base::{Call, NoMemory};
@@ -18,6 +22,7 @@ use object_store::{FailingKeeper, Keeper};
 use run_data::Entry;
 use std::alloc::Global;
 use std::marker::Model;
+use trust_groups::{Settings, settings_are_those_of_the_lines_read};
 use union_merge::Branch;
 
 /// A repository of a run (own). It knows its own store, rows and branch, and of the others what reaches it over its ends. What
@@ -27,19 +32,25 @@ pub struct Node<K: Keeper> {
     pub(crate) table: LockTable,
     pub(crate) branch: Branch,
     pub(crate) past: Past,
+    /// The index of the branch's settings; none after a line couldn't be added to it for want of memory.
+    pub(crate) index: Option<Settings>,
+    /// The places in the history of the entries whose lines are owed, the first to be paid first.
+    pub(crate) debts: Vec<usize>,
     links: Links,
 }
 
 impl<K: Keeper> Model for Node<K> {
     ghost use Rattle.repo_node.specs.Nodes.{NodeView, HasFiles};
     ghost use Rattle.repo_node.specs.Idle.{IsKept};
+    ghost use Rattle.repo_node.specs.Indexed.{IsIndexed};
+    ghost use Rattle.repo_node.specs.Owing.{AreDebts, owed_at};
     ghost use Rattle.content_lock.specs.Stored.{Agrees};
 
     ghost Value = { NodeView K };
 
-    ghost view = { λ n. record { setup = n.past.setup; keeper = n.keeper; table = n.table; branch = n.branch; time = n.past.time; count = n.past.count; history = n.past.history.items; outcomes = n.past.outcomes.items } };
+    ghost view = { λ n. record { setup = n.past.setup; keeper = n.keeper; table = n.table; branch = n.branch; time = n.past.time; count = n.past.count; history = n.past.history.items; outcomes = n.past.outcomes.items; owed = owed_at n.past.setup.number n.past.history.items n.debts.items } };
 
-    ghost invariant = { λ n. IsKept n.past.setup n.past.history.items n.table n.branch (K.contents n.keeper) × HasFiles (K.files n.keeper) n.branch × Agrees (K.records n.keeper) n.table.holds };
+    ghost invariant = { λ n. IsKept n.past.setup n.past.history.items n.table n.branch (K.contents n.keeper) (owed_at n.past.setup.number n.past.history.items n.debts.items) × HasFiles (K.files n.keeper) n.branch × Agrees (K.records n.keeper) n.table.holds × IsIndexed n.index n.branch × AreDebts n.past.setup.number n.past.history.items n.debts.items };
 }
 
 impl<K: Keeper> Node<K> {
@@ -53,7 +64,7 @@ impl<K: Keeper> Node<K> {
         requires oldest { 1 ≤ setup.version }
         requires newest { setup.version ≤ 3 }
         requires links { links.ends.items ≡ replicate (length setup.repos * 8) fresh }
-        ensures { IfOk result (λ n. n ≡ record { setup = setup; keeper = keeper; table = record { holds = []; bars = []; fills = [] }; branch = []; time = 0; count = 0; history = []; outcomes = [] }) }
+        ensures { IfOk result (λ n. n ≡ record { setup = setup; keeper = keeper; table = record { holds = []; bars = []; fills = [] }; branch = []; time = 0; count = 0; history = []; outcomes = []; owed = [] }) }
     {
         let table = LockTable::new(alloc)?;
         Ok(Node {
@@ -61,6 +72,8 @@ impl<K: Keeper> Node<K> {
             table,
             branch: Branch::new(alloc),
             past: Past::new(alloc, setup),
+            index: Some(Settings::new(alloc)),
+            debts: Vec::new(alloc),
             links,
         })
     }
@@ -81,6 +94,7 @@ impl<K: Keeper> Node<K> {
         ensures state { (s : SetUp) → Fits self.now.setup s → IsState s self.now.table self.now.branch (K.contents self.now.keeper) (state_of s self.now.history) }
         ensures files { HasFiles (K.files self.now.keeper) self.now.branch }
         ensures records { Agrees (K.records self.now.keeper) self.now.table.holds }
+        ensures owed { (s : SetUp) → Fits self.now.setup s → (state_of s self.now.history).owed ≡ self.now.owed }
     {
         &self.past.history
     }
@@ -104,6 +118,22 @@ impl<K: Keeper> Node<K> {
         &self.branch
     }
 
+    /// What it knows from its branch, unless memory ran out for it; `make_index` reads it anew then.
+    pub(crate) fn settings(&self) -> Option<&Settings>
+        ensures { ForSome (option_copied result) (λ i. settings_of i ≡ settings (lines_at self.now.branch)) }
+    {
+        // A law, for the proof: an index that has read lines has their settings.
+        settings_are_those_of_the_lines_read();
+        self.index.as_ref()
+    }
+
+    /// Reads its settings anew where it has none at hand.
+    pub(crate) fn make_index(&mut self) -> Result<(), NoMemory>
+        ensures { self.new ≡ self.old }
+    {
+        make_index(self.past.alloc, &mut self.index, &self.branch)
+    }
+
     pub fn table(&self) -> &LockTable
         ensures { result.now ≡ self.now.table }
     {
@@ -119,6 +149,8 @@ impl<K: Keeper> Node<K> {
             table: _,
             branch: _,
             past: _,
+            index: _,
+            debts: _,
             links: _,
         } = self;
         keeper

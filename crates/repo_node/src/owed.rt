@@ -1,37 +1,113 @@
-//! The lines that a node owes its branch: whether a repository has a content.
-ghost use Rattle.std.specs.Prelude.{◌≡◌, ◌≤◌, ◌<◌, ◌+◌, ℕ, List, [], ◌∷◌, length, bytes_eq, IfOk, IfErr, IsErrOf, OnOk};
+//! The lines that a node owes its branch: whether it has a content.
+ghost use Rattle.std.specs.Prelude.{◌≡◌, ◌≤◌, ◌<◌, ◌+◌, ℕ, true, List, [], ◌∷◌, length, bytes_eq, IfOk, IfErr, IsErrOf, OnOk, option_map, option_to_list, slice_get};
 ghost use Rattle.std.specs.List.{list_any};
 ghost use Rattle.annex_base.specs.Causes.{Rose};
 ghost use Rattle.annex_base.specs.declared.kinds.Call.TheVariants as calls;
 ghost use Rattle.node_model.specs.Look.{Look, failing};
-ghost use Rattle.node_model.specs.Owed.{Owed, if_new, stamp_at, status, status_line};
-ghost use Rattle.node_model.specs.OwedStep.{pays_first};
+ghost use Rattle.node_model.specs.Owed.{Owed, if_new, owed_for, same_lines, stamp_at, status, status_line};
+ghost use Rattle.node_model.specs.OwedStep.{owed_step};
 ghost use Rattle.node_model.specs.SetUp.{SetUp};
 ghost use Rattle.union_merge.specs.Branch.{lines_at};
 ghost use Rattle.union_merge.specs.LineSet.{IsLine};
-ghost use Rattle.repo_node.specs.Debts.{AddsStep, WhereMade, failed_put, id_known, owed_of, with_status};
-ghost use Rattle.repo_node.specs.Nodes.{Fits, state_of};
+ghost use Rattle.hash_dirs.specs.LogPath.{location_path};
+ghost use Rattle.run_data.specs.Files.{file_path};
+ghost use Rattle.run_data.specs.declared.entry.Entry.{Entry};
+ghost use Rattle.run_data.specs.declared.entry.LogFile.{LogFile};
+ghost use Rattle.repo_node.specs.Debts.{AddsStep, IsDraftOf, IsFirstDraft, WhereMade, failed_put, owed_line_of, with_status};
+ghost use Rattle.repo_node.specs.Nodes.{Fits, are_due, due_by, id_known, is_due, state_of};
+ghost use Rattle.repo_node.specs.Owing.{AreDebts, IsFirstOf, is_owing, owed_at, owed_by, owed_of};
 ghost use Rattle.repo_node.specs.Refusals.{RefusesFor};
 
 use crate::logs::set_of_line;
 use crate::node::Node;
 use crate::refused::NodeRefused;
 use crate::stamped::line_at;
-use annex_base::{Line, NoMemory, RepoId, Stamp};
+use annex_base::{Line, NoMemory, RepoId, Stamp, Text};
 use annex_key::Key;
-use log_lines::{Entry, LogKind, Topic, Value};
+use hash_dirs::location_path;
+use log_lines::{Entry as LogEntry, LogKind, Topic, Value};
 use object_store::Keeper;
-use run_data::{By, LogFile};
+use run_data::{By, Entry, EntryKind, LogFile};
 use std::alloc::Global;
 use union_merge::{Branch, LineSet};
 
-/// A line that a node owes its branch: by what, and of whose copy of the key, which is there or isn't.
-#[derive(Debug, Drop)]
-pub(crate) struct Debt {
+/// A line that an entry of a node owes its branch: by what, and of the node's copy of the key, which is there or isn't.
+#[derive(Clone, Copy)]
+pub(crate) struct Debt<'a> {
     pub by: By,
-    pub repo: u32,
     pub there: bool,
-    pub key: Key,
+    pub key: &'a Key,
+}
+
+/// An entry of a key's location log before it is written: by what, and the file with its new lines.
+#[derive(Drop)]
+pub(crate) struct Draft {
+    pub by: By,
+    pub file: LogFile,
+    pub path: Text,
+    pub new: LineSet,
+}
+
+/// The line that is owed where a copy came or went.
+fn debt_for(by: By, there: bool, key: &Key) -> Option<Debt<'_>>
+    ensures { (r : ℕ) → option_to_list (option_map (owed_line_of r) result) ≡ owed_for r by there key.now }
+{
+    match by {
+        By::Script => None,
+        By::Job(_) | By::Peer { .. } => Some(Debt { by, there, key }),
+    }
+}
+
+/// The line that an entry owes.
+fn debt_of(entry: &Entry) -> Option<Debt<'_>>
+    ensures { (r : ℕ) → option_to_list (option_map (owed_line_of r) result) ≡ owed_by r entry.now.kind }
+{
+    match &entry.kind {
+        EntryKind::Gain { by, size: _, key } => debt_for(*by, true, key),
+        EntryKind::Gone { by, key } => debt_for(*by, false, key),
+        _ => None,
+    }
+}
+
+/// The line that the entry at this place owes.
+fn debt_at(history: &[Entry], place: usize) -> Option<Debt<'_>>
+    ensures { (r : ℕ) → option_to_list (option_map (owed_line_of r) result) ≡ owed_of r (slice_get history.now place) }
+{
+    match history.get(place) {
+        Some(entry) => debt_of(entry),
+        None => None,
+    }
+}
+
+/// The line that the entry at the first of these places owes.
+fn first_debt<'a>(debts: &[usize], history: &'a [Entry]) -> Option<Debt<'a>>
+    ensures { (r : ℕ) → AreDebts r history.now debts.now → IsFirstOf (option_map (owed_line_of r) result) (owed_at r history.now debts.now) }
+{
+    match debts.first() {
+        Some(place) => debt_at(history, *place),
+        None => None,
+    }
+}
+
+fn has_some(debts: &[usize]) -> bool
+    ensures { (r : ℕ) (history : List Entry) → AreDebts r history debts.now → result ≡ is_owing (owed_at r history debts.now) }
+{
+    match debts.first() {
+        Some(_) => true,
+        None => false,
+    }
+}
+
+fn same_path(path: &[u8], other: &[u8]) -> bool
+    ensures { result ≡ bytes_eq path.now other.now }
+{
+    path == other
+}
+
+fn same_lines(lines: &[Line], others: &[Line]) -> bool
+    ensures { result ≡ same_lines lines.now others.now }
+{
+    lines == others
 }
 
 fn status(there: bool) -> Value
@@ -52,7 +128,7 @@ fn status_line(
     ensures text { (time : ℕ) → clock ≡ stamp_at time → IfOk result (λ line. line ≡ status_line (lines_at branch.now path.now) id there time) }
     ensures line { IfOk result IsLine }
 {
-    let entry = Entry {
+    let entry = LogEntry {
         topic: Topic::Repo(id),
         stamp: None,
         value: status(there),
@@ -92,6 +168,94 @@ impl<K: Keeper> Node<K> {
         repos[repo as usize]
     }
 
+    /// Whether it owes its branch a line.
+    pub(crate) fn owes(&self) -> bool
+        ensures { result ≡ is_owing self.now.owed }
+    {
+        has_some(&self.debts)
+    }
+
+    /// The first line that it owes.
+    fn first_debt(&self) -> Option<Debt<'_>>
+        ensures { IsFirstOf (option_map (owed_line_of self.now.setup.number) result) self.now.owed }
+    {
+        first_debt(&self.debts, &self.past.history)
+    }
+
+    /// What the location log at this path lacks of the line that says whether a repository has the content.
+    fn due(&self, path: &[u8], repo: u32, there: bool) -> Result<LineSet, NoMemory>
+        requires { repo < length self.now.setup.repos }
+        ensures { (key : List ℕ) → path.now ≡ location_path key → IfOk result (λ s. s ≡ due_by self.now key repo there) }
+    {
+        let alloc = self.allocator();
+        let id = self.id_of(repo);
+        let clock = self.past.stamp();
+        let branch = self.branch();
+        let line = status_line(alloc, branch, path, id, there, clock)?;
+        if_new(alloc, branch, path, line.bytes())
+    }
+
+    /// Whether new lines of the file of this path are just what this line is due.
+    fn pays(&self, debt: Debt<'_>, path: &[u8], lines: &[Line]) -> Result<bool, NoMemory>
+        ensures { IfOk result (λ b. b ≡ is_due self.now path.now lines.now (owed_line_of self.now.setup.number debt.entry)) }
+    {
+        let here = location_path(self.allocator(), debt.key)?;
+        let same = same_path(path, here.bytes());
+        if !same {
+            return Ok(false);
+        }
+        let due = self.due(here.bytes(), self.past.number(), debt.there)?;
+        Ok(same_lines(lines, due.lines()))
+    }
+
+    /// Whether new lines of the file of this path are just what the first line that it owes is due.
+    pub(crate) fn are_due(&self, path: &[u8], lines: &[Line]) -> Result<bool, NoMemory>
+        ensures { (file : LogFile) → path.now ≡ file_path file → IfOk result (λ b. b ≡ are_due self.now file lines.now self.now.owed) }
+    {
+        match self.first_debt() {
+            None => Ok(false),
+            Some(debt) => self.pays(debt, path, lines),
+        }
+    }
+
+    /// The entry that says in the key's location log whether a repository has the content.
+    fn drafted(&self, key: &Key, repo: u32, there: bool, by: By) -> Result<Draft, NoMemory>
+        requires { repo < length self.now.setup.repos }
+        ensures { IfOk result (IsDraftOf self.now (record { by = by; repo = repo; there = there; key = key.now })) }
+    {
+        // For the proof: the text of a key is in the grammar, so its log has a path.
+        let _ = key.text();
+        let copy = key.clone()?;
+        let file = LogFile::Location(copy);
+        let path = file.path(self.allocator())?;
+        let new = self.due(path.bytes(), repo, there)?;
+        Ok(Draft {
+            by,
+            file,
+            path,
+            new,
+        })
+    }
+
+    /// The entry that pays this line.
+    fn draft_of(&self, debt: Debt<'_>) -> Result<Draft, NoMemory>
+        ensures { IfOk result (IsDraftOf self.now (owed_line_of self.now.setup.number debt.entry)) }
+    {
+        let number = self.past.number();
+        self.drafted(debt.key, number, debt.there, debt.by)
+    }
+
+    /// The entry that pays the first line that it owes.
+    fn first_draft(&self) -> Result<Draft, NoMemory>
+        requires { is_owing self.now.owed ≡ true }
+        ensures { IfOk result (IsFirstDraft self.now) }
+    {
+        match self.first_debt() {
+            Some(debt) => self.draft_of(debt),
+            None => unreachable!(),
+        }
+    }
+
     /// Says in the key's location log, by one entry, whether a repository has the content; where the log says so already, the entry
     /// has no line, and the file is written all the same (git-annex internals: location log; the entry is own).
     pub(crate) fn log_status(
@@ -109,26 +273,17 @@ impl<K: Keeper> Node<K> {
         ensures later { K.faults self.old.keeper ≤ K.faults self.new.keeper }
         ensures cause { IsErrOf result NodeRefused.StoreFault → Rose (K.faults self.old.keeper) (K.faults self.new.keeper) }
     {
-        // For the proof: the text of a key is in the grammar, so its log has a path.
-        let _ = key.text();
-        let alloc = self.allocator();
-        let id = self.id_of(repo);
-        let clock = self.past.stamp();
-        let copy = key.clone()?;
-        let file = LogFile::Location(copy);
-        let path = file.path(alloc)?;
-        let branch = self.branch();
-        let line = status_line(alloc, branch, path.bytes(), id, there, clock)?;
-        let new = if_new(alloc, branch, path.bytes(), line.bytes())?;
-        self.log(file, path.bytes(), &new, by)
+        let draft = self.drafted(key, repo, there, by)?;
+        self.log(draft.file, draft.path.bytes(), &draft.new, by)
     }
 
-    /// Pays a line that is owed, by the entry of that step.
-    pub(crate) fn pay(&mut self, debt: &Debt) -> Result<(), NodeRefused>
-        requires { debt.now.repo < length self.old.setup.repos }
-        ensures ok { OnOk result (self.new ≡ with_status self.old self.new.keeper debt.now.key debt.now.repo debt.now.there) }
-        ensures err { IfErr result (λ e. RefusesFor debt.now.by e calls.PutFile self.old self.new) }
-        ensures pays { (s : SetUp) (k : Look) (os : List Owed) → Fits self.old.setup s → k.time ≡ self.old.time → k.count ≡ self.old.count + 1 → failing k.fails (calls.PutFile ∷ []) ≡ failed_put result → WhereMade result (AddsStep (pays_first s (state_of s self.old.history) k (owed_of debt.now ∷ os)) self.old.setup.number k self.old.history self.new.history) }
+    /// Pays the first line that it owes, by the entry of that step.
+    pub(crate) fn pay(&mut self) -> Result<(), NodeRefused>
+        requires { is_owing self.old.owed ≡ true }
+        ensures ok { (o : Owed) (os : List Owed) → self.old.owed ≡ o ∷ os → OnOk result (self.new ≡ with_status self.old self.new.keeper o.key o.repo o.there) }
+        ensures paid { (o : Owed) (os : List Owed) → self.old.owed ≡ o ∷ os → OnOk result (self.new.owed ≡ os) }
+        ensures err { (o : Owed) (os : List Owed) → self.old.owed ≡ o ∷ os → IfErr result (λ e. RefusesFor o.by e calls.PutFile self.old self.new) }
+        ensures pays { (s : SetUp) (k : Look) → Fits self.old.setup s → k.time ≡ self.old.time → k.count ≡ self.old.count + 1 → failing k.fails (calls.PutFile ∷ []) ≡ failed_put result → WhereMade result (AddsStep (owed_step s (state_of s self.old.history) k) self.old.setup.number k self.old.history self.new.history) }
         ensures contents { K.contents self.new.keeper ≡ K.contents self.old.keeper }
         ensures parts { K.parts self.new.keeper ≡ K.parts self.old.keeper }
         ensures later { K.faults self.old.keeper ≤ K.faults self.new.keeper }
@@ -136,6 +291,7 @@ impl<K: Keeper> Node<K> {
     {
         // For the proof: what the history leaves is what the node has.
         let _ = self.history();
-        self.log_status(&debt.key, debt.repo, debt.there, debt.by)
+        let draft = self.first_draft()?;
+        self.log_paid(draft.file, draft.path.bytes(), &draft.new, draft.by, true)
     }
 }

@@ -1,6 +1,5 @@
-//! What a node is given before its first entry, and how its jobs end.
+//! What a node is given before its first entry, and which of its entries end its jobs.
 use annex_base::{Items, RepoId};
-use run_data::Outcome;
 
 /// A repository as it is set up, and the identifiers of all repositories of its run in order of number (own).
 #[derive(Debug, Drop)]
@@ -17,12 +16,11 @@ pub struct Setup {
     pub repos: Items<RepoId>,
 }
 
-/// A job that has ended, and how (own).
+/// A job that has ended; the entry that ended it says how (own).
 #[derive(Debug, Drop)]
 pub struct Ended {
     /// The job's number.
     pub number: u32,
     /// The place of the entry that ended it in the history of its repository, from 0.
     pub place: usize,
-    pub outcome: Outcome,
 }

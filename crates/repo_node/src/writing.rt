@@ -7,18 +7,26 @@ ghost use Rattle.run_data.specs.declared.entry.By.{By};
 ghost use Rattle.union_merge.specs.Branch.{file_at, lines_at, with_back, with_file};
 ghost use Rattle.union_merge.specs.LineSet.{IsLine, text_of};
 ghost use Rattle.node_model.specs.Files.{lines_after};
-ghost use Rattle.repo_node.specs.Idle.{IsOfFiles};
-ghost use Rattle.repo_node.specs.Nodes.{with_entry};
+ghost use Rattle.std.specs.Option.{ForSome};
+ghost use Rattle.trust_groups.specs.Adding.{lines_and};
+ghost use Rattle.trust_groups.specs.Reads.{Reads};
+ghost use Rattle.trust_groups.specs.Settings.{Lines};
+ghost use Rattle.repo_node.specs.Idle.{IsOfFiles, first_goes};
+ghost use Rattle.repo_node.specs.Indexed.{ReadsAlike};
+ghost use Rattle.repo_node.specs.Nodes.{owed_now, with_entry};
+ghost use Rattle.repo_node.specs.Owing.{rest_if};
 ghost use Rattle.repo_node.specs.Pasts.{AddsTo, FailsFor, IsReady, SamePast};
 ghost use Rattle.repo_node.specs.Refusals.{RefusesFor};
 ghost use Rattle.repo_node.specs.Stored.{LeavesRest};
 
+use crate::indexing::grown;
 use crate::node::Node;
 use crate::past::Past;
 use crate::refused::NodeRefused;
 use annex_base::{Call, Items, Line, NoMemory};
 use object_store::Keeper;
 use run_data::{By, EntryKind};
+use trust_groups::Settings;
 use union_merge::{Branch, LineSet, files_are_changed_alone};
 
 /// What a file of a branch has, as a copy.
@@ -139,18 +147,116 @@ fn write_file<K: Keeper>(
     }
 }
 
+/// The same, with the index of settings beside the branch: it gets the new lines.
+fn write_indexed<K: Keeper>(
+    keeper: &mut K,
+    branch: &mut Branch,
+    past: &mut Past,
+    index: &mut Option<Settings>,
+    path: &[u8],
+    all: LineSet,
+    kind: EntryKind,
+    lines: Items<Line>,
+    new: &[Line],
+    by: By,
+) -> Result<(), NodeRefused>
+    requires { IsLine path.now }
+    ensures index { OnOk result ((was : Lines) → ForSome index.old (λ i. Reads i was) → ForSome index.new (λ i. Reads i (lines_and was path.now new.now))) }
+    ensures err_index { OnErr result (index.new ≡ index.old) }
+    ensures branch { OnOk result (branch.new ≡ with_file branch.old path.now all) }
+    ensures past { OnOk result (AddsTo kind lines past.old past.new) }
+    ensures files { OnOk result (K.files keeper.new ≡ option_map (λ f. with_at f path.now (Some (text_of all))) (K.files keeper.old)) }
+    ensures err { IfErr result (λ e. FailsFor by e calls.PutFile past.old past.new) }
+    ensures err_branch { OnErr result (branch.new ≡ branch.old) }
+    ensures err_files { OnErr result (K.files keeper.new ≡ K.files keeper.old) }
+    ensures rest { LeavesRest (K.contents keeper.old) (K.contents keeper.new) (K.parts keeper.old) (K.parts keeper.new) (K.records keeper.old) (K.records keeper.new) }
+    ensures later { K.faults keeper.old ≤ K.faults keeper.new }
+    ensures cause { IsErrOf result NodeRefused.StoreFault → Rose (K.faults keeper.old) (K.faults keeper.new) }
+{
+    match write_file(keeper, branch, past, path, all, kind, lines, by) {
+        Ok(()) => {
+            *index = grown(index.take(), path, new);
+            Ok(())
+        }
+        Err(refused) => Err(refused),
+    }
+}
+
+/// Whether the first line is no longer owed, after a write that answered so.
+fn first_goes(paid: bool, by: By, answer: &Result<(), NodeRefused>) -> bool
+    ensures { result ≡ first_goes paid by answer.now }
+{
+    match answer {
+        Ok(()) => paid,
+        Err(NodeRefused::StoreFault) => match by {
+            By::Script => false,
+            By::Job(_) | By::Peer { .. } => true,
+        },
+        Err(NodeRefused::Full | NodeRefused::BadBundle { .. } | NodeRefused::NoMemory) => false,
+    }
+}
+
+/// Takes the first place away, if so.
+fn drop_first(debts: &mut Vec<usize>, goes: bool)
+    ensures { debts.new.items ≡ rest_if goes debts.old.items }
+{
+    if goes && !debts.is_empty() {
+        debts.remove(0);
+    }
+}
+
+/// The same, with the lines that are owed: the first goes where it is paid, and where a job or a peer fails to write a file.
+fn write_beside<K: Keeper>(
+    keeper: &mut K,
+    branch: &mut Branch,
+    past: &mut Past,
+    index: &mut Option<Settings>,
+    debts: &mut Vec<usize>,
+    path: &[u8],
+    all: LineSet,
+    kind: EntryKind,
+    lines: Items<Line>,
+    new: &[Line],
+    by: By,
+    paid: bool,
+) -> Result<(), NodeRefused>
+    requires { IsLine path.now }
+    ensures debts { debts.new.items ≡ rest_if (first_goes paid by result) debts.old.items }
+    ensures index { OnOk result ((was : Lines) → ForSome index.old (λ i. Reads i was) → ForSome index.new (λ i. Reads i (lines_and was path.now new.now))) }
+    ensures err_index { OnErr result (index.new ≡ index.old) }
+    ensures branch { OnOk result (branch.new ≡ with_file branch.old path.now all) }
+    ensures past { OnOk result (AddsTo kind lines past.old past.new) }
+    ensures files { OnOk result (K.files keeper.new ≡ option_map (λ f. with_at f path.now (Some (text_of all))) (K.files keeper.old)) }
+    ensures err { IfErr result (λ e. FailsFor by e calls.PutFile past.old past.new) }
+    ensures err_branch { OnErr result (branch.new ≡ branch.old) }
+    ensures err_files { OnErr result (K.files keeper.new ≡ K.files keeper.old) }
+    ensures rest { LeavesRest (K.contents keeper.old) (K.contents keeper.new) (K.parts keeper.old) (K.parts keeper.new) (K.records keeper.old) (K.records keeper.new) }
+    ensures later { K.faults keeper.old ≤ K.faults keeper.new }
+    ensures cause { IsErrOf result NodeRefused.StoreFault → Rose (K.faults keeper.old) (K.faults keeper.new) }
+{
+    let answer = write_indexed(keeper, branch, past, index, path, all, kind, lines, new, by);
+    let goes = first_goes(paid, by, &answer);
+    drop_first(debts, goes);
+    answer
+}
+
 impl<K: Keeper> Node<K> {
-    /// Gives a file of the branch these lines, by an entry of this kind with those that are new.
+    /// Gives a file of the branch these lines, by an entry of this kind with those that are new; they are what the first owed line
+    /// is due, or aren't.
     pub(crate) fn write(
         &mut self,
         path: &[u8],
         all: LineSet,
         kind: EntryKind,
         lines: Items<Line>,
+        new: &[Line],
         by: By,
+        paid: bool,
     ) -> Result<(), NodeRefused>
         requires line { IsLine path.now }
         requires kind { IsOfFiles kind }
+        requires owed { owed_now self.old kind lines ≡ rest_if paid self.old.owed }
+        requires reads { ReadsAlike (lines_and (lines_at self.old.branch) path.now new.now) (lines_at (with_file self.old.branch path.now all)) }
         requires lines { (p : List ℕ) → lines_at (with_file self.old.branch path.now all) p ≡ lines_after p (lines_at self.old.branch p) kind lines }
         ensures ok { OnOk result (self.new ≡ with_entry self.old self.new.keeper (with_file self.old.branch path.now all) kind lines) }
         ensures err { IfErr result (λ e. RefusesFor by e calls.PutFile self.old self.new) }
@@ -161,15 +267,19 @@ impl<K: Keeper> Node<K> {
     {
         // A law, for the proof: only the file of this path changes.
         files_are_changed_alone();
-        write_file(
+        write_beside(
             &mut self.keeper,
             &mut self.branch,
             &mut self.past,
+            &mut self.index,
+            &mut self.debts,
             path,
             all,
             kind,
             lines,
+            new,
             by,
+            paid,
         )
     }
 }

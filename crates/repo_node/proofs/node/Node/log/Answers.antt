@@ -1,28 +1,8 @@
 -- What the proof of `node::Node::log` needs beside the tactics.
-use Rattle.std.proofs.Common.{ap, ◌∙◌}
-use Rattle.union_merge.specs.Branch.{Files, lines_at}
-use Rattle.union_merge.specs.LineSet.{union}
-use Rattle.repo_node.proofs.LogLemmas.{logged_listed, ok_entry, ok_some}
+use Rattle.std.proofs.Common.{ℕ, List, ap, ◌∙◌}
+use Rattle.repo_node.specs.Nodes.{are_due}
 use Rattle.repo_node.proofs.node.Node.log.Goals as goal
 
-pub write-requires-clause-lines : goal.write-requires-clause-lines
-write-requires-clause-lines g c =
-    let law = c.files_are_changed_alone.ensures in
-    let b = c.args.self.now.branch in
-    let path = c.args.path.now in
-    let all = c.in_ok-all.all in
-    logged_listed b path c.args.file c.args.new.now c.in_ok-lines.lines all (c.in_ok-lines.ensures ∙ c.lines.ensures.value) c.requires.here
-    (law.there b path all) (λ p differ. law.other b path p all differ)
-    (c.in_ok-all.ensures ∙ ap (λ (x : Files). union (lines_at x path) c.args.new.now) c.branch-self.ensures)
-
-pub returns-clause-ok : goal.returns-clause-ok
-returns-clause-ok g c =
-    let path = c.args.path.now in
-    ok_entry c.write.result c.args.self.now c.write.new.self c.args.file path c.args.new.now c.in_ok-lines.lines c.in_ok-all.all (c.in_ok-lines.ensures ∙ c.lines.ensures.value) c.requires.here
-    (c.in_ok-all.ensures ∙ ap (λ (x : Files). union (lines_at x path) c.args.new.now) c.branch-self.ensures) c.write.ensures.ok
-
-pub returns-clause-some : goal.returns-clause-some
-returns-clause-some g c =
-    let path = c.args.path.now in
-    ok_some c.write.result c.args.self.now c.write.new.self c.args.file path c.args.new.now c.in_ok-lines.lines c.in_ok-all.all (c.in_ok-lines.ensures ∙ c.lines.ensures.value) c.requires.here
-    (c.in_ok-all.ensures ∙ ap (λ (x : Files). union (lines_at x path) c.args.new.now) c.branch-self.ensures) c.write.ensures.ok
+pub log_paid-requires-clause-paid : goal.log_paid-requires-clause-paid
+log_paid-requires-clause-paid g c =
+    c.in_ok-paid.ensures c.args.file c.requires.here ∙ ap (λ (ls : List (List ℕ)). are_due c.args.self.now c.args.file ls c.args.self.now.owed) c.lines.ensures.value

@@ -1,9 +1,26 @@
 -- What the proof of `node::Node::pay` needs beside the tactics.
-use Rattle.repo_node.specs.Debts.{owed_of}
-use Rattle.repo_node.proofs.DebtLemmas.{step_made}
+use Rattle.repo_node.proofs.DebtLemmas.{err_paid, ok_paid, pays_due, rest_paid, step_paid}
 use Rattle.repo_node.proofs.node.Node.pay.Goals as goal
 
+pub log_paid-requires-clause-paid : goal.log_paid-requires-clause-paid
+log_paid-requires-clause-paid g c =
+    let d = c.in_ok-draft.draft in
+    let f = c.in_ok-draft.ensures in
+    pays_due c.args.self.now d.file d.new f.owed f.draft.file f.draft.new f.first
+
+pub returns-clause-ok : goal.returns-clause-ok
+returns-clause-ok g c o os is =
+    ok_paid c.log_paid.result c.args.self.now c.log_paid.new.self c.in_ok-draft.draft o os c.in_ok-draft.ensures is c.log_paid.ensures.ok
+
+pub returns-clause-paid : goal.returns-clause-paid
+returns-clause-paid g c o os is =
+    rest_paid c.log_paid.result c.args.self.now c.log_paid.new.self c.in_ok-draft.draft o os c.in_ok-draft.ensures is c.log_paid.ensures.ok
+
+pub returns-clause-err : goal.returns-clause-err
+returns-clause-err g c o os is =
+    err_paid c.log_paid.result c.args.self.now c.log_paid.new.self c.in_ok-draft.draft o os c.in_ok-draft.ensures is c.log_paid.ensures.err
+
 pub returns-clause-pays : goal.returns-clause-pays
-returns-clause-pays g c s k os fits time count fails =
-    step_made c.log_status.result c.args.self.now c.log_status.new.self s k (g.K.Keeper.contents c.args.self.now.keeper) (owed_of c.args.debt.now) os
-    fits (c.history.ensures.state s fits) time count fails c.log_status.ensures.ok c.log_status.ensures.err
+returns-clause-pays g c s k fits time count fails =
+    step_paid c.log_paid.result c.args.self.now c.log_paid.new.self c.in_ok-draft.draft s k (g.K.Keeper.contents c.args.self.now.keeper) c.in_ok-draft.ensures
+    (c.history.ensures.owed s fits) fits (c.history.ensures.state s fits) time count fails c.log_paid.ensures.ok c.log_paid.ensures.err
