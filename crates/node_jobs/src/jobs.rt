@@ -75,10 +75,10 @@ impl Jobs {
     }
 
     /// How many repositories there are.
-    pub fn repositories(&self) -> usize
+    pub fn repositories(&self) -> u32
         ensures { result ≡ length self.now.place.ids }
     {
-        self.place.ids().len()
+        self.place.count()
     }
 
     /// How many jobs were begun.

@@ -2,3 +2,5 @@
 pub mod Sounding
 pub mod Going
 pub mod Served
+pub mod Posting
+pub mod Acted
