@@ -4,3 +4,4 @@ pub mod Going
 pub mod Served
 pub mod Posting
 pub mod Acted
+pub mod Staying
