@@ -74,6 +74,13 @@ impl Jobs {
         self.place.number()
     }
 
+    /// How many repositories there are.
+    pub fn repositories(&self) -> u32
+        ensures { result ≡ length self.now.place.ids }
+    {
+        self.place.count()
+    }
+
     /// How many jobs were begun.
     pub fn begun(&self) -> u32
         ensures { result ≡ self.now.begun }
