@@ -1,4 +1,5 @@
 -- The lemmas of this crate.
 pub mod Sounding
+pub mod Saying
 pub mod Going
 pub mod Served

@@ -1,12 +1,13 @@
 -- What the parts have of their table and of their ends, after these have changed.
 use Rattle.std.proofs.Common.{◌≡◌, ◌≢◌, ℕ, ◌<◌, ◌*◌, Bool, true, false, List, [], ◌∷◌, Option, Some, None, length, refl, sym, ap, subst, ◌∙◌, arith}
-use Rattle.std.specs.Prelude.{is_some, nat_lt, not, ◌==◌, ◌||◌, All}
+use Rattle.std.specs.Prelude.{is_some, nat_lt, not, ◌==◌, if◌then◌else◌, slice_get}
 use Rattle.std.proofs.lemmas.Bool.{true≢false}
 use Rattle.std.proofs.lemmas.Bool.Decides.{nat_tests}
 use Rattle.annex_base.specs.Lists.{Each}
 use Rattle.annex_base.proofs.Lists.{Each-weaker}
 use Rattle.run_data.specs.declared.entry.By.TheVariants.{Job as by_job}
 use Rattle.link_ring.specs.Ends.{EndView}
+use Rattle.link_ring.specs.Places.{end_place}
 use Rattle.content_lock.specs.Rows.{Rows, bar_at}
 use Rattle.content_lock.specs.Tokens.{Owns, ShareView}
 use Rattle.p2p_server.specs.declared.session.Session.{Session}
@@ -75,7 +76,7 @@ low_slot links x is = go (nat_lt x.slot 4) refl is
   where
     go : (b : Bool) → nat_lt x.slot 4 ≡ b → is_some (link_at links x) ≡ true → x.slot < 4
     go true low at = grind (arith, nat_tests)
-    go false high at = absurd (true≢false (sym (rw high at at)))
+    go false high at = absurd (true≢false (sym at ∙ ap (λ (b : Bool). is_some (if b then slice_get links (end_place x.peer x.slot x.client) else None)) high))
 
 -- each end that was there is there, where those of the other side are
 pub carried_there : (a b : ℕ) (was now other : List EndView) → AreCarried a b was now other

@@ -85,6 +85,11 @@ pub record Leaves (number : ℕ) (was now : PartsView) (d : Done) : Type 0 where
   pub numbers : All (λ h. h.number < number + 1) now.table.holds
   pub ends : AreAfter was.links now.links d.taken d.sent
 
+-- the ends are those after a step, if there is one
+abbrev pub EndsAfter : List EndView → List EndView → Option Done → Type 0
+EndsAfter was now None = now ≡ was
+EndsAfter was now (Some d) = AreAfter was now d.taken d.sent
+
 abbrev pub LeavesSo : ℕ → PartsView → PartsView → Option Done → Type 0
 LeavesSo number was now None = now ≡ was
 LeavesSo number was now (Some d) = Leaves number was now d

@@ -19,7 +19,7 @@ ghost use Rattle.node_parts.specs.Steps.{LeavesSo, Serves, failed_by};
 
 use crate::done::Done;
 use crate::moment::Moment;
-use crate::serving::{listing, serve};
+use crate::serving::{listing, serve_if};
 use annex_base::{Items, NoMemory, RepoId};
 use content_lock::LockTable;
 use link_ring::Links;
@@ -184,10 +184,7 @@ impl Parts {
             shows,
             number,
         )?;
-        match served {
-            None => Ok(None),
-            Some(served) => Ok(Some(serve(&mut self.ends, stamp, served, room))),
-        }
+        Ok(serve_if(&mut self.ends, stamp, served, room))
     }
 
     /// Carries the frames of all connections with another repository to the ends that take them.
