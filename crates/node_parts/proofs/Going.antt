@@ -1,6 +1,6 @@
 -- The parts are those of a state: the first, and after a job has begun, or frames were carried or dropped.
-use Rattle.std.proofs.Common.{◌≡◌, ◌≢◌, ℕ, ◌<◌, ◌*◌, ◌+◌, Bool, true, false, List, [], ◌∷◌, Option, Some, None, length, map, refl, sym, ap, subst, ◌∙◌, arith}
-use Rattle.std.specs.Prelude.{All, fold, find, replicate, ◌==◌, ◌&&◌, ◌||◌}
+use Rattle.std.proofs.Common.{◌≡◌, ◌≢◌, ℕ, ◌<◌, ◌*◌, ◌+◌, Bool, true, false, List, [], ◌∷◌, Option, Some, None, Result, Ok, Err, length, map, refl, sym, ap, subst, ◌∙◌, arith}
+use Rattle.std.specs.Prelude.{All, OnOk, fold, find, replicate, ◌==◌, ◌&&◌, ◌||◌}
 use Rattle.std.proofs.lemmas.List.{length-replicate}
 use Rattle.std.proofs.lemmas.List.Elements.{All-nil}
 use Rattle.annex_base.specs.Lists.{Each, Member}
@@ -28,8 +28,9 @@ use Rattle.node_model.specs.State.{State}
 use Rattle.node_ends.specs.Ends.{AreEnds, end_at}
 use Rattle.node_ends.specs.Going.{AreAfter}
 use Rattle.node_sessions.specs.Sessions.{AreSessions, HaveEnds, IsSetUp, OwnAll, fills_in}
+use Rattle.node_jobs.specs.Acting.{with_job}
 use Rattle.node_jobs.specs.Places.{IsPlace, PlaceView}
-use Rattle.node_jobs.specs.Running.{AreWorks, DropJob, Follows, Jobs}
+use Rattle.node_jobs.specs.Running.{AreWorks, DropJob, Follows, Jobs, OwnAll as JobsOwn}
 use Rattle.node_parts.specs.Parts.{AreParts, PartsView}
 use Rattle.node_parts.specs.Sound.{AreSound}
 
@@ -155,3 +156,18 @@ module _ (s : SetUp) (st : State) (e : Entry) (n : ℕ) (what : Job) (is : e.kin
     works = works;
     logs = refl;
   }
+
+-- what a begin says of the works
+abbrev pub WorksBegun : Jobs → Jobs → Job → Type 0
+WorksBegun jobs jobs' what = (rows : Rows) (s : SetUp) (st : State) (e : Entry) (st' : State) → JobsOwn jobs rows → AreWorks s st jobs → e.kind ≡ Begin (jobs.begun + 1) what → Follows s st e st' → AreWorks s st' jobs'
+
+-- and of the parts
+abbrev pub PartsBegun : PartsView → PartsView → Job → Type 0
+PartsBegun was now what = (s : SetUp) (st : State) (e : Entry) → AreParts s st was → e.kind ≡ Begin (was.jobs.begun + 1) what → e.taken ≡ None → e.sent ≡ [] → AreParts s (state_after s st e) now
+
+pub begun_parts : {T E : Type 0} (r : Result T E) → EndsGo → ((links : List EndView) → AreAfter links links None []) → SessionsStay → (was : PartsView) (jobs : Jobs) (what : Job) → OnOk r (jobs ≡ with_job was.jobs what)
+    → OnOk r (WorksBegun was.jobs jobs what) → AreSound was → OnOk r (PartsBegun was (record { table = was.table; links = was.links; sessions = was.sessions; jobs = jobs }) what)
+begun_parts (Ok x) go still stay was jobs what ok works sound = λ s st e are kind taken sent.
+    begin_parts s st e (was.jobs.begun + 1) what kind go still stay taken sent was jobs are (ap (λ (j : Jobs). j.place) ok)
+    (works was.table s st e (state_after s st e) sound.acting are.works kind (begin_follows s st e (was.jobs.begun + 1) what kind are.logs))
+begun_parts (Err e) go still stay was jobs what ok works sound = tt

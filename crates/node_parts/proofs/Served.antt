@@ -76,14 +76,14 @@ table_fills law s st p key sound are =
     let none : list_any (λ (w : Work). w.fills && bytes_eq w.what.key key) st.works ≡ false = ap (list_any (λ (w : Work). w.fills && bytes_eq w.what.key key)) are.works.works ∙ no_work_fills key p.jobs.running in
     sound.filled.filled key ∙ (ap (λ (b : Bool). fills_in p.sessions key || b) (sym none) ∙ sym (law s st p.sessions key are.sessions are.closed))
 
-sees_of : FillsLaw → (p : PartsView) (c : Contents) (q : StoredParts) (clock : ClockSet) (time number : ℕ) (o : Option Served) (s : SetUp) (st : State) (k : Look)
-    → AreSound p → SeesParts p c clock time number s st k → SeesPartBy (Some q) p.sessions p.links o k.part k.right → FailsBy o k.fails
-    → Sees p.links p.table (Some c) (Some q) (runs_on clock time) number p.sessions o s st k
-sees_of law p c q clock time number o s st k sound sees part fails = record {
+sees_of : FillsLaw → (p : PartsView) (known : Option Contents) (parts : Option StoredParts) (c : Contents) (clock : ClockSet) (time number : ℕ) (o : Option Served) (s : SetUp) (st : State) (k : Look)
+    → AreSound p → known ≡ Some c → SeesParts p c clock time number s st k → SeesPartBy parts p.sessions p.links o k.part k.right → FailsBy o k.fails
+    → Sees p.links p.table known parts (runs_on clock time) number p.sessions o s st k
+sees_of law p known parts c clock time number o s st k sound told sees part fails = record {
   ends = sees.parts.ends;
   look = sees.ends;
   sessions = sees.parts.sessions;
-  keeps = record { contents = c; told = refl; present = sees.stored.present; content = sees.stored.content; bar = sees.parts.bars; holds = sees.parts.holds };
+  keeps = record { contents = c; told = told; present = sees.stored.present; content = sees.stored.content; bar = sees.parts.bars; holds = sees.parts.holds };
   filled = λ key. sym (table_fills law s st p key sound sees.parts);
   time = ap (λ (f : ℕ → ℕ). f k.time) sees.ticks ∙ ap (runs_on clock) sees.time;
   made = sym sees.number;
@@ -142,8 +142,8 @@ module _ (was now : PartsView) (v : Served) (d : Done) (contents : Option Conten
       }
 
   pub stored_served : ForSome contents (λ c. HasContents c (state_after s st (entry_of s.number k (made_of d))))
-  stored_served =
-      subst (λ (o : Option Contents). ForSome o (λ c. HasContents c (state_after s st (entry_of s.number k (made_of d))))) (sym steps.keeps.told)
+  stored_served = λ c is.
+      subst (λ (x : Contents). HasContents x (state_after s st (entry_of s.number k (made_of d)))) (same_Some steps.keeps.contents c (sym steps.keeps.told ∙ is))
       (record {
         present = λ key. steps.keeps.present key ∙ ap (present_after key (st.present key)) (sym kind_is);
         content = λ key. steps.keeps.content key ∙ ap (content_after key (st.content key)) (sym kind_is);
@@ -162,7 +162,7 @@ then_none : (was now : PartsView) (contents : Option Contents) → now ≡ was �
 then_none was now contents same s st k are steps = record {
   made = steps.made;
   parts = subst (AreParts s st) (sym same) are;
-  stored = subst (λ (o : Option Contents). ForSome o (λ c. HasContents c st)) (sym steps.keeps.told) (record { present = steps.keeps.present; content = steps.keeps.content });
+  stored = λ c is. subst (λ (x : Contents). HasContents x st) (same_Some steps.keeps.contents c (sym steps.keeps.told ∙ is)) (record { present = steps.keeps.present; content = steps.keeps.content });
 }
 
 then_some : EndsGo → ClosedLaw → JobsStay → OwnEntries → (was now : PartsView) (contents : Option Contents) (v : Served) (d : Done)
@@ -182,7 +182,7 @@ then_of go shuts stay own was now contents None None sound jobs serves same afte
 then_of go shuts stay own was now contents None (Some d) sound jobs serves same after ends idle = absurd (some_none (made_of d) same)
 then_of go shuts stay own was now contents (Some v) None sound jobs serves same after ends idle = absurd (some_none (made_by was.links v) (sym same))
 then_of go shuts stay own was now contents (Some v) (Some d) sound jobs serves same after ends idle =
-    then_some go shuts stay own was now contents v d sound jobs serves (same_Some (made_of d) (made_by was.links v) same) after ends
+    then_some go shuts stay own was now contents v d sound jobs (serves v refl) (same_Some (made_of d) (made_by was.links v) same) after ends
 
 -- the look finds of the call that fails what the entry of the sessions tells
 abbrev pub FailsSo : Option Served → Option Done → Type 0
@@ -192,9 +192,10 @@ kind_of : (links : List EndView) (v : Served) (d : Done) → option_map made_of 
 kind_of links v d same = ap (λ (m : Made). m.kind) (same_Some (made_of d) (made_by links v) same)
 
 pub fails_of : (links : List EndView) (o : Option Served) (d : Option Done) → option_map made_of d ≡ option_map (made_by links) o → FailsSo o d
-fails_of links None d same k f = tt
+fails_of links None d same k f = λ v is. absurd (some_none v (sym is))
 fails_of links (Some v) None same k f = absurd (some_none (made_by links v) (sym same))
-fails_of links (Some v) (Some d) same k f = f ∙ (same_failure d.kind ∙ ap failed_here (kind_of links v d same))
+fails_of links (Some v) (Some d) same k f = λ w is.
+    f d refl ∙ (same_failure d.kind ∙ (ap failed_here (kind_of links v d same) ∙ ap (λ (x : Served). failed_here x.kind) (same_Some v w is)))
 
 failed_same : (links : List EndView) (o : Option Served) (d : Option Done) → option_map made_of d ≡ option_map (made_by links) o → failed_by d ≡ failed_by_served o
 failed_same links None None same = refl
@@ -210,17 +211,16 @@ pub serves : FillsLaw → LooksSee → (was now : PartsView) (known contents : O
     → ((s : SetUp) (st : State) (k : Look) → Sees was.links was.table known parts (runs_on clock time) number was.sessions o s st k → StepsSo was.links o now.sessions now.table contents s st k)
     → Then was now contents o d → FailsSo o d
     → ForSome known (λ c. ForSome parts (λ q. FedAll q was.sessions → Serves was now c contents clock time number d))
-serves fills looks was now None contents parts clock time number o d sound step then_d fails = tt
-serves fills looks was now (Some c) contents None clock time number o d sound step then_d fails = tt
-serves fills looks was now (Some c) contents (Some q) clock time number o d sound step then_d fails = λ fed.
+serves fills looks was now known contents parts clock time number o d sound step then_d fails = λ c told q told_parts fed.
     let has = looks q was.sessions was.links o fed in
     record {
       part = has.part;
       right = has.right;
       steps = λ s st k sees fail is_part is_right.
-          let part : SeesPartBy (Some q) was.sessions was.links o k.part k.right =
-              subst (λ (n : ℕ). SeesPartBy (Some q) was.sessions was.links o n k.right) (sym is_part) (subst (λ (b : Bool). SeesPartBy (Some q) was.sessions was.links o has.part b) (sym is_right) has.sees) in
-          then_d s st k sees.parts (step s st k (sees_of fills was c q clock time number o s st k sound sees part (fails k fail)));
+          let part : SeesPartBy parts was.sessions was.links o k.part k.right =
+              subst (λ (x : Option StoredParts). SeesPartBy x was.sessions was.links o k.part k.right) (sym told_parts)
+              (subst (λ (n : ℕ). SeesPartBy (Some q) was.sessions was.links o n k.right) (sym is_part) (subst (λ (b : Bool). SeesPartBy (Some q) was.sessions was.links o has.part b) (sym is_right) has.sees)) in
+          then_d s st k sees.parts (step s st k (sees_of fills was known parts c clock time number o s st k sound told sees part (fails k fail)));
     }
 
 -- ---- what is left

@@ -1,7 +1,9 @@
 //! The step of a session: its frames are taken and sent.
 ghost use Rattle.std.specs.Prelude.{◌≡◌, ◌≤◌, ◌<◌, ◌++◌, ◌∷◌, ℕ, List, [], true, false, None, IfOk, if◌then◌else◌, is_some, length, vec_capacity, vec_len};
+ghost use Rattle.std.specs.declared.option.Option.{Option};
 ghost use Rattle.std.specs.Option.{ForSome, option_map};
 ghost use Rattle.run_data.specs.declared.entry.FrameText.TheVariants as texts;
+ghost use Rattle.run_data.specs.declared.entry.FrameView.{FrameView};
 ghost use Rattle.link_ring.specs.Ends.{EndView};
 ghost use Rattle.node_model.specs.Ends.{end_took, frames};
 ghost use Rattle.p2p_server.specs.Answers.{closes};
