@@ -174,7 +174,7 @@ then_some go shuts stay own was now contents v d sound jobs serves same after en
   stored = stored_served was now v d contents s st k sound are jobs serves same after ends steps;
 }
 
-pub then_of : EndsGo → ClosedLaw → JobsStay → OwnEntries → (was now : PartsView) (contents : Option Contents) (o : Option Served) (d : Option Done)
+then_of : EndsGo → ClosedLaw → JobsStay → OwnEntries → (was now : PartsView) (contents : Option Contents) (o : Option Served) (d : Option Done)
     → AreSound was → now.jobs ≡ was.jobs → ServesIf was.links o → option_map made_of d ≡ option_map (made_by was.links) o → AreAfterIf o was.table now.table → EndsAfter was.links now.links d → (o ≡ None → now.sessions ≡ was.sessions)
     → Then was now contents o d
 then_of go shuts stay own was now contents None None sound jobs serves same after ends idle =
@@ -191,7 +191,7 @@ FailsSo o d = (k : Look) → Fails d k → FailsBy o k.fails
 kind_of : (links : List EndView) (v : Served) (d : Done) → option_map made_of (Some d) ≡ option_map (made_by links) (Some v) → d.kind ≡ v.kind
 kind_of links v d same = ap (λ (m : Made). m.kind) (same_Some (made_of d) (made_by links v) same)
 
-pub fails_of : (links : List EndView) (o : Option Served) (d : Option Done) → option_map made_of d ≡ option_map (made_by links) o → FailsSo o d
+fails_of : (links : List EndView) (o : Option Served) (d : Option Done) → option_map made_of d ≡ option_map (made_by links) o → FailsSo o d
 fails_of links None d same k f = λ v is. absurd (some_none v (sym is))
 fails_of links (Some v) None same k f = absurd (some_none (made_by links v) (sym same))
 fails_of links (Some v) (Some d) same k f = λ w is.
@@ -206,7 +206,7 @@ failed_same links (Some v) (Some d) same = same_failure d.kind ∙ ap failed_her
 pub cause_of : (links : List EndView) (o : Option Served) (d : Option Done) → option_map made_of d ≡ option_map (made_by links) o → (R : Type 0) → IfSome (failed_by_served o) (λ call. R) → IfSome (failed_by d) (λ call. R)
 cause_of links o d same R cause = subst (λ (f : Option Call). IfSome f (λ call. R)) (sym (failed_same links o d same)) cause
 
-pub serves : FillsLaw → LooksSee → (was now : PartsView) (known contents : Option Contents) (parts : Option StoredParts) (clock : ClockSet) (time number : ℕ) (o : Option Served) (d : Option Done)
+serves : FillsLaw → LooksSee → (was now : PartsView) (known contents : Option Contents) (parts : Option StoredParts) (clock : ClockSet) (time number : ℕ) (o : Option Served) (d : Option Done)
     → AreSound was
     → ((s : SetUp) (st : State) (k : Look) → Sees was.links was.table known parts (runs_on clock time) number was.sessions o s st k → StepsSo was.links o now.sessions now.table contents s st k)
     → Then was now contents o d → FailsSo o d
@@ -223,9 +223,22 @@ serves fills looks was now known contents parts clock time number o d sound step
           then_d s st k sees.parts (step s st k (sees_of fills was known parts c clock time number o s st k sound told sees part (fails k fail)));
     }
 
+-- the step, at ends that are those before it
+pub step_of : FillsLaw → LooksSee → EndsGo → ClosedLaw → JobsStay → OwnEntries → (was now : PartsView) (mid : List EndView) (known contents : Option Contents) (parts : Option StoredParts) (clock : ClockSet) (time number shows : ℕ) (o : Option Served) (d : Option Done)
+    → AreSound was → now.jobs ≡ was.jobs → mid ≡ was.links → shows ≡ runs_on clock time
+    → ((s : SetUp) (st : State) (k : Look) → Sees was.links was.table known parts shows number was.sessions o s st k → StepsSo was.links o now.sessions now.table contents s st k)
+    → ServesIf was.links o → option_map made_of d ≡ option_map (made_by mid) o → AreAfterIf o was.table now.table → EndsAfter mid now.links d → (o ≡ None → now.sessions ≡ was.sessions)
+    → ForSome known (λ c. ForSome parts (λ q. FedAll q was.sessions → Serves was now c contents clock time number d))
+step_of fills looks go shuts stay own was now mid known contents parts clock time number shows o d sound jobs mid_is shows_is step serves_if made after ends idle =
+    let same : option_map made_of d ≡ option_map (made_by was.links) o = made ∙ ap (λ (links : List EndView). option_map (made_by links) o) mid_is in
+    let gone : EndsAfter was.links now.links d = subst (λ (links : List EndView). EndsAfter links now.links d) mid_is ends in
+    serves fills looks was now known contents parts clock time number o d sound
+    (λ s st k sees. step s st k (subst (λ (n : ℕ). Sees was.links was.table known parts n number was.sessions o s st k) (sym shows_is) sees))
+    (then_of go shuts stay own was now contents o d sound jobs serves_if same after gone idle) (fails_of was.links o d same)
+
 -- ---- what is left
 
-pub leaves_of : (number : ℕ) (was now : PartsView) (o : Option Served) (d : Option Done) → now.jobs ≡ was.jobs → option_map made_of d ≡ option_map (made_by was.links) o → AreAfterIf o was.table now.table
+leaves_of : (number : ℕ) (was now : PartsView) (o : Option Served) (d : Option Done) → now.jobs ≡ was.jobs → option_map made_of d ≡ option_map (made_by was.links) o → AreAfterIf o was.table now.table
     → All (λ h. h.number < number + 1) now.table.holds → EndsAfter was.links now.links d → (o ≡ None → now.sessions ≡ was.sessions) → LeavesSo number was now d
 leaves_of number was now None None jobs same after numbers ends idle = same_parts was now after ends (idle refl) jobs
 leaves_of number was now None (Some d) jobs same after numbers ends idle = absurd (some_none (made_of d) same)
@@ -237,3 +250,8 @@ leaves_of number was now (Some v) (Some d) jobs same after numbers ends idle =
       numbers = numbers;
       ends = ends;
     }
+
+pub leaves_at : (number : ℕ) (was now : PartsView) (mid : List EndView) (o : Option Served) (d : Option Done) → now.jobs ≡ was.jobs → mid ≡ was.links → option_map made_of d ≡ option_map (made_by mid) o → AreAfterIf o was.table now.table
+    → All (λ h. h.number < number + 1) now.table.holds → EndsAfter mid now.links d → (o ≡ None → now.sessions ≡ was.sessions) → LeavesSo number was now d
+leaves_at number was now mid o d jobs mid_is made after numbers ends idle =
+    leaves_of number was now o d jobs (made ∙ ap (λ (links : List EndView). option_map (made_by links) o) mid_is) after numbers (subst (λ (links : List EndView). EndsAfter links now.links d) mid_is ends) idle
