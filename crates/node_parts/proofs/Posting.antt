@@ -1,6 +1,6 @@
 -- The frames of a step are sent where they have their places.
 use Rattle.std.proofs.Common.{◌≡◌, ◌≢◌, ◌⊎◌, inl, inr, ℕ, ◌<◌, ◌≤◌, ◌*◌, ◌+◌, Bool, true, false, not, ◌&&◌, if◌then◌else◌, List, [], ◌∷◌, ◌++◌, Option, Some, None, is_some, length, refl, sym, ap, subst, ◌∙◌, arith, append-nil, append_assoc}
-use Rattle.std.specs.Prelude.{◌==◌, ◌^◌, filter, flat_map, fold, nat_le, nat_lt, slice_get}
+use Rattle.std.specs.Prelude.{◌==◌, ◌^◌, ◌-◌, filter, flat_map, fold, nat_le, nat_lt, slice_get}
 use Rattle.std.specs.Option.{ForSome, option_map, option_and_then, option_to_list}
 use Rattle.std.proofs.lemmas.Bool.{cases_Bool, true≢false}
 use Rattle.std.proofs.lemmas.Bool.Decides.{nat_tests}
@@ -21,8 +21,11 @@ use Rattle.node_ends.specs.declared.sending.Sending.{Sending}
 use Rattle.node_ends.specs.Ends.{end_at, end_in as end_of_link, has_room, link_at, passes, room_at, stands}
 use Rattle.node_ends.specs.Going.{AreAfter, IsSent}
 use Rattle.node_ends.specs.Sent.{has_places, link_may, may_send, text_of_sending}
+use Rattle.p2p_wire.specs.Messages.{text_of}
 use Rattle.drop_worker.specs.declared.turn.Parcel.{Parcel}
-use Rattle.drop_worker.specs.Working.{end_in, frames_of}
+use Rattle.drop_worker.specs.declared.turn.ParcelBody.{ParcelBody}
+use Rattle.drop_worker.specs.declared.turn.ParcelBody.TheVariants as bodies
+use Rattle.drop_worker.specs.Working.{end_in, frames_of, texts_of}
 use Rattle.node_jobs.specs.Sending.{MaySend, TakesNoOpening, end_of, stood_at}
 use Rattle.node_parts.specs.Posting.{ArePlaced, IsFrame, IsPlaced, IsPosted, frames_in}
 
@@ -116,14 +119,14 @@ module _ (was now : List EndView) (taken : Option FrameView) (sent : List FrameV
       where
         go : (p : Option FrameView) → is_some p ≡ may_send now a (text_of_sending said) → ForSome p (IsSent a stamp None said now next) → IsPosted was taken next (sent ++ option_to_list p)
         go None g i = subst (λ (l : List EndView). IsPosted was taken l (sent ++ [])) (sym (kept (sym g)).1) (subst (IsPosted was taken now) (sym (append-nil sent)) posted)
-        go (Some f) g i = posted_more next a stamp said f i
+        go (Some f) g i = posted_more next a stamp said f (i f refl)
 
     pub listed_by : Permits → TakesNoOpening taken → (f : FrameView) → IsFrame a (text_of_sending said) f → IsPlaced was taken sent f → sent ++ option_to_list o ≡ sent ++ f ∷ []
     listed_by permits quiet f of place = go o gives is
       where
         go : (p : Option FrameView) → is_some p ≡ may_send now a (text_of_sending said) → ForSome p (IsSent a stamp None said now next) → sent ++ option_to_list p ≡ sent ++ f ∷ []
         go None g i = absurd (true≢false (sym (may_place permits quiet a (text_of_sending said) f of place) ∙ sym g))
-        go (Some g') g i = ap (λ (x : FrameView). sent ++ x ∷ []) (same_frame a (text_of_sending said) f g' of place i.view)
+        go (Some g') g i = ap (λ (x : FrameView). sent ++ x ∷ []) (same_frame a (text_of_sending said) f g' of place (i g' refl).view)
 
 -- ---- frames that have their places
 
@@ -159,3 +162,150 @@ low_peer links count a size there = go (nat_lt a.slot 4) there
 
 pub sent_there : (links : List EndView) (a : EndName) (text : FrameText) → may_send links a text ≡ true → is_some (link_at links a) ≡ true
 sent_there links a text may = passed_some (link_may text) (link_at links a) may
+
+-- ---- a frame is taken
+
+same_epoch : (c : End) (epoch : ℕ) (body : FrameText) → is_opening body ≡ false → (end_takes c epoch body).epoch ≡ c.epoch
+same_epoch c epoch texts.Opening other = absurd (true≢false other)
+same_epoch c epoch texts.Closing other = refl
+same_epoch c epoch (texts.Line line) other = refl
+same_epoch c epoch (texts.Bytes n) other = refl
+
+all_three : (b c d : Bool) → b ≡ true → c ≡ true → d ≡ true → (b && (c && d)) ≡ true
+all_three true true true p q r = refl
+all_three true true false p q r = r
+all_three true false d p q r = q
+all_three false c d p q r = p
+
+-- an end that took another frame than an opening has the room that it had
+room_after_take : (was now : List EndView) (a : EndName) (f : FrameView) → is_opening f.body ≡ false → room_at was a ≡ true → may_send now a (texts.Line []) ≡ true → end_at now a ≡ end_took (end_at was a) (Some f) → room_at now a ≡ true
+room_after_take was now a f other room may state = go (link_at was a) (link_at now a) room may state
+  where
+    go : (v w : Option EndView) → passes has_room v ≡ true → passes (link_may (texts.Line [])) w ≡ true → end_of_link w ≡ end_took (end_of_link v) (Some f) → passes has_room w ≡ true
+    go None w had has is = absurd (true≢false (sym had))
+    go (Some v) None had has is = absurd (true≢false (sym has))
+    go (Some v) (Some w) had has is =
+        let places = both (nat_le 2 (free w)) (nat_lt (w.sent + 1) (2 ^ 62)) has in
+        let numbers = both (nat_lt (v.sent + 1) (2 ^ 62)) (nat_lt v.epoch (2 ^ 32 - 1)) (both (nat_le 2 (free v)) (nat_lt (v.sent + 1) (2 ^ 62) && nat_lt v.epoch (2 ^ 32 - 1)) had).1 in
+        let epoch : w.epoch ≡ v.epoch = ap (λ (c : End). c.epoch) is ∙ same_epoch (stands v) f.epoch f.body other in
+        all_three (nat_le 2 (free w)) (nat_lt (w.sent + 1) (2 ^ 62)) (nat_lt w.epoch (2 ^ 32 - 1)) places.0 places.1 (ap (λ (n : ℕ). nat_lt n (2 ^ 32 - 1)) epoch ∙ numbers.1)
+
+same_number : (m n : ℕ) → (m == n) ≡ true → m ≡ n
+same_number m n is = grind (arith, nat_tests)
+
+same_bool_is : (b c : Bool) → same_bool b c ≡ true → b ≡ c
+same_bool_is true c is = sym is
+same_bool_is false true is = absurd (true≢false (sym is))
+same_bool_is false false is = refl
+
+abbrev name_test : EndName → EndName → Bool
+name_test p q = (p.peer == q.peer) && ((p.slot == q.slot) && same_bool p.client q.client)
+
+same_or_other : (p q : EndName) → (p ≡ q) ⊎ (p ≢ q)
+same_or_other p q = elim (cases_Bool (name_test p q)) [
+  | inl is ↦
+      let first = both (p.peer == q.peer) ((p.slot == q.slot) && same_bool p.client q.client) is in
+      let next = both (p.slot == q.slot) (same_bool p.client q.client) first.1 in
+      let peer = same_number p.peer q.peer first.0 in
+      let slot = same_number p.slot q.slot next.0 in
+      let client = same_bool_is p.client q.client next.1 in
+      inl (λ i. record { peer = peer i; slot = slot i; client = client i })
+  | inr other ↦ inr (λ same. true≢false (sym (all_three (p.peer == p.peer) (p.slot == p.slot) (same_bool p.client p.client) (eqb_refl p.peer) (eqb_refl p.slot) (same_bool_refl p.client)) ∙ (ap (name_test p) same ∙ other)))
+]
+
+pub taken_posted : (was now : List EndView) (a : EndName) (f : FrameView) → room_at was a ≡ true → may_send now a (texts.Line []) ≡ true → end_at now a ≡ end_took (end_at was a) (Some f) → ((b : EndName) → b ≢ a → link_at now b ≡ link_at was b)
+    → AreAfter was now (Some f) [] → IsPosted was (Some f) now []
+taken_posted was now a f had may state others after = record {
+  after = after;
+  room = λ quiet b room none. elim (same_or_other b a) [
+    | inl same ↦ subst (λ (x : EndName). room_at now x ≡ true) (sym same) (room_after_take was now a f quiet had may state)
+    | inr other ↦ ap (passes has_room) (others b other) ∙ room
+  ];
+}
+
+pub none_posted : (was : List EndView) → AreAfter was was None [] → IsPosted was None was []
+none_posted was after = record { after = after; room = λ quiet b room none. room }
+
+-- ---- all parcels
+
+-- what was sent, and the frames of the parcels that are left, which have their places, are the frames of all
+pub record GoesWell (was : List EndView) (taken : Option FrameView) (slot : ℕ) (first : List FrameView) (all : List Parcel) (sent : List FrameView) (left : List Parcel) : Type 0 where
+  pub whole : sent ++ frames_of (end_at was) slot left ≡ first ++ frames_of (end_at was) slot all
+  pub placed : ArePlaced was taken sent (frames_of (end_at was) slot left)
+
+module _ (was : List EndView) (taken : Option FrameView) (slot : ℕ) (first : List FrameView) (all : List Parcel) where
+  pub goes_first : ArePlaced was taken first (frames_of (end_at was) slot all) → GoesWell was taken slot first all first all
+  goes_first placed = record { whole = refl; placed = placed }
+
+  module _ (sent : List FrameView) (p : Parcel) (left : List Parcel) where
+    pub goes_placed : GoesWell was taken slot first all sent (p ∷ left) → ArePlaced was taken sent (frames_in was slot p)
+    goes_placed goes = placed_first was taken sent (frames_in was slot p) (frames_of (end_at was) slot left) goes.placed
+
+    pub goes_on_well : (more : List FrameView) → GoesWell was taken slot first all sent (p ∷ left) → more ≡ sent ++ frames_in was slot p → GoesWell was taken slot first all more left
+    goes_on_well more goes is = subst (λ (l : List FrameView). GoesWell was taken slot first all l left) (sym is) (record {
+      whole = append_assoc sent (frames_in was slot p) (frames_of (end_at was) slot left) ∙ goes.whole;
+      placed = placed_next was taken sent (frames_in was slot p) (frames_of (end_at was) slot left) goes.placed;
+    })
+
+  pub all_well : (sent : List FrameView) (left : List Parcel) → left ≡ [] → GoesWell was taken slot first all sent left → sent ≡ first ++ frames_of (end_at was) slot all
+  all_well sent left none goes = sym (append-nil sent) ∙ (ap (λ (ps : List Parcel). sent ++ frames_of (end_at was) slot ps) (sym none) ∙ goes.whole)
+
+-- ---- one parcel
+
+module _ (was : List EndView) (taken : Option FrameView) (slot : ℕ) (sent now : List FrameView) (p : Parcel) where
+  -- the frame with this text that an end of a job's sends, as it stands so
+  abbrev sent_as : End → FrameText → FrameView
+  sent_as c text = record { peer = p.peer; slot = slot; up = true; epoch = (end_sends c text).epoch; seq = (end_sends c text).sent; body = text }
+
+  pub parcel_well : (text : FrameText) → texts_of p.body ≡ text ∷ [] → ((f : FrameView) → IsFrame (end_in slot p.peer) text f → IsPlaced was taken sent f → now ≡ sent ++ f ∷ [])
+      → ArePlaced was taken sent (frames_in was slot p) → now ≡ sent ++ frames_in was slot p
+  parcel_well text is sends all =
+      let c : End = end_at was (end_in slot p.peer) in
+      let f : FrameView = sent_as c text in
+      let fs : frames_in was slot p ≡ f ∷ [] = ap (frames (end_in slot p.peer) c) is in
+      sends f (record { at = refl; body = refl }) (first_place was taken sent [] f (subst (ArePlaced was taken sent) fs all)) ∙ ap (λ (l : List FrameView). sent ++ l) (sym fs)
+
+  pub last_well : (text next : FrameText) → texts_of p.body ≡ text ∷ next ∷ [] → ((f g : FrameView) → IsFrame (end_in slot p.peer) text f → IsFrame (end_in slot p.peer) next g → ArePlaced was taken sent (f ∷ g ∷ []) → now ≡ sent ++ f ∷ g ∷ [])
+      → ArePlaced was taken sent (frames_in was slot p) → now ≡ sent ++ frames_in was slot p
+  last_well text next is sends all =
+      let c : End = end_at was (end_in slot p.peer) in
+      let f : FrameView = sent_as c text in
+      let g : FrameView = sent_as (end_sends c text) next in
+      let fs : frames_in was slot p ≡ f ∷ g ∷ [] = ap (frames (end_in slot p.peer) c) is in
+      sends f g (record { at = refl; body = refl }) (record { at = refl; body = refl }) (subst (ArePlaced was taken sent) fs all) ∙ ap (λ (l : List FrameView). sent ++ l) (sym fs)
+
+  -- a frame of a parcel that has its place is sent at an end that is there
+  pub parcel_there : Permits → TakesNoOpening taken → (ends : List EndView) → IsPosted was taken ends sent → ArePlaced was taken sent (frames_in was slot p) → is_some (link_at ends (end_in slot p.peer)) ≡ true
+  parcel_there permits quiet ends posted all = go p.body refl
+    where
+      some_text : (text : FrameText) (more : List FrameText) → texts_of p.body ≡ text ∷ more → is_some (link_at ends (end_in slot p.peer)) ≡ true
+      some_text text more is =
+          let c : End = end_at was (end_in slot p.peer) in
+          let f : FrameView = sent_as c text in
+          let rest : List FrameView = frames (end_in slot p.peer) (end_sends c text) more in
+          let fs : frames_in was slot p ≡ f ∷ rest = ap (frames (end_in slot p.peer) c) is in
+          sent_there ends (end_in slot p.peer) text
+          (may_place was ends taken sent posted permits quiet (end_in slot p.peer) text f (record { at = refl; body = refl }) (first_place was taken sent rest f (subst (ArePlaced was taken sent) fs all)))
+
+      go : (b : ParcelBody) → p.body ≡ b → is_some (link_at ends (end_in slot p.peer)) ≡ true
+      go bodies.Open is = some_text texts.Opening [] (ap texts_of is)
+      go bodies.Close is = some_text texts.Closing [] (ap texts_of is)
+      go (bodies.Message m) is = some_text (texts.Line (text_of m)) [] (ap texts_of is)
+      go (bodies.Last m) is = some_text (texts.Line (text_of m)) (texts.Closing ∷ []) (ap texts_of is)
+
+-- ---- a whole step
+
+module _ (was mid : List EndView) (taken : Option FrameView) (slot : ℕ) (listing : List FrameView) (empty : listing ≡ []) (posted : IsPosted was taken mid []) where
+  pub posted_first : IsPosted was taken mid listing
+  posted_first = subst (IsPosted was taken mid) (sym empty) posted
+
+  pub sent_well : (sent : List FrameView) (ps all : List Parcel) → ps ≡ all
+      → (IsPosted was taken mid listing → TakesNoOpening taken → ArePlaced was taken listing (frames_of (end_at was) slot ps) → sent ≡ listing ++ frames_of (end_at was) slot ps)
+      → TakesNoOpening taken → ArePlaced was taken [] (frames_of (end_at was) slot all) → sent ≡ frames_of (end_at was) slot all
+  sent_well sent ps all same step quiet placed =
+      let here : ArePlaced was taken listing (frames_of (end_at was) slot ps) =
+          subst (λ (l : List FrameView). ArePlaced was taken l (frames_of (end_at was) slot ps)) (sym empty)
+          (subst (λ (xs : List Parcel). ArePlaced was taken [] (frames_of (end_at was) slot xs)) (sym same) placed) in
+      step posted_first quiet here
+      ∙ (ap (λ (l : List FrameView). l ++ frames_of (end_at was) slot ps) empty
+      ∙ ap (λ (xs : List Parcel). frames_of (end_at was) slot xs) same)
