@@ -20,8 +20,9 @@ use crate::here::Here;
 use crate::judging::{Verdict, gather, judge, others};
 use crate::phase::{Ending, Phase, Token};
 use crate::said::Said;
+use crate::sends::Sends;
 use crate::time::Time;
-use crate::turn::{Input, Output, Parcel, ParcelBody};
+use crate::turn::{Input, Output, ParcelBody};
 use crate::worker::{Worker, ending, quietly, reads, telling};
 use annex_base::{Call, Items, NoMemory};
 use content_lock::{BarRefused, LockTable};
@@ -47,6 +48,8 @@ pub(crate) fn act<K: Keeper, H: Here>(
     ensures does { Did table.old table.new (store (K.contents keeper.old) (K.records keeper.old) (K.faults keeper.old)) (store (K.contents keeper.new) (K.records keeper.new) (K.faults keeper.new)) worker.old worker.new
         (GoesSo (sight (H.reading here.now) (H.ends here.now) input.now.time input.now.number) (K.contents keeper.old) table.old table.new worker.old worker.new) result }
     ensures begun { IfOk result (HasGone (H.reading here.now) worker.old worker.new) }
+    ensures parts { K.parts keeper.new ≡ K.parts keeper.old }
+    ensures files { K.files keeper.new ≡ K.files keeper.old }
 {
     match worker.phase() {
         Phase::Fresh => begin(worker, alloc, here, table, keeper, input),
@@ -75,6 +78,8 @@ fn begin<K: Keeper, H: Here>(
     ensures does { Did table.old table.new (store (K.contents keeper.old) (K.records keeper.old) (K.faults keeper.old)) (store (K.contents keeper.new) (K.records keeper.new) (K.faults keeper.new)) worker.old worker.new
         (GoesSo (sight (H.reading here.now) (H.ends here.now) input.now.time input.now.number) (K.contents keeper.old) table.old table.new worker.old worker.new) result }
     ensures begun { IfOk result (HasGone (H.reading here.now) worker.old worker.new) }
+    ensures parts { K.parts keeper.new ≡ K.parts keeper.old }
+    ensures files { K.files keeper.new ≡ K.files keeper.old }
 {
     let sends = worker.partings(alloc, here, false)?;
     let key = worker.key().copy()?;
@@ -99,7 +104,7 @@ fn unbarred(
     worker: &mut Worker,
     alloc: Global,
     why: BarRefused,
-    sends: Vec<Parcel>,
+    sends: Sends,
 ) -> Result<Output, NoMemory>
     ensures { Unbarred why worker.old worker.new sends result }
 {
@@ -115,7 +120,7 @@ fn unbarred(
 }
 
 /// The job ends with a refusal.
-fn refused(worker: &Worker, why: DropRefusal, sends: Vec<Parcel>) -> Output
+fn refused(worker: &Worker, why: DropRefusal, sends: Sends) -> Output
     ensures { result ≡ record { kind = EntryKind.End worker.now.number (Outcome.Refused why); sends = sends; ended = true } }
 {
     ending(worker.number(), Outcome::Refused(why), sends)
@@ -139,6 +144,8 @@ fn go_on<K: Keeper, H: Here>(
     ensures does { (number : ℕ) → Did table.old table.new (store (K.contents keeper.old) (K.records keeper.old) (K.faults keeper.old)) (store (K.contents keeper.new) (K.records keeper.new) (K.faults keeper.new)) worker.old worker.new
         (GoesSo (sight (H.reading here.now) (H.ends here.now) time number) (K.contents keeper.old) table.old table.new worker.old worker.new) result }
     ensures begun { IfOk result (HasGone (H.reading here.now) worker.old worker.new) }
+    ensures parts { K.parts keeper.new ≡ K.parts keeper.old }
+    ensures files { K.files keeper.new ≡ K.files keeper.old }
 {
     let candidates = others(alloc, here)?;
     let items = gather(worker, alloc, here, Side::Local, &candidates)?;
@@ -164,6 +171,8 @@ fn remove<K: Keeper>(
     ensures does { (x : Sight) → Did table.old table.new (store (K.contents keeper.old) (K.records keeper.old) (K.faults keeper.old)) (store (K.contents keeper.new) (K.records keeper.new) (K.faults keeper.new)) worker.old worker.new
         (ActsOver x (K.contents keeper.old) table.old table.new worker.old worker.new removes_now) result }
     ensures begun { IfOk result (λ out. (r : Reading) → HasGone r worker.old worker.new out) }
+    ensures parts { K.parts keeper.new ≡ K.parts keeper.old }
+    ensures files { K.files keeper.new ≡ K.files keeper.old }
 {
     let key = worker.key().copy()?;
     match worker.take_token() {

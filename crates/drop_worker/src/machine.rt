@@ -56,6 +56,8 @@ pub fn step<K: Keeper, H: Here>(
     ensures heard { Grows worker.old.heard worker.new.heard }
     ensures after { IfOk result (λ out. AreAfter out.kind table.old table.new) }
     ensures contents { IfOk result (λ out. K.contents keeper.new ≡ contents_after (K.contents keeper.old) out.kind) }
+    ensures parts { K.parts keeper.new ≡ K.parts keeper.old }
+    ensures files { K.files keeper.new ≡ K.files keeper.old }
     ensures agrees { Agrees (K.records keeper.old) table.old.holds → Agrees (K.records keeper.new) table.new.holds }
     ensures owns { HasToken worker.new.number worker.new.job.key worker.new.token table.new }
     ensures fits { IfOk result (λ out. out.ended ≡ false → Fits (side_in worker.old) worker.new.phase worker.new.token) }
@@ -92,6 +94,8 @@ fn advance<K: Keeper, H: Here>(
         (AdvancesSo (sight (H.reading here.now) (H.ends here.now) input.now.time input.now.number) (K.contents keeper.old) table.old table.new worker.old worker.new input.now.taken input.now.word) result }
     ensures begun { side_in worker.old ≡ sides.Local → IfOk result (λ out. CanStand (H.reading here.now) worker.old.phase → HasGone (H.reading here.now) worker.old worker.new out) }
     ensures numbered { IfOk result (λ out. IsNumbered input.now.number out.kind) }
+    ensures parts { K.parts keeper.new ≡ K.parts keeper.old }
+    ensures files { K.files keeper.new ≡ K.files keeper.old }
 {
     match worker.target() {
         None => step_local(worker, alloc, here, table, keeper, input),
@@ -116,6 +120,8 @@ fn step_local<K: Keeper, H: Here>(
         (Advances (sight (H.reading here.now) (H.ends here.now) input.now.time input.now.number) (K.contents keeper.old) table.old table.new worker.old worker.new input.now.taken input.now.word) result }
     ensures begun { IfOk result (λ out. CanStand (H.reading here.now) worker.old.phase → HasGone (H.reading here.now) worker.old worker.new out) }
     ensures numbered { IfOk result (λ out. IsNumbered input.now.number out.kind) }
+    ensures parts { K.parts keeper.new ≡ K.parts keeper.old }
+    ensures files { K.files keeper.new ≡ K.files keeper.old }
 {
     match worker.awaits() {
         Some(peer) => taking::hear(worker, alloc, input, peer),
@@ -140,6 +146,8 @@ fn step_remote<K: Keeper, H: Here>(
     ensures did { DidRemote table.old table.new (store (K.contents keeper.old) (K.records keeper.old) (K.faults keeper.old)) (store (K.contents keeper.new) (K.records keeper.new) (K.faults keeper.new)) worker.old worker.new
         (AdvancesAlike (sight (H.reading here.now) (H.ends here.now) input.now.time input.now.number) (K.contents keeper.old) table.old table.new worker.old worker.new input.now.taken input.now.word) result }
     ensures numbered { IfOk result (λ out. IsNumbered input.now.number out.kind) }
+    ensures parts { K.parts keeper.new ≡ K.parts keeper.old }
+    ensures files { K.files keeper.new ≡ K.files keeper.old }
 {
     match worker.awaits() {
         Some(peer) => {

@@ -53,6 +53,8 @@ pub(crate) fn act<K: Keeper, H: Here>(
     ensures did { DidRemote table.old table.new (store (K.contents keeper.old) (K.records keeper.old) (K.faults keeper.old)) (store (K.contents keeper.new) (K.records keeper.new) (K.faults keeper.new)) worker.old worker.new
         (GoesAlike (sight (H.reading here.now) (H.ends here.now) input.now.time input.now.number) (K.contents keeper.old) table.old table.new worker.old worker.new) result }
     ensures numbered { IfOk result (λ out. IsNumbered input.now.number out.kind) }
+    ensures parts { K.parts keeper.new ≡ K.parts keeper.old }
+    ensures files { K.files keeper.new ≡ K.files keeper.old }
 {
     match worker.phase() {
         Phase::Fresh => begin(worker, alloc, here, table, keeper, input, target),
@@ -83,6 +85,8 @@ fn begin<K: Keeper, H: Here>(
     ensures did { DidRemote table.old table.new (store (K.contents keeper.old) (K.records keeper.old) (K.faults keeper.old)) (store (K.contents keeper.new) (K.records keeper.new) (K.faults keeper.new)) worker.old worker.new
         (GoesAlike (sight (H.reading here.now) (H.ends here.now) input.now.time input.now.number) (K.contents keeper.old) table.old table.new worker.old worker.new) result }
     ensures numbered { IfOk result (λ out. IsNumbered input.now.number out.kind) }
+    ensures parts { K.parts keeper.new ≡ K.parts keeper.old }
+    ensures files { K.files keeper.new ≡ K.files keeper.old }
 {
     match here.standing(here.repo()) {
         Standing::Asked => share_own(worker, alloc, here, table, keeper, input, target),
@@ -117,6 +121,8 @@ fn share_own<K: Keeper, H: Here>(
     ensures did { DidRemote table.old table.new (store (K.contents keeper.old) (K.records keeper.old) (K.faults keeper.old)) (store (K.contents keeper.new) (K.records keeper.new) (K.faults keeper.new)) worker.old worker.new
         (GoesAlike (sight (H.reading here.now) (H.ends here.now) input.now.time input.now.number) (K.contents keeper.old) table.old table.new worker.old worker.new) result }
     ensures numbered { IfOk result (λ out. IsNumbered input.now.number out.kind) }
+    ensures parts { K.parts keeper.new ≡ K.parts keeper.old }
+    ensures files { K.files keeper.new ≡ K.files keeper.old }
 {
     let by = By::Job(worker.number());
     let clock = here.clock(input.time);
@@ -177,6 +183,8 @@ fn go_on<K: Keeper, H: Here>(
     ensures did { (number : ℕ) → DidRemote table.old table.new (store (K.contents keeper.old) (K.records keeper.old) (K.faults keeper.old)) (store (K.contents keeper.new) (K.records keeper.new) (K.faults keeper.new)) worker.old worker.new
         (GoesAlike (sight (H.reading here.now) (H.ends here.now) time number) (K.contents keeper.old) table.old table.new worker.old worker.new) result }
     ensures numbered { IfOk result (λ out. (n : ℕ) → IsNumbered n out.kind) }
+    ensures parts { K.parts keeper.new ≡ K.parts keeper.old }
+    ensures files { K.files keeper.new ≡ K.files keeper.old }
 {
     let candidates = candidates(alloc, here, target)?;
     let items = gather(worker, alloc, here, Side::Remote, &candidates)?;
@@ -370,6 +378,8 @@ pub(crate) fn finish<K: Keeper, H: Here>(
     ensures did { DidRemote table.old table.new (store (K.contents keeper.old) (K.records keeper.old) (K.faults keeper.old)) (store (K.contents keeper.new) (K.records keeper.new) (K.faults keeper.new)) worker.old worker.new
         (EndsSo (H.reading here.now) (H.ends here.now) time table.old table.new worker.old worker.new outcome) result }
     ensures numbered { IfOk result (λ out. (n : ℕ) → IsNumbered n out.kind) }
+    ensures parts { K.parts keeper.new ≡ K.parts keeper.old }
+    ensures files { K.files keeper.new ≡ K.files keeper.old }
 {
     let lost = is_lost(&outcome);
     let sends = worker.partings(alloc, here, lost)?;

@@ -49,6 +49,8 @@ pub(crate) fn hear<K: Keeper, H: Here>(
     ensures word { IfOk result (λ out. KeepsWord input.now.taken input.now.word worker.old worker.new) }
     ensures answer { IfOk result (λ out. KeepsAnswer input.now.taken input.now.word worker.old worker.new) }
     ensures numbered { IfOk result (λ out. (n : ℕ) → IsNumbered n out.kind) }
+    ensures parts { K.parts keeper.new ≡ K.parts keeper.old }
+    ensures files { K.files keeper.new ≡ K.files keeper.old }
 {
     match &input.taken {
         Taken::Message(message) => {
@@ -81,6 +83,8 @@ fn take_message<K: Keeper, H: Here>(
     ensures word { IfOk result (λ out. KeepsWord (Taken.Message message.now) input.now.word worker.old worker.new) }
     ensures answer { IfOk result (λ out. KeepsAnswer (Taken.Message message.now) input.now.word worker.old worker.new) }
     ensures numbered { IfOk result (λ out. (n : ℕ) → IsNumbered n out.kind) }
+    ensures parts { K.parts keeper.new ≡ K.parts keeper.old }
+    ensures files { K.files keeper.new ≡ K.files keeper.old }
 {
     let time = input.time;
     match worker.phase() {
@@ -116,6 +120,8 @@ fn take_time<K: Keeper, H: Here>(
     ensures did { DidRemote table.old table.new (store (K.contents keeper.old) (K.records keeper.old) (K.faults keeper.old)) (store (K.contents keeper.new) (K.records keeper.new) (K.faults keeper.new)) worker.old worker.new
         (TakesRemote (H.reading here.now) (H.ends here.now) time table.old table.new target (Taken.Message message.now) worker.old worker.new) result }
     ensures numbered { IfOk result (λ out. (n : ℕ) → IsNumbered n out.kind) }
+    ensures parts { K.parts keeper.new ≡ K.parts keeper.old }
+    ensures files { K.files keeper.new ≡ K.files keeper.old }
 {
     match message {
         Message::Timestamp(now) => {
@@ -141,6 +147,8 @@ fn take_timestamp<K: Keeper, H: Here>(
     ensures did { DidRemote table.old table.new (store (K.contents keeper.old) (K.records keeper.old) (K.faults keeper.old)) (store (K.contents keeper.new) (K.records keeper.new) (K.faults keeper.new)) worker.old worker.new
         (TakesRemote (H.reading here.now) (H.ends here.now) time table.old table.new target (Taken.Message (Message.Timestamp now)) worker.old worker.new) result }
     ensures numbered { IfOk result (λ out. (n : ℕ) → IsNumbered n out.kind) }
+    ensures parts { K.parts keeper.new ≡ K.parts keeper.old }
+    ensures files { K.files keeper.new ≡ K.files keeper.old }
 {
     if now >= NO_TIME {
         return shut(worker, alloc, target, target);
@@ -165,6 +173,8 @@ fn order_at<K: Keeper, H: Here>(
     ensures did { DidRemote table.old table.new (store (K.contents keeper.old) (K.records keeper.old) (K.faults keeper.old)) (store (K.contents keeper.new) (K.records keeper.new) (K.faults keeper.new)) worker.old worker.new
         (TakesRemote (H.reading here.now) (H.ends here.now) time table.old table.new target (Taken.Message (Message.Timestamp now)) worker.old worker.new) result }
     ensures numbered { IfOk result (λ out. (n : ℕ) → IsNumbered n out.kind) }
+    ensures parts { K.parts keeper.new ≡ K.parts keeper.old }
+    ensures files { K.files keeper.new ≡ K.files keeper.old }
 {
     reads_all(worker.key());
     match locks_end(worker, alloc, here, target)? {
@@ -192,6 +202,8 @@ fn order_before<K: Keeper, H: Here>(
     ensures did { DidRemote table.old table.new (store (K.contents keeper.old) (K.records keeper.old) (K.faults keeper.old)) (store (K.contents keeper.new) (K.records keeper.new) (K.faults keeper.new)) worker.old worker.new
         (TakesRemote (H.reading here.now) (H.ends here.now) time table.old table.new target (Taken.Message (Message.Timestamp now)) worker.old worker.new) result }
     ensures numbered { IfOk result (λ out. (n : ℕ) → IsNumbered n out.kind) }
+    ensures parts { K.parts keeper.new ≡ K.parts keeper.old }
+    ensures files { K.files keeper.new ≡ K.files keeper.old }
 {
     reads_all(worker.key());
     let clock = here.clock(time);

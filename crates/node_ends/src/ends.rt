@@ -1,13 +1,13 @@
 //! The ends of a repository.
-ghost use Rattle.std.specs.Prelude.{◌≡◌, ◌≢◌, ℕ, ◌*◌, [], ◌∷◌, ◌++◌, List, true, Some, IfSome, is_some, length, map, replicate};
+ghost use Rattle.std.specs.Prelude.{◌≡◌, ◌≢◌, ℕ, ◌*◌, [], ◌∷◌, ◌++◌, List, true, false, None, Some, IfSome, is_some, length, map, replicate};
 ghost use Rattle.std.specs.declared.option.Option.{Option};
-ghost use Rattle.std.specs.Option.{option_and_then, option_copied, option_map};
+ghost use Rattle.std.specs.Option.{ForSome, option_and_then, option_copied, option_map};
 ghost use Rattle.link_ring.specs.Ends.{EndView, after_drop, after_take, fresh, next_frame};
 ghost use Rattle.run_data.specs.declared.entry.FrameView.{FrameView};
 ghost use Rattle.run_data.specs.declared.entry.FrameText.TheVariants as texts;
 ghost use Rattle.node_model.specs.Ends.{EndName, end_sends, end_takes, frames};
 ghost use Rattle.node_ends.specs.Ends.{end_at, frame_at, link_at, name_of, room_at, text_in, wait_at};
-ghost use Rattle.node_ends.specs.Going.{AreAfter};
+ghost use Rattle.node_ends.specs.Going.{AreAfter, IsSent};
 ghost use Rattle.node_ends.specs.Joined.{StayPaired};
 ghost use Rattle.node_ends.specs.Sent.{IsListed, link_sends, may_send, text_of_sending};
 
@@ -110,6 +110,27 @@ impl Ends {
     {
         let listed = places::send(&mut self.links.ends, id, sender, word, said);
         listed
+    }
+
+    /// Sends this at the end where it may, as `send` does. Where it may not, nothing changes and nothing is sent. It takes no
+    /// memory.
+    pub fn post(
+        &mut self,
+        id: EndId,
+        sender: EntryStamp,
+        word: Option<Word>,
+        said: Sending,
+    ) -> Option<FrameView>
+        requires there { is_some (link_at self.old (name_of id)) ≡ true }
+        requires listed { IsListed said }
+        ensures gives { is_some result ≡ may_send self.old (name_of id) (text_of_sending said) }
+        ensures sent { ForSome result (IsSent (name_of id) sender word said self.old self.new) }
+        ensures kept { may_send self.old (name_of id) (text_of_sending said) ≡ false → (result ≡ None) × (self.new ≡ self.old) }
+        ensures paired { StayPaired self.old self.new }
+        ensures count { length self.new ≡ length self.old }
+        ensures there { (a : EndName) → is_some (link_at self.new a) ≡ is_some (link_at self.old a) }
+    {
+        places::post(&mut self.links.ends, id, sender, word, said)
     }
 
     /// Drops, at each end, the frames that are never taken: of an older epoch, or of one that the end has closed. It takes no

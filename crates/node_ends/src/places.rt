@@ -1,11 +1,12 @@
 //! What is done at one of the ends, which is found by its place.
-ghost use Rattle.std.specs.Prelude.{◌≡◌, ◌<◌, ◌∷◌, [], true, Some, is_some, length, map};
-ghost use Rattle.std.specs.Option.{option_and_then, option_copied};
+ghost use Rattle.std.specs.Prelude.{◌≡◌, ◌<◌, ◌*◌, ◌∷◌, [], true, false, None, Some, is_some, length, map};
+ghost use Rattle.std.specs.Option.{ForSome, option_and_then, option_copied};
 ghost use Rattle.link_ring.specs.Ends.{after_drop, after_take, next_frame};
 ghost use Rattle.link_ring.specs.Places.{end_place};
 ghost use Rattle.node_model.specs.Ends.{EndName, frames};
 ghost use Rattle.node_ends.specs.Changes.{IsChanged, frame_waiting};
 ghost use Rattle.node_ends.specs.Ends.{end_at, link_at, name_of, room_at, wait_at};
+ghost use Rattle.node_ends.specs.Going.{IsSent};
 ghost use Rattle.node_ends.specs.Invariant.{each_may_close};
 ghost use Rattle.node_ends.specs.Joined.{StayPaired};
 ghost use Rattle.node_ends.specs.Sent.{IsListed, link_sends, may_send, text_of_sending};
@@ -81,6 +82,42 @@ pub(crate) fn send(
 {
     let place = place_in(ends, id);
     single::send(&mut ends[place], id, sender, word, said)
+}
+
+fn may_send(ends: &mut Vec<End>, id: EndId, said: &Sending) -> bool
+    requires there { is_some (link_at ends.old.items (name_of id)) ≡ true }
+    ensures may { result ≡ may_send ends.old.items (name_of id) (text_of_sending said.now) }
+    ensures same { ends.new.items ≡ ends.old.items }
+{
+    let place = place_in(ends, id);
+    single::may_send(&mut ends[place], said)
+}
+
+// Sends it where the end may, and else changes nothing.
+pub(crate) fn post(
+    ends: &mut Vec<End>,
+    id: EndId,
+    sender: EntryStamp,
+    word: Option<Word>,
+    said: Sending,
+) -> Option<FrameView>
+    requires there { is_some (link_at ends.old.items (name_of id)) ≡ true }
+    requires close { each_may_close ends.old.items ≡ true }
+    requires listed { IsListed said }
+    ensures gives { is_some result ≡ may_send ends.old.items (name_of id) (text_of_sending said) }
+    ensures sent { ForSome result (IsSent (name_of id) sender word said ends.old.items ends.new.items) }
+    ensures kept { may_send ends.old.items (name_of id) (text_of_sending said) ≡ false → (result ≡ None) × (ends.new.items ≡ ends.old.items) }
+    ensures count { length ends.new.items ≡ length ends.old.items }
+    ensures there { (a : EndName) → is_some (link_at ends.new.items a) ≡ is_some (link_at ends.old.items a) }
+    ensures close { each_may_close ends.new.items ≡ true }
+    ensures paired { StayPaired ends.old.items ends.new.items }
+{
+    if may_send(ends, id, &said) {
+        let listed = send(ends, id, sender, word, said);
+        Some(listed)
+    } else {
+        None
+    }
 }
 
 // Drops the frames that are never taken, at each end.

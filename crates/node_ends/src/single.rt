@@ -8,7 +8,7 @@ ghost use Rattle.node_model.specs.Ends.{frames};
 ghost use Rattle.node_ends.specs.Changes.{frame_waiting, is_open_body, may_frame};
 ghost use Rattle.node_ends.specs.Ends.{has_room, name_of, stands, text_in};
 ghost use Rattle.node_ends.specs.Invariant.{may_close};
-ghost use Rattle.node_ends.specs.Sent.{IsListed, link_may, link_sends, text_of_sending};
+ghost use Rattle.node_ends.specs.Sent.{IsListed, has_places, link_may, link_sends, text_of_sending};
 
 use crate::name::EndId;
 use crate::sending::Sending;
@@ -28,10 +28,16 @@ pub(crate) fn is_open(end: &End) -> bool
     }
 }
 
+fn has_number(sent: u64) -> bool
+    ensures { result ≡ nat_lt (sent + 1) (2 ^ 62) }
+{
+    sent < COUNT_LIMIT - 1
+}
+
 fn has_numbers(sent: u64, epoch: u32) -> bool
     ensures { result ≡ (nat_lt (sent + 1) (2 ^ 62) && nat_lt epoch (2 ^ 32 - 1)) }
 {
-    sent < COUNT_LIMIT - 1 && epoch < u32::MAX
+    has_number(sent) && epoch < u32::MAX
 }
 
 pub(crate) fn has_room(end: &mut End) -> bool
@@ -41,6 +47,28 @@ pub(crate) fn has_room(end: &mut End) -> bool
     let room = end.room();
     let numbers = has_numbers(end.sent(), end.epoch());
     room && numbers
+}
+
+// Whether a frame that opens nothing has a place beside the Close.
+fn has_places(end: &mut End) -> bool
+    ensures places { result ≡ has_places end.old }
+    ensures same { end.new ≡ end.old }
+{
+    let room = end.room();
+    let number = has_number(end.sent());
+    room && number
+}
+
+// Whether the end may send it.
+pub(crate) fn may_send(end: &mut End, said: &Sending) -> bool
+    ensures may { result ≡ link_may (text_of_sending said.now) end.old }
+    ensures same { end.new ≡ end.old }
+{
+    match said {
+        Sending::Open => has_room(end),
+        Sending::Close => is_open(end),
+        Sending::Line { .. } | Sending::Bytes(_) => has_places(end),
+    }
 }
 
 fn is_opening(body: &Body) -> bool

@@ -6,7 +6,9 @@ use Rattle.std.proofs.lemmas.Bool.Decides.{nat_tests}
 use Rattle.annex_base.specs.Lists.{Each, Member}
 use Rattle.annex_base.specs.Settings.{Settings}
 use Rattle.annex_base.proofs.Lists.{Each-from_members, Each-member}
+use Rattle.annex_base.specs.declared.kinds.Call.TheVariants.{PutFile}
 use Rattle.run_data.specs.Repos.{id_of}
+use Rattle.run_data.specs.declared.entry.By.{By}
 use Rattle.run_data.specs.declared.entry.Entry.{Entry}
 use Rattle.run_data.specs.declared.entry.EntryKind.{EntryKind}
 use Rattle.run_data.specs.declared.entry.EntryKind.TheVariants as kinds
@@ -16,8 +18,9 @@ use Rattle.run_data.specs.declared.job.JobKind.TheVariants as jobs_of
 use Rattle.node_model.specs.After.{has_read, read_after, state_after}
 use Rattle.node_model.specs.Evidence.{standing_by}
 use Rattle.node_model.specs.Jobs as Jobs
-use Rattle.node_model.specs.Jobs.{Drops, Work, first_part, new_work, running, work_after, works_after}
+use Rattle.node_model.specs.Jobs.{Drops, Work, first_part, new_work, running, work_after, work_kind, works_after}
 use Rattle.node_model.specs.Knows.{standing_of}
+use Rattle.node_model.specs.Rows.{option_is}
 use Rattle.node_model.specs.SetUp.{SetUp}
 use Rattle.node_model.specs.Slots.{Running, begun_after, free_slot, job_of}
 use Rattle.node_model.specs.State.{State}
@@ -81,13 +84,13 @@ stay_all rows r e (w ∷ ws) none = (λ i. here i ∷ stay_all rows r e ws none 
     here : work_after rows r e w ≡ w
     here = rw none refl
 
--- what a drop has read stays, and one at its first step would read what the logs say now
-pub works_stay_so : (s : SetUp) (st : State) (e : Entry) (jobs : JobsView) (rows : Rows) → AreWorks s st jobs → OwnAll jobs rows → job_of e.kind ≡ None → ((clock : ℕ) → e.kind ≡ kinds.Crash clock → ⊥) → AreWorks s (state_after s st e) jobs
+-- where no work changes, what a drop has read stays, and one at its first step would read what the logs say now
+still_works : (s : SetUp) (st : State) (e : Entry) (jobs : JobsView) (rows : Rows) → AreWorks s st jobs → OwnAll jobs rows → (state_after s st e).works ≡ st.works → (state_after s st e).begun ≡ st.begun → AreWorks s (state_after s st e) jobs
 unfolding standing_of
-works_stay_so s st e jobs rows are own none crash =
+still_works s st e jobs rows are own stay begun =
     record {
-      works = no_jobs (record { present = st.present; bar = st.bar; ends = st.ends }) s.number st.works e e.kind none crash ∙ (stay_all (record { present = st.present; bar = st.bar; ends = st.ends }) s.number e st.works none ∙ are.works);
-      begun = no_begun st.begun e.kind none ∙ are.begun;
+      works = stay ∙ are.works;
+      begun = begun ∙ are.begun;
       read = Each-from_members (λ j. HasRead s (state_after s st e) j.worker j.known) jobs.running (λ j here. by_known j here j.known (Each-member (λ x. HasRead s st x.worker x.known) jobs.running j are.read here));
     }
   where
@@ -106,3 +109,25 @@ works_stay_so s st e jobs rows are own none crash =
           need = ap need_in same ∙ h.need;
           standing = λ c. ap (λ (r : Settings). standing_by r j.worker.job.key (id_of s.repos c)) same ∙ h.standing c;
         }
+
+pub works_stay_so : (s : SetUp) (st : State) (e : Entry) (jobs : JobsView) (rows : Rows) → AreWorks s st jobs → OwnAll jobs rows → job_of e.kind ≡ None → ((clock : ℕ) → e.kind ≡ kinds.Crash clock → ⊥) → AreWorks s (state_after s st e) jobs
+works_stay_so s st e jobs rows are own none crash =
+    still_works s st e jobs rows are own
+    (no_jobs (record { present = st.present; bar = st.bar; ends = st.ends }) s.number st.works e e.kind none crash ∙ stay_all (record { present = st.present; bar = st.bar; ends = st.ends }) s.number e st.works none)
+    (no_begun st.begun e.kind none)
+
+-- ---- a line that couldn't be written
+
+fault_moves_none : (rows : Jobs.Rows) (r : ℕ) (e : Entry) (by : By) (ws : List Work) → e.kind ≡ kinds.Fault PutFile by → map (work_after rows r e) ws ≡ ws
+fault_moves_none rows r e by [] is = refl
+fault_moves_none rows r e by (w ∷ ws) is = (λ i. here (option_is (job_of e.kind) w.number) refl i ∷ fault_moves_none rows r e by ws is i)
+  where
+    here : (b : Bool) → option_is (job_of e.kind) w.number ≡ b → work_after rows r e w ≡ w
+    here true mine = rw mine (ap (work_kind rows r w e) is)
+    here false other = rw other refl
+
+pub works_stay_at_faults : (s : SetUp) (st : State) (e : Entry) (jobs : JobsView) (rows : Rows) (by : By) → AreWorks s st jobs → OwnAll jobs rows → e.kind ≡ kinds.Fault PutFile by → AreWorks s (state_after s st e) jobs
+works_stay_at_faults s st e jobs rows by are own is =
+    still_works s st e jobs rows are own
+    (ap (works_after (record { present = st.present; bar = st.bar; ends = st.ends }) s.number st.works e) is ∙ fault_moves_none (record { present = st.present; bar = st.bar; ends = st.ends }) s.number e by st.works is)
+    (ap (begun_after st.begun) is)

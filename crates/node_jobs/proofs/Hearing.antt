@@ -44,7 +44,7 @@ use Rattle.drop_worker.specs.Leaving.{stands_on}
 use Rattle.drop_worker.specs.States.{Keeps}
 use Rattle.drop_worker.specs.Working.{end_in, phase_as, sight, taken_line, taken_of}
 use Rattle.node_jobs.specs.declared.feed.Feed.{Feed}
-use Rattle.node_jobs.specs.Acting.{taken_by, word_at}
+use Rattle.node_jobs.specs.Acting.{WaitsFor, taken_by, word_at}
 use Rattle.node_jobs.specs.Feeds.{Answers, IsIdle, IsReady, SeesJob, IsFedAt, feed_at, feed_by, feed_of, told}
 use Rattle.node_jobs.specs.Places.{IsPlace, PlaceView}
 use Rattle.node_jobs.specs.Reads.{Known}
@@ -194,6 +194,29 @@ pub free_fed : (links : List EndView) (j : DropJob) (r : Result (Option Feed) No
 free_fed links j (Ok None) at = tt
 free_fed links j (Ok (Some feed)) at = λ p there. absurd (some_none p (sym there ∙ at))
 free_fed links j (Err e) at = tt
+
+-- a frame that is told waits there, and the end has room
+waits_by : (links : List EndView) (slot peer : ℕ) (opened room : Bool) (word : Option Word) (o : Option FrameView) → room_at links (end_in slot peer) ≡ room → wait_at links (end_in slot peer) ≡ o
+    → IfSome (feed_by opened room (feed_of peer word o)) (λ feed. WaitsFor links slot feed.takes)
+waits_by links slot peer false room word o r w = λ q takes. absurd (some_none q (sym takes))
+waits_by links slot peer true false word o r w = tt
+waits_by links slot peer true true word None r w = tt
+waits_by links slot peer true true word (Some f) r w = λ q takes.
+    subst (λ (n : ℕ). (room_at links (end_in slot n) ≡ true) × (is_some (wait_at links (end_in slot n)) ≡ true)) (same peer q takes) (r, ap (λ (o : Option FrameView). is_some o) w)
+  where
+    same : (m n : ℕ) → Some m ≡ Some n → m ≡ n
+    same m n e = cc
+
+pub heard_waits : (links : List EndView) (slot peer : ℕ) (r : Result (Option Feed) NoMemory) → IfOk r (λ f. f ≡ feed_at links (end_in slot peer)) → IfOk r (λ f. IfSome f (λ feed. WaitsFor links slot feed.takes))
+heard_waits links slot peer (Ok f) is =
+    subst (λ (o : Option Feed). IfSome o (λ feed. WaitsFor links slot feed.takes)) (sym is)
+    (waits_by links slot peer (end_at links (end_in slot peer)).opened (room_at links (end_in slot peer)) (word_at links (end_in slot peer)) (wait_at links (end_in slot peer)) refl refl)
+heard_waits links slot peer (Err e) is = tt
+
+pub free_waits : (links : List EndView) (slot : ℕ) (r : Result (Option Feed) NoMemory) → IfOk r (λ f. IfSome f (λ feed. feed.takes ≡ None)) → IfOk r (λ f. IfSome f (λ feed. WaitsFor links slot feed.takes))
+free_waits links slot (Ok None) none = tt
+free_waits links slot (Ok (Some feed)) none = λ q takes. absurd (some_none q (sym takes ∙ none))
+free_waits links slot (Err e) none = tt
 
 -- ---- whose frame it awaits
 

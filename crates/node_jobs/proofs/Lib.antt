@@ -11,3 +11,6 @@ pub mod Beginning
 pub mod Nameless
 pub mod Ends
 pub mod Sides
+pub mod Rooms
+pub mod DropSteps
+pub mod FirstSteps

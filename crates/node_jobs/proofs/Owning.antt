@@ -37,7 +37,7 @@ use Rattle.node_jobs.specs.declared.feed.Feed.{Feed}
 use Rattle.node_jobs.specs.Feeds.{IsFedAt, feed_at, feed_by, feed_of, told}
 use Rattle.node_jobs.proofs.Among.{found_by_number, apart_before, apart_behind, apart_with, apart_without}
 use Rattle.node_jobs.proofs.Knowing.{can_stand}
-use Rattle.drop_worker.specs.Begun.{HasGone}
+use Rattle.drop_worker.specs.Begun.{HasBegun, HasGone}
 
 module _ (links : List EndView) (clock : ClockSet) (settings : Settings) (jobs : Jobs) (number time : ℕ) (found : Found) (known known' : Option Contents) (rows rows' : Rows) (now : List DropJob) (a : Acted)
     (own : OwnAll jobs rows) (ch : Changes jobs.place clock links settings time number found known known' rows rows' jobs.running now a) where
@@ -88,6 +88,7 @@ module _ (links : List EndView) (clock : ClockSet) (settings : Settings) (jobs :
             slot = subst (λ (n : ℕ). n < 4) (sym gone.slot) mine.slot;
             fits = ch.steps.fits going;
             stands = ch.stands going;
+            unheard = λ fresh. absurd (subst (HasBegun (place_reading jobs.place)) fresh (gone.goes_on going));
           },
           (Each-right (IsDrop jobs.place) ch.front (ch.j ∷ ch.back) drops).1,
         );
@@ -210,7 +211,7 @@ length_runs (j ∷ js) = ap (λ (n : ℕ). suc n) (length_runs js)
 pub owns_begun : (jobs : Jobs) (rows : Rows) (what : Job) → drop_side what.kind what.peer ≡ Local → length jobs.running < 4 → OwnAll jobs rows → OwnAll (with_job jobs what) rows
 owns_begun jobs rows what side few own =
     record {
-      drops = (record { side = side; slot = slot_small (map running_now jobs.running); fits = tt; stands = refl }, own.drops);
+      drops = (record { side = side; slot = slot_small (map running_now jobs.running); fits = tt; stands = refl; unheard = λ fresh. refl }, own.drops);
       owns = (
         record { number = omega arith; owns = own.later (jobs.begun + 1) what.key (omega arith) },
         Each-weaker (IsOwn jobs.begun rows) (IsOwn (jobs.begun + 1) rows) (λ x o. let at : x.worker.number ≤ jobs.begun = o.number in record { number = omega (arith, at); owns = o.owns }) jobs.running own.owns,

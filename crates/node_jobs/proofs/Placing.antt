@@ -17,6 +17,7 @@ use Rattle.drop_worker.specs.Feeding.{ToldAt}
 use Rattle.drop_worker.specs.Leaving.{stands_on}
 use Rattle.node_jobs.specs.declared.feed.Feed.{Feed}
 use Rattle.node_jobs.specs.declared.finding.Found.{Found}
+use Rattle.node_jobs.specs.Acting.{WaitsFor}
 use Rattle.node_jobs.specs.Feeds.{Answers, IsFedAt, SeesJob}
 use Rattle.node_jobs.specs.Finding.{FindsAtSlot, FindsFirst, IsAtSlot, IsOfSlot, IsSlotIdle, has_slot}
 use Rattle.node_jobs.specs.Places.{PlaceView}
@@ -62,8 +63,9 @@ module _ (p : PlaceView) (clock : ClockSet) (links : List EndView) (jobs : List 
         ap (slot_step s st k) (find_mapped work_now (λ w. w.slot == slot) jobs ∙ ap (option_map work_now) found)
         ∙ subst (Answers p clock links j time) none answers rows c s st k (Each-member (λ x. SeesJob p clock links x time s st k) jobs j sees (find_member (has_slot slot) jobs j found).0) keeps
 
-    pub ready_found : (o : Option Feed) (feed : Feed) → o ≡ Some feed → Answers p clock links j time o → IfSome o (λ f. ToldAt (stands_on j.worker) f.taken) → IfSome o (IsFedAt links j) → IsAtSlot p clock links jobs time slot (record { index = index; feed = feed })
-    ready_found o feed some answers told fed = record { there = (place_some (has_slot slot) jobs index at).0; job = λ x e. subst (IsOfSlot p clock links jobs time slot feed) (let same : j ≡ x = same_some j x (sym element ∙ e) in same) of }
+    pub ready_found : (o : Option Feed) (feed : Feed) → o ≡ Some feed → Answers p clock links j time o → IfSome o (λ f. ToldAt (stands_on j.worker) f.taken) → IfSome o (IsFedAt links j)
+        → IfSome o (λ f. WaitsFor links j.worker.slot f.takes) → IsAtSlot p clock links jobs time slot (record { index = index; feed = feed })
+    ready_found o feed some answers told fed waits = record { there = (place_some (has_slot slot) jobs index at).0; job = λ x e. subst (IsOfSlot p clock links jobs time slot feed) (let same : j ≡ x = same_some j x (sym element ∙ e) in same) of }
       where
         same_some : (y z : DropJob) → Some y ≡ Some z → y ≡ z
         same_some y z e = cc
@@ -75,6 +77,7 @@ module _ (p : PlaceView) (clock : ClockSet) (links : List EndView) (jobs : List 
           ready = subst (Answers p clock links j time) some answers;
           told = subst (λ (q : Option Feed). IfSome q (λ f. ToldAt (stands_on j.worker) f.taken)) some told;
           fed = subst (λ (q : Option Feed). IfSome q (IsFedAt links j)) some fed;
+          waits = subst (λ (q : Option Feed). IfSome q (λ f. WaitsFor links j.worker.slot f.takes)) some waits;
         }
 
 -- ---- the first slot
@@ -90,6 +93,7 @@ first_found p clock links links' jobs time slot o found same some finds idle =
         ready = of.ready;
         told = of.told;
         fed = of.fed;
+        waits = of.waits;
         before = λ i below. idle i (subst (λ (n : ℕ). i < n) of.in_slot below);
       };
     }

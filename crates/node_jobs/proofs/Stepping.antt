@@ -26,7 +26,7 @@ use Rattle.node_model.specs.State.{State}
 use Rattle.node_model.specs.Ends.{End, EndName}
 use Rattle.node_model.specs.JobStep.{Turn, end_with, turn_of}
 use Rattle.node_model.specs.Turns.{by_partner, is_awaiting, job_step, slot_step}
-use Rattle.node_ends.specs.Ends.{end_at}
+use Rattle.node_ends.specs.Ends.{end_at, room_at, wait_at}
 use Rattle.object_store.specs.Stores.{Contents}
 use Rattle.content_lock.specs.Rows.{Rows}
 use Rattle.run_data.specs.Repos.{id_of}
@@ -40,7 +40,7 @@ use Rattle.drop_worker.specs.States.{Keeps}
 use Rattle.drop_worker.specs.Working.{end_in, failed_in, frames_of, phase_as, sight, words_of}
 use Rattle.node_jobs.specs.declared.acted.Acted.{Acted}
 use Rattle.node_jobs.specs.declared.finding.Found.{Found}
-use Rattle.node_jobs.specs.Acting.{SeesActed, SeesJobs, StepsJobs, made_by, taken_by}
+use Rattle.node_jobs.specs.Acting.{IsKindOf, SeesActed, SeesJobs, StepsJobs, WaitsFor, made_by, taken_by}
 use Rattle.node_jobs.specs.Changes.{Changes, input_of, kept, output_of}
 use Rattle.node_jobs.specs.Doings.{ActsSo, ReadsOn, SeesAct}
 use Rattle.node_jobs.specs.Feeds.{SeesJob}
@@ -180,11 +180,23 @@ module _ (links : List EndView) (clock : ClockSet) (settings : Settings) (jobs :
   drop : IsDrop jobs.place ch.j
   drop = Each-member (IsDrop jobs.place) jobs.running ch.j own.drops among
 
+  pub takes_waiting : WaitsFor links a.slot a.takes
+  takes_waiting = λ peer takes. subst (λ (n : ℕ). (room_at links (end_in n peer) ≡ true) × (is_some (wait_at links (end_in n peer)) ≡ true)) (sym ch.slot) (first_of_found.waits peer (sym ch.takes ∙ takes))
+
+  pub in_a_slot : a.slot < 4
+  in_a_slot = subst (λ (n : ℕ). n < 4) (sym ch.slot) drop.slot
+
   apart : AllApart (ch.front ++ ch.j ∷ ch.back)
   apart = subst AllApart ch.was_is own.apart
 
   gone : HasGone (place_reading jobs.place) ch.j.worker ch.j'.worker (output_of a)
   gone = ch.steps.gone (can_stand jobs.place ch.j.worker.phase ch.j.known drop.stands)
+
+  pub kind_is : IsKindOf a.job a
+  kind_is = (
+    λ going. subst (λ (n : ℕ). IsOnward n a.kind) (sym ch.job) (gone.onward going),
+    λ ended. subst (λ (n : ℕ). IsLast n a.kind) (sym ch.job) (gone.last ended),
+  )
 
   -- the same, as the list has it
   abbrev made : Made

@@ -1,5 +1,5 @@
 -- The step of the first job that has one (own).
-use Rattle.std.specs.Prelude.{◌≡◌, ◌≢◌, ℕ, ◌+◌, ◌*◌, ◌∷◌, List, [], length, map, Option, Some, None, option_and_then}
+use Rattle.std.specs.Prelude.{◌≡◌, ◌≢◌, ℕ, ◌+◌, ◌*◌, ◌∷◌, true, is_some, List, [], length, map, Option, Some, None, option_and_then, false}
 use Rattle.std.specs.Option.{option_map}
 use Rattle.annex_base.specs.Settings.{Settings}
 use Rattle.annex_base.specs.declared.kinds.Word.{Word}
@@ -7,7 +7,7 @@ use Rattle.run_data.specs.declared.entry.FrameView.{FrameView}
 use Rattle.run_data.specs.declared.job.Job.{Job}
 use Rattle.link_ring.specs.declared.frame.Frame.{Frame}
 use Rattle.link_ring.specs.Ends.{EndView, next_frame}
-use Rattle.node_ends.specs.Ends.{SeesEnds, end_at, link_at, wait_at}
+use Rattle.node_ends.specs.Ends.{SeesEnds, end_at, link_at, room_at, wait_at}
 use Rattle.node_model.specs.Clocks.{ClockSet, runs_on}
 use Rattle.node_model.specs.Ends.{EndName}
 use Rattle.node_model.specs.Evidence as drops
@@ -19,6 +19,7 @@ use Rattle.node_model.specs.State.{State}
 use Rattle.node_model.specs.Turns.{job_step}
 use Rattle.drop_worker.specs.declared.phase.Phase.TheVariants as phases
 use Rattle.drop_worker.specs.declared.phase.Token.TheVariants as tokens
+use Rattle.drop_worker.specs.Begun.{IsLast, IsOnward}
 use Rattle.drop_worker.specs.Worker.{Worker}
 use Rattle.drop_worker.specs.Working.{end_in, failed_in, frames_of}
 use Rattle.node_jobs.specs.declared.acted.Acted.{Acted}
@@ -43,6 +44,14 @@ with_job jobs what = record jobs { running = record { worker = new_worker jobs w
 -- the frame that is taken from the peer, at a client's end
 abbrev pub taken_by : List EndView → ℕ → Option ℕ → Option FrameView
 taken_by links slot takes = option_and_then (λ peer. wait_at links (end_in slot peer)) takes
+
+-- the entry is one that this job makes: its last, or one of its others
+abbrev pub IsKindOf : ℕ → Acted → Type 0
+IsKindOf job a = (a.ended ≡ false → IsOnward job a.kind) × (a.ended ≡ true → IsLast job a.kind)
+
+-- where a frame is taken from a peer, the end has room and a frame waits there
+abbrev pub WaitsFor : List EndView → ℕ → Option ℕ → Type 0
+WaitsFor links slot takes = (peer : ℕ) → takes ≡ Some peer → (room_at links (end_in slot peer) ≡ true) × (is_some (wait_at links (end_in slot peer)) ≡ true)
 
 -- the word beside the first frame at hand
 abbrev pub word_at : List EndView → EndName → Option Word

@@ -15,6 +15,7 @@ use Rattle.drop_worker.specs.Leaving.{stands_on}
 use Rattle.drop_worker.specs.States.{Keeps}
 use Rattle.node_jobs.specs.declared.feed.Feed.{Feed}
 use Rattle.node_jobs.specs.declared.finding.Found.{Found}
+use Rattle.node_jobs.specs.Acting.{WaitsFor}
 use Rattle.node_jobs.specs.Feeds.{IsFedAt, IsReady, SeesJob}
 use Rattle.node_jobs.specs.Places.{PlaceView}
 use Rattle.node_jobs.specs.Running.{DropJob, work_now}
@@ -34,6 +35,7 @@ pub record IsOfSlot (p : PlaceView) (clock : ClockSet) (links : List EndView) (j
   pub ready : IsReady p clock links j time feed
   pub told : ToldAt (stands_on j.worker) feed.taken
   pub fed : IsFedAt links j feed
+  pub waits : WaitsFor links j.worker.slot feed.takes
 
 pub record IsAtSlot (p : PlaceView) (clock : ClockSet) (links : List EndView) (jobs : List DropJob) (time slot : ℕ) (found : Found) : Type 0 where
   pub there : found.index < length jobs
@@ -49,6 +51,7 @@ pub record IsFirst (p : PlaceView) (clock : ClockSet) (links : List EndView) (jo
   pub ready : IsReady p clock links j time feed
   pub told : ToldAt (stands_on j.worker) feed.taken
   pub fed : IsFedAt links j feed
+  pub waits : WaitsFor links j.worker.slot feed.takes
   pub before : (slot : ℕ) → slot < j.worker.slot → IsSlotIdle p clock links jobs time slot
 
 pub record FindsFirst (p : PlaceView) (clock : ClockSet) (links : List EndView) (jobs : List DropJob) (time : ℕ) (found : Found) : Type 0 where

@@ -9,3 +9,4 @@ pub mod Finding
 pub mod Leaving
 pub mod Changes
 pub mod Ending
+pub mod Sending

@@ -73,12 +73,17 @@ abbrev pub Stands : PlaceView → Phase → Option Known → Type 0
 Stands p phase None = phase ≡ phases.Fresh
 Stands p phase (Some known) = HasBegun (place_reading p) phase
 
+-- a job that is to begin has heard nothing
+abbrev pub BeginsUnheard : DropJob → Type 0
+BeginsUnheard j = j.worker.phase ≡ phases.Fresh → j.worker.heard ≡ []
+
 -- a local drop in one of the four slots, with the token of its phase
 pub record IsDrop (p : PlaceView) (j : DropJob) : Type 0 where
   pub side : drop_side j.worker.job.kind j.worker.job.peer ≡ Local
   pub slot : j.worker.slot < 4
   pub fits : FitsLocal j.worker.phase j.worker.token
   pub stands : Stands p j.worker.phase j.known
+  pub unheard : BeginsUnheard j
 
 -- it was begun, and its token is the table's
 pub record IsOwn (begun : ℕ) (rows : Rows) (j : DropJob) : Type 0 where

@@ -17,7 +17,7 @@ ghost use Rattle.content_lock.specs.Rows.{AreAfter, Rows};
 ghost use Rattle.drop_worker.specs.Doing.{OthersStay, contents_after};
 ghost use Rattle.drop_worker.specs.States.{Keeps};
 ghost use Rattle.drop_worker.specs.Working.{failed_in};
-ghost use Rattle.node_jobs.specs.Acting.{SeesActed, SeesJobs, StepsJobs, running_now, with_job};
+ghost use Rattle.node_jobs.specs.Acting.{IsKindOf, SeesActed, SeesJobs, StepsJobs, WaitsFor, running_now, with_job};
 ghost use Rattle.node_jobs.specs.Leaving.{LeavesSo};
 ghost use Rattle.node_jobs.specs.Running.{AreWorks, Follows, IsDrop, OwnAll};
 
@@ -65,6 +65,13 @@ impl Jobs {
             running: Vec::new(alloc),
             begun: 0,
         }
+    }
+
+    /// The number of its repository.
+    pub fn number(&self) -> u32
+        ensures { result ≡ self.now.place.number }
+    {
+        self.place.number()
     }
 
     /// How many jobs were begun.
@@ -141,6 +148,9 @@ impl Jobs {
         // Of each state that these are, at a look at which the entry's call fails: the job's step is this one.
         ensures step { IfOk result (λ a. ForSome (K.contents keeper.old) (λ c. (s : SetUp) (st : State) (k : Look) → SeesJobs ends.old clock (settings_of settings.now) self.old number time s st k → Keeps table.old c st → SeesActed self.old k a
             → StepsJobs s st k ends.old self.old self.new a)) }
+        ensures waits { IfOk result (λ a. IfSome a (λ it. WaitsFor ends.old it.slot it.takes)) }
+        ensures slot { IfOk result (λ a. IfSome a (λ it. it.slot < 4)) }
+        ensures kind { IfOk result (λ a. IfSome a (λ it. IsKindOf it.job it)) }
         ensures owns { OwnAll self.new table.new }
         ensures leaves { IfOk result (LeavesSo ends.old self.old self.new table.old table.new (K.contents keeper.old) (K.contents keeper.new)) }
         ensures place { self.new.place ≡ self.old.place }

@@ -1,16 +1,23 @@
 //! The laws of running jobs. Each is the contract of a function that does nothing.
-ghost use Rattle.std.specs.Prelude.{◌≡◌, ℕ, List, [], None};
+ghost use Rattle.std.specs.Prelude.{◌≡◌, ℕ, List, [], None, Some};
+ghost use Rattle.annex_base.specs.Lists.{Each};
+ghost use Rattle.annex_base.specs.declared.kinds.Call.TheVariants.{PutFile};
+ghost use Rattle.run_data.specs.declared.entry.By.{By};
 ghost use Rattle.run_data.specs.declared.entry.Entry.{Entry};
 ghost use Rattle.run_data.specs.declared.entry.EntryKind.TheVariants as kinds;
 ghost use Rattle.node_model.specs.After.{state_after};
+ghost use Rattle.node_model.specs.Ends.{end_took, taken_at};
 ghost use Rattle.node_model.specs.Evidence as drops;
 ghost use Rattle.node_model.specs.Evidence.{standing_by};
+ghost use Rattle.node_model.specs.Look.{Look, Made};
 ghost use Rattle.node_model.specs.SetUp.{SetUp};
 ghost use Rattle.node_model.specs.Slots.{job_of};
 ghost use Rattle.node_model.specs.State.{State};
+ghost use Rattle.node_model.specs.Turns.{job_step};
 ghost use Rattle.content_lock.specs.Rows.{Rows};
 ghost use Rattle.trust_groups.specs.Settings.{Lines, settings};
-ghost use Rattle.node_jobs.specs.Running.{AreWorks, Jobs, OwnAll};
+ghost use Rattle.node_jobs.specs.Running.{AreWorks, IsDrop, Jobs, OwnAll};
+ghost use Rattle.node_jobs.specs.Sending.{IsOwnEntry, SendsWell};
 
 use log_lines::readings_are_exact;
 
@@ -21,6 +28,11 @@ pub fn jobs_stay()
         → AreWorks s (state_after s st e) jobs }
 {}
 
+/// The running jobs are those of the state after an entry that says that a line couldn't be written, whoever owed it.
+pub fn jobs_stay_where_lines_fail()
+    ensures { (s : SetUp) (st : State) (e : Entry) (jobs : Jobs) (rows : Rows) (by : By) → AreWorks s st jobs → OwnAll jobs rows → e.kind ≡ kinds.Fault PutFile by → AreWorks s (state_after s st e) jobs }
+{}
+
 /// No line of a log names a repository without an identifier, so that logs see one as a repository that is asked (git-annex
 /// internals: branch files).
 pub fn nameless_are_asked()
@@ -29,3 +41,16 @@ pub fn nameless_are_asked()
     // A law, for the proof.
     readings_are_exact();
 }
+
+/// The step of a job that drops its own copy sends each frame where it has its place, at the ends after they took the frame that
+/// the step takes: a Close at an end that is open then, any other as the first at an end with room.
+pub fn local_drops_send_where_there_is_room()
+    ensures { (s : SetUp) (st : State) (k : Look) (jobs : Jobs) (m : Made) → AreWorks s st jobs → Each (IsDrop jobs.place) jobs.running → job_step s st k ≡ Some m
+        → SendsWell (λ a. end_took (st.ends a) (taken_at a m.taken)) k.room m.sent }
+{}
+
+/// The entry that such a step makes is one of a job's: it adds no line, and takes and sends frames only at ends whose client the
+/// repository is.
+pub fn jobs_make_their_own_entries()
+    ensures { (s : SetUp) (st : State) (k : Look) (jobs : Jobs) (m : Made) → AreWorks s st jobs → Each (IsDrop jobs.place) jobs.running → job_step s st k ≡ Some m → IsOwnEntry m }
+{}

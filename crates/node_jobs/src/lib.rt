@@ -18,6 +18,9 @@ mod turning;
 
 pub use acted::Acted;
 pub use jobs::Jobs;
-pub use laws::{jobs_stay, nameless_are_asked};
+pub use laws::{
+    jobs_make_their_own_entries, jobs_stay, jobs_stay_where_lines_fail, local_drops_send_where_there_is_room,
+    nameless_are_asked,
+};
 pub use place::{Clock, Place};
 pub use refused::BeginRefused;

@@ -9,6 +9,7 @@ ghost use Rattle.drop_worker.specs.Begun.{HasBegun, IsOther};
 ghost use Rattle.drop_worker.specs.Feeding.{FitsLocal, ToldAt};
 ghost use Rattle.drop_worker.specs.Leaving.{stands_on};
 ghost use Rattle.drop_worker.specs.Working.{end_in, phase_as};
+ghost use Rattle.node_jobs.specs.Acting.{WaitsFor};
 ghost use Rattle.node_jobs.specs.Feeds.{Answers, IsFedAt, PeersOf};
 ghost use Rattle.node_jobs.specs.Running.{Stands, place_reading};
 
@@ -39,6 +40,7 @@ pub(crate) fn ready(
     ensures answers { IfOk result (Answers place.now clock ends.old job.now time) }
     ensures told { IfOk result (λ f. IfSome f (λ feed. ToldAt (stands_on job.now.worker) feed.taken)) }
     ensures fed { IfOk result (λ f. IfSome f (IsFedAt ends.old job.now)) }
+    ensures waits { IfOk result (λ f. IfSome f (λ feed. WaitsFor ends.old job.now.worker.slot feed.takes)) }
     ensures same { ends.new ≡ ends.old }
 {
     // A law, for the proof.
@@ -77,6 +79,7 @@ fn free(
     requires count { length ends.old ≡ length place.now.ids * 8 }
     ensures answers { IfOk result (Answers place.now clock ends.old job.now time) }
     ensures told { IfOk result (λ f. IfSome f (λ feed. feed.taken ≡ Taken.Nothing)) }
+    ensures takes { IfOk result (λ f. IfSome f (λ feed. feed.takes ≡ None)) }
     ensures same { ends.new ≡ ends.old }
 {
     match job.known() {

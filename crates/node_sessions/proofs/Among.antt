@@ -6,7 +6,7 @@ use Rattle.annex_base.specs.Lists.{Member}
 use Rattle.run_data.specs.declared.entry.By.{By}
 use Rattle.object_store.specs.Stores.{Contents, Parts}
 use Rattle.object_store.specs.declared.keeper.HoldRecord.{HoldRecord}
-use Rattle.content_lock.specs.Rows.{Rows}
+use Rattle.content_lock.specs.Rows.{Rows, bar_at}
 use Rattle.content_lock.specs.Tokens.{Owns, ShareView}
 use Rattle.link_ring.specs.Ends.{EndView}
 use Rattle.node_model.specs.Ends.{EndName, server_end}
@@ -69,6 +69,10 @@ pub among_fed : FedStays → (links : List EndView) (clock number at : ℕ) (xs 
 among_fed law links clock number at xs xs' rows rows' contents contents' parts parts' records records' faults faults' v a own =
     subst (λ (l : List Session). ForSome parts (λ p. FedAll p xs → ForSome parts' (λ p'. FedAll p' l))) (sym a.left)
     (fed_set law xs at a.was a.now parts parts' a.here own.apart a.serves.parts a.serves.fed)
+
+pub among_bars : (links : List EndView) (clock number at : ℕ) (xs xs' : List Session) (rows rows' : Rows) (contents contents' : Option Contents) (parts parts' : Option Parts) (records records' : Option (List HoldRecord)) (faults faults' : ℕ) (v : Served)
+    → ServesAmong links clock number at xs xs' rows rows' contents contents' parts parts' records records' faults faults' v → (key : List ℕ) → bar_at rows' key ≡ bar_at rows key
+among_bars links clock number at xs xs' rows rows' contents contents' parts parts' records records' faults faults' v a = a.serves.bars
 
 judged_one : (xs : List Session) (was : Session) (v w : Served) (x : Session) → server_in xs v ≡ Some was → IsJudgedOf was v.kind → Some v ≡ Some w → server_in xs w ≡ Some x → IsJudgedOf x w.kind
 judged_one xs was v w x is judged e found =

@@ -21,10 +21,10 @@ one_fills : (opened : Bool) (key : List ℕ) (now x : sessions.Session) → now 
 one_fills true key now x is new = ap (λ (s : sessions.Session). sessions.is_filling key s.doing) is
 one_fills false key now x is new = sym (ap (λ (s : sessions.Session). sessions.is_filling key s.doing) (sym is ∙ new refl))
 
-pub state_fills : (s : SetUp) (st : State) (xs : List Session) (key : List ℕ) → AreSessions s st.sessions xs → ((a : EndName) → (st.ends a).opened ≡ false → st.sessions a ≡ new_session)
+pub state_fills : (s : SetUp) (st : State) (xs : List Session) (key : List ℕ) → AreSessions s st.sessions xs → ((a : EndName) → a.client ≡ false → (st.ends a).opened ≡ false → st.sessions a ≡ new_session)
     → is_filled s st key ≡ (fills_in xs key || list_any (λ w. w.fills && bytes_eq w.what.key key) st.works)
 state_fills s st xs key are new =
     ap (λ (b : Bool). b || list_any (λ w. w.fills && bytes_eq w.what.key key) st.works)
     (ap (λ (cs : List (ℕ × ℕ)). list_any (λ c. model.session_fills st key (server_end c.0 c.1)) cs) (sym are.connections)
     ∙ any_same (λ c. model.session_fills st key (server_end c.0 c.1)) connection_of (session_fills key) xs
-    (λ i x at. one_fills (st.ends (end_of x)).opened key (st.sessions (end_of x)) (session_of x) (are.each i x at).session (new (end_of x))))
+    (λ i x at. one_fills (st.ends (end_of x)).opened key (st.sessions (end_of x)) (session_of x) (are.each i x at).session (new (end_of x) refl)))

@@ -13,3 +13,4 @@ pub mod Leaving
 pub mod Seeing
 pub mod Keys
 pub mod Shutting
+pub mod Making

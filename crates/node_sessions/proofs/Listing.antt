@@ -1,15 +1,20 @@
 -- Lists by their places: what holds of each element and of each two, where one changes.
-use Rattle.std.proofs.Common.{◌≡◌, ◌≢◌, ◌⊎◌, inl, inr, ℕ, zero, suc, ◌<◌, Bool, true, false, List, [], ◌∷◌, Option, Some, None, map, refl, sym, ap, subst, ◌∙◌, arith}
-use Rattle.std.specs.Prelude.{slice_get, ◌||◌, length}
+use Rattle.std.proofs.Common.{◌≡◌, ◌≢◌, ◌⊎◌, inl, inr, ℕ, zero, suc, ◌<◌, Bool, true, false, List, [], ◌∷◌, Option, Some, None, map, refl, sym, ap, subst, ◌∙◌, arith, true≢false}
+use Rattle.std.specs.Prelude.{is_some, slice_get, ◌||◌, length}
 use Rattle.std.specs.List.{find, list_any}
 use Rattle.std.proofs.Math.ListN.{set}
-use Rattle.node_model.specs.Look.{first_some}
+use Rattle.node_model.specs.Look.{first_of, first_some}
 use Rattle.node_sessions.specs.Sessions.{Every, EveryTwo}
 
 pub set_here : {X : Type 0} (xs : List X) (i : ℕ) (x : X) → i < length xs → slice_get (set xs i x) i ≡ Some x
 set_here [] i x within = absurd (omega (arith, within))
 set_here (y ∷ ys) zero x within = refl
 set_here (y ∷ ys) (suc i) x within = set_here ys i x (omega arith)
+
+pub at_within : {X : Type 0} (xs : List X) (i : ℕ) → i < length xs → (x : X) × (slice_get xs i ≡ Some x)
+at_within [] i within = absurd (omega (arith, within))
+at_within (y ∷ ys) zero within = (y, refl)
+at_within (y ∷ ys) (suc i) within = at_within ys i (omega arith)
 
 -- an element of a list where one was put is that one, or stands elsewhere
 pub set_cases : {X : Type 0} (xs : List X) (i k : ℕ) (x y : X) → slice_get (set xs i x) k ≡ Some y → ((k ≡ i) × (y ≡ x)) ⊎ ((k ≢ i) × (slice_get xs k ≡ Some y))
@@ -81,6 +86,21 @@ find_one {X} p (y ∷ ys) (suc i) x at is else =
 pub first_none : {X Y Z : Type 0} (f : Y → Option Z) (g : X → Y) (xs : List X) → Every (λ x. f (g x) ≡ None) xs → first_some f (map g xs) ≡ None
 first_none f g [] none = refl
 first_none f g (x ∷ xs) none = rw (none zero x refl) (first_none f g xs (λ i y at. none (suc i) y at))
+
+-- where one gives something, the first does
+pub first_is : {X Y Z : Type 0} (f : Y → Option Z) (g : X → Y) (xs : List X) (i : ℕ) (x : X) → slice_get xs i ≡ Some x → is_some (f (g x)) ≡ true → is_some (first_some f (map g xs)) ≡ true
+first_is f g [] i x at here = absurd cc
+first_is {X} {Y} {Z} f g (y ∷ ys) zero x at here =
+    let e : y ≡ x = cc in go (f (g y)) (ap (λ (w : X). is_some (f (g w))) e ∙ here)
+  where
+    go : (o : Option Z) → is_some o ≡ true → is_some (first_of o (first_some f (map g ys))) ≡ true
+    go None h = absurd (true≢false (sym h))
+    go (Some z) h = refl
+first_is {X} {Y} {Z} f g (y ∷ ys) (suc i) x at here = go (f (g y)) (first_is f g ys i x at here)
+  where
+    go : (o : Option Z) → is_some (first_some f (map g ys)) ≡ true → is_some (first_of o (first_some f (map g ys))) ≡ true
+    go None h = h
+    go (Some z) h = refl
 
 pub first_at : {X Y Z : Type 0} (f : Y → Option Z) (g : X → Y) (xs : List X) (i : ℕ) (x : X) (z : Z) → slice_get xs i ≡ Some x → ((k : ℕ) (y : X) → k < i → slice_get xs k ≡ Some y → f (g y) ≡ None)
     → f (g x) ≡ Some z → first_some f (map g xs) ≡ Some z

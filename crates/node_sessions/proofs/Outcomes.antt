@@ -10,7 +10,7 @@ use Rattle.run_data.specs.declared.entry.FrameText.TheVariants.{Closing}
 use Rattle.run_data.specs.declared.entry.FrameView.{FrameView}
 use Rattle.object_store.specs.Stores.{Contents, Parts}
 use Rattle.object_store.specs.declared.keeper.HoldRecord.{HoldRecord}
-use Rattle.content_lock.specs.Rows.{Rows, is_filling}
+use Rattle.content_lock.specs.Rows.{Rows, bar_at, is_filling}
 use Rattle.content_lock.specs.Stored.{Agrees}
 use Rattle.content_lock.specs.Tokens.{Owns, ShareView}
 use Rattle.link_ring.specs.declared.frame.Body.{Body}
@@ -62,6 +62,7 @@ hung_up links clock number was now rows rows' frame contents parts records fault
   stands = stands;
   makes = makes;
   after = h.after;
+  bars = h.after.bars;
   numbers = λ n more. h.numbers n (still_below number n rows.holds more fresh);
   filled = subst (λ (x : sessions.Session). FillsSo (session_of was).doing x.doing (is_filling rows) (is_filling rows')) (sym h.session) h.filled;
   parts = parts_kept (session_of was).doing parts parts refl;
@@ -113,6 +114,7 @@ pub record TookSo (clock number : ℕ) (i : Incoming) (was now : Session) (rows 
       → reply_of x ≡ on_frame (here s st k a) (st.sessions a) body
   pub keeps : (stand : Stand) (part : ℕ) (right : Bool) → Keeps rows contents stand → SeesPartOf parts was i part right → Keeps rows' contents' (stand_after x.kind stand)
   pub after : AreAfterStep x.kind rows rows'
+  pub bars : (key : List ℕ) → bar_at rows' key ≡ bar_at rows key
   pub reply : IsReplyIf x.reply
   pub numbers : (n : ℕ) → number < n → All (λ h. h.number < n) rows'.holds
   pub next : (size : List ℕ → Option ℕ) (sent : List FrameView) (f : FrameView) → Brings f.body i → SaysSo x sent → SeesSize contents i size → session_of now ≡ session_after size x.kind (session_of was) sent (Some f)
@@ -153,6 +155,7 @@ replies law links clock number i frame was now rows rows' contents contents' par
   stands = stands;
   makes = makes;
   after = subst (λ (kind : EntryKind). AreAfterStep kind rows rows') (sym y.kind) t.after;
+  bars = t.bars;
   numbers = t.numbers;
   filled = t.filled;
   parts = subst (λ (o : Option Parts). LeavesParts (session_of was).doing parts o) (sym t.parts_are) (parts_stay was.doing i x.kind parts);
@@ -239,6 +242,7 @@ gives_so links clock number was now rows contents contents' parts parts' records
   stands = stands;
   makes = makes;
   after = so.1;
+  bars = λ key. refl;
   numbers = λ n more. still_below number n rows.holds more ready.fresh;
   filled = giving_fills_so m (session_of was) (session_of now) (is_filling rows) w.gives t.next;
   parts = parts_kept (session_of was).doing parts parts' t.same_parts;

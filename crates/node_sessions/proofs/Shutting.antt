@@ -1,24 +1,29 @@
 -- After a step of the sessions the session of an end that is closed is new.
 use Rattle.std.proofs.Common.{◌≡◌, ℕ, Bool, true, false, List, [], ◌∷◌, Option, Some, None, refl, sym, ap, subst, ◌∙◌, arith, true≢false}
-use Rattle.std.specs.Prelude.{◌&&◌, ◌==◌, if◌then◌else◌, fold, is_some}
+use Rattle.std.specs.Prelude.{◌&&◌, ◌==◌, if◌then◌else◌, fold, is_some, slice_get}
 use Rattle.std.specs.Option.{ForSome}
 use Rattle.std.proofs.lemmas.Bool.{and_parts}
 use Rattle.std.proofs.lemmas.Bool.Decides.{nat_tests}
+use Rattle.run_data.specs.declared.entry.Entry.{Entry}
 use Rattle.run_data.specs.declared.entry.EntryKind.{EntryKind}
 use Rattle.run_data.specs.declared.entry.FrameText.{FrameText}
 use Rattle.run_data.specs.declared.entry.FrameText.TheVariants.{Opening, Closing, Line, Bytes}
 use Rattle.run_data.specs.declared.entry.FrameView.{FrameView}
 use Rattle.link_ring.specs.Ends.{EndView}
+use Rattle.node_model.specs.After.{state_after}
 use Rattle.node_model.specs.Ends.{End, EndName, end_sends, end_took, frames, same_bool, sent_at, server_end, taken_at, takes_at}
 use Rattle.node_model.specs.Look.{Made}
 use Rattle.node_model.specs.Sessions as sessions
 use Rattle.node_model.specs.Sessions.{new_session, sends_close, session_after, session_goes, session_left, session_took}
+use Rattle.node_model.specs.SetUp.{SetUp}
 use Rattle.node_model.specs.State.{State}
 use Rattle.node_ends.specs.declared.sending.Sending.{Sending}
 use Rattle.node_ends.specs.declared.sending.Sending.TheVariants as sendings
 use Rattle.node_ends.specs.Ends.{end_at, wait_at}
+use Rattle.p2p_server.specs.declared.session.Session.{Session}
 use Rattle.node_sessions.specs.declared.served.Served.{Served}
 use Rattle.node_sessions.specs.Serving.{IsTalk, ServesAt, end_by, ends_after, made_by, says_by, says_in, sessions_after, taken_by}
+use Rattle.node_sessions.specs.Sessions.{AreSessions, IsSessionOf, end_of}
 use Rattle.node_sessions.proofs.Answering.{still_open}
 use Rattle.node_sessions.proofs.Framing.{IsFrameAt, sent_mine, waits_form}
 use Rattle.node_sessions.proofs.Stepping.{taken_own, taken_waits}
@@ -133,8 +138,8 @@ shut_own links v st h ends shut =
     ap (λ (o : Option FrameView). session_after st.content v.kind (st.sessions b) (sent_at b sent) o) t ∙ ap (λ (fs : List FrameView). session_after st.content v.kind (st.sessions b) fs taken) s
     ∙ own_new st.content v.kind (st.sessions b) b c d taken v.reply v.close h.talk (taken_form links v) (none_opened links v h) after
 
-pub shut_some : (links : List EndView) (v : Served) (st : State) → ServesAt links v → st.ends (end_by v) ≡ end_at links (end_by v) → ((a : EndName) → (st.ends a).opened ≡ false → st.sessions a ≡ new_session) → (a : EndName) → shut_at st (Some (made_by links v)) a
-shut_some links v st h ends was a = go (meets (end_by v) a) refl
+pub shut_some : (links : List EndView) (v : Served) (st : State) → ServesAt links v → st.ends (end_by v) ≡ end_at links (end_by v) → ((a : EndName) → a.client ≡ false → (st.ends a).opened ≡ false → st.sessions a ≡ new_session) → (a : EndName) → a.client ≡ false → shut_at st (Some (made_by links v)) a
+shut_some links v st h ends was a server = go (meets (end_by v) a) refl
   where
     go : (t : Bool) → meets (end_by v) a ≡ t → shut_at st (Some (made_by links v)) a
     go true is = subst (shut_at st (Some (made_by links v))) (same_end v.peer v.slot a is) (shut_own links v st h ends)
@@ -144,4 +149,19 @@ shut_some links v st h ends was a = go (meets (end_by v) a) refl
         let t : taken_at a m.taken ≡ None = untaken links v.peer v.slot a (taken_by links v) is (taken_waits links v (end_by v) refl) in
         let before : (st.ends a).opened ≡ false =
         sym (ap (λ (o : Option FrameView). (sends_on (end_took (st.ends a) o) (sent_at a m.sent)).opened) t ∙ ap (λ (fs : List FrameView). (sends_on (st.ends a) fs).opened) s) ∙ shut in
-        ap (λ (o : Option FrameView). session_after st.content m.kind (st.sessions a) (sent_at a m.sent) o) t ∙ ap (λ (fs : List FrameView). session_after st.content m.kind (st.sessions a) fs None) s ∙ was a before
+        ap (λ (o : Option FrameView). session_after st.content m.kind (st.sessions a) (sent_at a m.sent) o) t ∙ ap (λ (fs : List FrameView). session_after st.content m.kind (st.sessions a) fs None) s ∙ was a server before
+
+-- ---- an entry that takes and sends nothing at a server's end
+
+pub sessions_kept : (s : SetUp) (st : State) (e : Entry) (xs : List Session) → AreSessions s st.sessions xs → ((a : EndName) → a.client ≡ false → (taken_at a e.taken ≡ None) × (sent_at a e.sent ≡ [])) → AreSessions s (state_after s st e).sessions xs
+sessions_kept s st e xs are none = record { connections = are.connections; each = λ i x at. kept i x at (none (end_of x) refl) }
+  where
+    kept : (i : ℕ) (x : Session) → slice_get xs i ≡ Some x → (taken_at (end_of x) e.taken ≡ None) × (sent_at (end_of x) e.sent ≡ []) → IsSessionOf s (state_after s st e).sessions x
+    kept i x at h =
+        let was : IsSessionOf s st.sessions x = are.each i x at in record {
+          id = was.id;
+          version = was.version;
+          locks = was.locks;
+          session = ap (λ (o : Option FrameView). session_after st.content e.kind (st.sessions (end_of x)) (sent_at (end_of x) e.sent) o) (h.0)
+              ∙ ap (λ (fs : List FrameView). session_after st.content e.kind (st.sessions (end_of x)) fs None) (h.1) ∙ was.session;
+        }

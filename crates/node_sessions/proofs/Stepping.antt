@@ -1,6 +1,6 @@
 -- The step of a state's sessions, by what one of them served.
 use Rattle.std.proofs.Common.{◌≡◌, ◌≢◌, ℕ, ◌<◌, Bool, true, false, List, [], Option, Some, None, refl, sym, ap, subst, ◌∙◌}
-use Rattle.std.specs.Prelude.{slice_get, ◌&&◌, ◌==◌, if◌then◌else◌}
+use Rattle.std.specs.Prelude.{is_some, slice_get, ◌&&◌, ◌==◌, if◌then◌else◌}
 use Rattle.std.proofs.Math.ListN.{set}
 use Rattle.run_data.specs.declared.entry.EntryKind.{EntryKind}
 use Rattle.run_data.specs.declared.entry.FrameText.{FrameText}
@@ -13,10 +13,10 @@ use Rattle.node_model.specs.Ends.{End, EndName, end_took, frames, sent_at, serve
 use Rattle.node_model.specs.Look.{Look, Made, first_some}
 use Rattle.node_model.specs.Sessions as sessions
 use Rattle.node_model.specs.Sessions.{session_after}
-use Rattle.node_model.specs.SessionStep.{here, session_at}
+use Rattle.node_model.specs.SessionStep.{here, session_at, session_step}
 use Rattle.node_model.specs.SetUp.{SetUp}
 use Rattle.node_model.specs.State.{State}
-use Rattle.node_ends.specs.Ends.{end_at, room_at, wait_at}
+use Rattle.node_ends.specs.Ends.{AreEnds, SeesEnds, end_at, room_at, wait_at}
 use Rattle.p2p_server.specs.declared.session.Session.{Session}
 use Rattle.p2p_server.specs.Stepping.{moment_of}
 use Rattle.p2p_server.specs.Talking.{place_of, session_of}
@@ -24,25 +24,62 @@ use Rattle.node_sessions.specs.declared.served.Served.{Served}
 use Rattle.node_sessions.specs.Moments.{Makes, SeesOne, Serves}
 use Rattle.node_sessions.specs.Serving.{Sees, SeesPartAt, StepsSo, end_by, made_by, says_by, sessions_after, taken_by}
 use Rattle.node_sessions.specs.Sessions.{AreSessions, Differ, Every, EveryTwo, HaveEnds, IsSessionOf, connection_of, end_of}
-use Rattle.node_sessions.specs.Turns.{turn_at}
+use Rattle.node_sessions.specs.declared.turn.First.{First}
+use Rattle.node_sessions.specs.declared.turn.Turn.{Turn}
+use Rattle.node_sessions.specs.Turns.{IsFirst, IsFirstAt, turn_at}
 use Rattle.node_sessions.proofs.Framing.{sent_else, sent_mine, taken_else, taken_mine, waits_form}
-use Rattle.node_sessions.proofs.Listing.{Every-set, first_at, first_none, map_set}
+use Rattle.node_sessions.proofs.Listing.{Every-set, at_within, first_at, first_is, first_none, map_set}
 use Rattle.node_sessions.proofs.Standing.{server_is}
-use Rattle.node_sessions.proofs.Turning.{FramesWait, end_among, idle_at, step_at}
+use Rattle.node_sessions.proofs.Turning.{FramesWait, busy_at, end_among, idle_at, step_at}
 
 -- ---- a session without a turn has no step
 
-idle_step : FramesWait → (links : List EndView) (rows : Rows) (contents : Option Contents) (parts : Option Parts) (clock number : ℕ) (xs : List Session) (o : Option Served) (s : SetUp) (st : State) (k : Look)
-    → HaveEnds links xs → Sees links rows contents parts clock number xs o s st k → (i : ℕ) (x : Session) → slice_get xs i ≡ Some x → turn_at links x ≡ None → session_at s st k (end_of x) ≡ None
-idle_step law links rows contents parts clock number xs o s st k there sees i x at none =
+-- the state and the look are what the ends and the sessions are
+pub record SeesSessions (links : List EndView) (xs : List Session) (s : SetUp) (st : State) (k : Look) : Type 0 where
+  pub ends : AreEnds links s st
+  pub look : SeesEnds links s k
+  pub sessions : AreSessions s st.sessions xs
+
+sessions_seen : (links : List EndView) (rows : Rows) (contents : Option Contents) (parts : Option Parts) (clock number : ℕ) (xs : List Session) (o : Option Served) (s : SetUp) (st : State) (k : Look)
+    → Sees links rows contents parts clock number xs o s st k → SeesSessions links xs s st k
+sessions_seen links rows contents parts clock number xs o s st k sees = record { ends = sees.ends; look = sees.look; sessions = sees.sessions }
+
+idle_step : FramesWait → (links : List EndView) (xs : List Session) (s : SetUp) (st : State) (k : Look)
+    → HaveEnds links xs → SeesSessions links xs s st k → (i : ℕ) (x : Session) → slice_get xs i ≡ Some x → turn_at links x ≡ None → session_at s st k (end_of x) ≡ None
+idle_step law links xs s st k there sees i x at none =
     step_at law links s st k (end_of x) sees.ends sees.look (end_among s xs i x sees.sessions.connections at) (there i x at)
     ∙ rw (sees.sessions.each i x at).session (idle_at (here s st k (end_of x)) links x none)
+
+pub none_made : FramesWait → (links : List EndView) (xs : List Session) (s : SetUp) (st : State) (k : Look)
+    → HaveEnds links xs → Every (λ x. turn_at links x ≡ None) xs → SeesSessions links xs s st k → session_step s st k ≡ None
+none_made law links xs s st k there none sees =
+    ap (λ (cs : List (ℕ × ℕ)). first_some (λ c. session_at s st k (server_end c.0 c.1)) cs) (sym sees.sessions.connections)
+    ∙ first_none (λ c. session_at s st k (server_end c.0 c.1)) connection_of xs (λ i x at. idle_step law links xs s st k there sees i x at (none i x at))
+
+-- a session with a turn has a step
+busy_step : FramesWait → (links : List EndView) (xs : List Session) (s : SetUp) (st : State) (k : Look)
+    → HaveEnds links xs → SeesSessions links xs s st k → (i : ℕ) (x : Session) (turn : Turn) → slice_get xs i ≡ Some x → turn_at links x ≡ Some turn → is_some (session_at s st k (end_of x)) ≡ true
+busy_step law links xs s st k there sees i x turn at is =
+    ap is_some (step_at law links s st k (end_of x) sees.ends sees.look (end_among s xs i x sees.sessions.connections at) (there i x at))
+    ∙ rw (sees.sessions.each i x at).session (busy_at (here s st k (end_of x)) links x turn is)
+
+some_made : FramesWait → (links : List EndView) (xs : List Session) (s : SetUp) (st : State) (k : Look) (first : First)
+    → HaveEnds links xs → IsFirstAt links xs first → SeesSessions links xs s st k → is_some (session_step s st k) ≡ true
+some_made law links xs s st k first there is sees =
+    let w = at_within xs first.at is.within in
+    ap (λ (cs : List (ℕ × ℕ)). is_some (first_some (λ c. session_at s st k (server_end c.0 c.1)) cs)) (sym sees.sessions.connections)
+    ∙ first_is (λ c. session_at s st k (server_end c.0 c.1)) connection_of xs first.at (w.0) (w.1) (busy_step law links xs s st k there sees first.at (w.0) first.turn (w.1) (is.here (w.0) (w.1)))
+
+-- there is a step where one has a turn
+pub is_made : FramesWait → (links : List EndView) (xs : List Session) (o : Option First) → HaveEnds links xs → IsFirst links xs o
+    → (s : SetUp) (st : State) (k : Look) → AreEnds links s st → SeesEnds links s k → AreSessions s st.sessions xs → is_some (session_step s st k) ≡ is_some o
+is_made law links xs None there first s st k ends look are = ap is_some (none_made law links xs s st k there first (record { ends = ends; look = look; sessions = are }))
+is_made law links xs (Some f) there first s st k ends look are = some_made law links xs s st k f there first (record { ends = ends; look = look; sessions = are })
 
 pub none_steps : FramesWait → (links : List EndView) (rows : Rows) (contents : Option Contents) (parts : Option Parts) (clock number : ℕ) (xs : List Session) (s : SetUp) (st : State) (k : Look)
     → HaveEnds links xs → Every (λ x. turn_at links x ≡ None) xs → Sees links rows contents parts clock number xs None s st k → StepsSo links None xs rows contents s st k
 none_steps law links rows contents parts clock number xs s st k there none sees = record {
-  made = ap (λ (cs : List (ℕ × ℕ)). first_some (λ c. session_at s st k (server_end c.0 c.1)) cs) (sym sees.sessions.connections)
-      ∙ first_none (λ c. session_at s st k (server_end c.0 c.1)) connection_of xs (λ i x at. idle_step law links rows contents parts clock number xs None s st k there sees i x at (none i x at));
+  made = none_made law links xs s st k there none (sessions_seen links rows contents parts clock number xs None s st k sees);
   next = record { connections = sees.sessions.connections; each = λ i x at. sees.sessions.each i x at };
   keeps = sees.keeps;
 }
@@ -153,7 +190,7 @@ pub some_steps : FramesWait → (links : List EndView) (clock number : ℕ) (row
 some_steps law links clock number rows rows' contents contents' parts parts' records records' faults faults' xs i was now v s st k there at before apart serves sees = record {
   made = ap (λ (cs : List (ℕ × ℕ)). first_some (λ c. session_at s st k (server_end c.0 c.1)) cs) (sym sees.sessions.connections)
       ∙ first_at (λ c. session_at s st k (server_end c.0 c.1)) connection_of xs i was (made_by links v) at
-      (λ j y less aty. idle_step law links rows contents parts clock number xs (Some v) s st k there sees j y aty (before j y less aty)) here;
+      (λ j y less aty. idle_step law links xs s st k there (sessions_seen links rows contents parts clock number xs (Some v) s st k sees) j y aty (before j y less aty)) here;
   next = next_sessions links v xs i was now s st at apart serves.at serves.place sees.sessions makes.next;
   keeps = makes.keeps;
 }

@@ -113,6 +113,27 @@ has_turn links x turn e = go (room_at links (end_of x)) refl e
     go true is e' = record { room = is; with = e' }
     go false is e' = absurd cc
 
+busy_makes : (h : Here) (c : End) (was : sessions.Session) (o : Option FrameView) (turn : Turn) → turn_with o (c.opened && is_giving was.doing) ≡ Some turn → is_some (session_makes h c was o) ≡ true
+busy_makes h c was (Some f) turn e = refl
+busy_makes h c was None turn e = go c.opened was.doing e
+  where
+    go : (b : Bool) (d : sessions.Doing) → (if b && is_giving d then Some Gives else None) ≡ Some turn → is_some (if b then gives_made h.at c (gives_next h d) else None) ≡ true
+    go true (sessions.Gives key at left good) e = refl
+    go true sessions.Waits e = absurd cc
+    go true (sessions.Guards hold key) e = absurd cc
+    go true sessions.Gave e = absurd cc
+    go true (sessions.Wants key size) e = absurd cc
+    go true (sessions.Takes key size left) e = absurd cc
+    go true (sessions.Took key size) e = absurd cc
+    go false d e = absurd cc
+
+pub busy_at : (h : Here) (links : List EndView) (x : Session) (turn : Turn) → turn_at links x ≡ Some turn
+    → is_some (makes_if (room_at links (end_of x)) (session_makes h (end_at links (end_of x)) (session_of x) (wait_at links (end_of x)))) ≡ true
+busy_at h links x turn e =
+    let t = has_turn links x turn e in
+    ap (λ (b : Bool). is_some (makes_if b (session_makes h (end_at links (end_of x)) (session_of x) (wait_at links (end_of x))))) t.room
+    ∙ busy_makes h (end_at links (end_of x)) (session_of x) (wait_at links (end_of x)) turn t.with
+
 pub takes_waits : (o : Option FrameView) (b : Bool) → turn_with o b ≡ Some Takes → is_some o ≡ true
 takes_waits (Some f) b e = refl
 takes_waits None true e = absurd cc

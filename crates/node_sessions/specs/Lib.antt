@@ -1,6 +1,7 @@
 -- The definitions of this crate.
 pub mod Sessions
 pub mod Words
+pub mod Kinds
 pub mod Serving
 pub mod Turns
 pub mod Moments

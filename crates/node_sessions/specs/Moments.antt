@@ -4,7 +4,7 @@ use Rattle.std.specs.Option.{ForSome}
 use Rattle.annex_base.specs.Causes.{Rose}
 use Rattle.object_store.specs.Stores.{Contents, Parts}
 use Rattle.object_store.specs.declared.keeper.HoldRecord.{HoldRecord}
-use Rattle.content_lock.specs.Rows.{Rows, is_filling}
+use Rattle.content_lock.specs.Rows.{Rows, bar_at, is_filling}
 use Rattle.content_lock.specs.Stored.{Agrees}
 use Rattle.content_lock.specs.Tokens.{Owns}
 use Rattle.link_ring.specs.declared.frame.Frame.{Frame}
@@ -72,6 +72,7 @@ pub record Serves (links : List EndView) (clock number : ℕ) (was now : Moment)
   pub stands : ServesAt links v
   pub makes : (s : SetUp) (st : State) (k : Look) → SeesOne links clock number was v s st k → Makes links was now v s st k
   pub after : AreAfterStep v.kind was.rows now.rows
+  pub bars : (key : List ℕ) → bar_at now.rows key ≡ bar_at was.rows key
   pub numbers : (n : ℕ) → number < n → All (λ h. h.number < n) now.rows.holds
   pub filled : FillsSo (session_of was.session).doing (session_of now.session).doing (is_filling was.rows) (is_filling now.rows)
   pub parts : LeavesParts (session_of was.session).doing was.parts now.parts

@@ -1,5 +1,5 @@
 //! The answer to a frame.
-ghost use Rattle.std.specs.Prelude.{◌≡◌, ◌≤◌, ◌+◌, ◌<◌, ◌^◌, ℕ, Bool, List, All, true, false, Some, None, IfOk, OnErr};
+ghost use Rattle.std.specs.Prelude.{◌≡◌, ◌≤◌, ◌+◌, ◌<◌, ◌^◌, ℕ, Bool, List, All, true, false, Some, None, IfOk, OnErr, is_some};
 ghost use Rattle.std.specs.Option.{ForSome};
 ghost use Rattle.link_ring.specs.Ends.{EndView};
 ghost use Rattle.content_lock.specs.Stored.{Agrees};
@@ -104,6 +104,8 @@ fn reply_to<K: Keeper>(
     ensures err_contents { OnErr result (K.contents keeper.new ≡ K.contents keeper.old) }
     ensures err_parts { OnErr result (K.parts keeper.new ≡ K.parts keeper.old) }
     ensures err_records { OnErr result (K.records keeper.new ≡ K.records keeper.old) }
+    ensures files { K.files keeper.new ≡ K.files keeper.old }
+    ensures told { is_some (K.parts keeper.old) ≡ true → is_some (K.contents keeper.new) ≡ is_some (K.contents keeper.old) }
     ensures later { K.faults keeper.old ≤ K.faults keeper.new }
 {
     // For the proof, which cites it.
@@ -137,6 +139,8 @@ pub(crate) fn answer<K: Keeper>(
     ensures err_contents { OnErr result (K.contents keeper.new ≡ K.contents keeper.old) }
     ensures err_parts { OnErr result (K.parts keeper.new ≡ K.parts keeper.old) }
     ensures err_records { OnErr result (K.records keeper.new ≡ K.records keeper.old) }
+    ensures files { K.files keeper.new ≡ K.files keeper.old }
+    ensures told { is_some (K.parts keeper.old) ≡ true → is_some (K.contents keeper.new) ≡ is_some (K.contents keeper.old) }
     ensures later { K.faults keeper.old ≤ K.faults keeper.new }
 {
     match &frame.body {

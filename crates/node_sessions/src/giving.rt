@@ -86,6 +86,7 @@ pub(crate) fn give<K: Keeper>(
     ensures contents { K.contents keeper.new ≡ K.contents keeper.old }
     ensures parts { K.parts keeper.new ≡ K.parts keeper.old }
     ensures records { K.records keeper.new ≡ K.records keeper.old }
+    ensures files { K.files keeper.new ≡ K.files keeper.old }
     ensures later { K.faults keeper.old ≤ K.faults keeper.new }
 {
     let room = Room::new(alloc)?;

@@ -15,6 +15,9 @@ mod sessions;
 mod turn;
 mod words;
 
-pub use laws::{looks_see_parts, sessions_and_jobs_fill, sessions_of_closed_ends_are_new};
+pub use laws::{
+    looks_see_parts, sessions_and_jobs_fill, sessions_make_their_own_entries,
+    sessions_of_closed_ends_are_new, sessions_stay,
+};
 pub use served::Served;
 pub use sessions::Sessions;

@@ -45,6 +45,8 @@ fn act<K: Keeper>(
     ensures err_contents { OnErr result (K.contents keeper.new ≡ K.contents keeper.old) }
     ensures err_parts { OnErr result (K.parts keeper.new ≡ K.parts keeper.old) }
     ensures err_records { OnErr result (K.records keeper.new ≡ K.records keeper.old) }
+    ensures files { K.files keeper.new ≡ K.files keeper.old }
+    ensures told { is_some (K.parts keeper.old) ≡ true → is_some (K.contents keeper.new) ≡ is_some (K.contents keeper.old) }
     ensures later { K.faults keeper.old ≤ K.faults keeper.new }
 {
     match turn {
@@ -83,6 +85,8 @@ pub(crate) fn serve<K: Keeper>(
     ensures err_contents { OnErr result (K.contents keeper.new ≡ K.contents keeper.old) }
     ensures err_parts { OnErr result (K.parts keeper.new ≡ K.parts keeper.old) }
     ensures err_records { OnErr result (K.records keeper.new ≡ K.records keeper.old) }
+    ensures files { K.files keeper.new ≡ K.files keeper.old }
+    ensures told { is_some (K.parts keeper.old) ≡ true → is_some (K.contents keeper.new) ≡ is_some (K.contents keeper.old) }
     ensures later { K.faults keeper.old ≤ K.faults keeper.new }
 {
     let session = &mut sessions[first.at];

@@ -1,5 +1,5 @@
 //! The sessions of a repository.
-ghost use Rattle.std.specs.Prelude.{◌≡◌, ◌≤◌, ◌+◌, ◌*◌, ◌<◌, ◌^◌, ◌||◌, ℕ, Bool, List, All, true, false, Some, None, IfOk, IfSome, OnErr, length, map};
+ghost use Rattle.std.specs.Prelude.{◌≡◌, ◌≤◌, ◌+◌, ◌*◌, ◌<◌, ◌^◌, ◌||◌, ℕ, Bool, List, All, true, false, Some, None, IfOk, IfSome, OnErr, is_some, length, map};
 ghost use Rattle.std.specs.declared.option.Option.{Option};
 ghost use Rattle.std.specs.Option.{ForSome};
 ghost use Rattle.annex_base.specs.Causes.{Rose};
@@ -16,8 +16,10 @@ ghost use Rattle.node_model.specs.Ends.{End};
 ghost use Rattle.node_model.specs.Look.{Look};
 ghost use Rattle.node_model.specs.Sessions.{new_session};
 ghost use Rattle.node_model.specs.Rows.{holds_after};
+ghost use Rattle.node_model.specs.SessionStep.{session_step};
 ghost use Rattle.node_model.specs.SetUp.{SetUp};
 ghost use Rattle.node_model.specs.State.{State};
+ghost use Rattle.node_ends.specs.Ends.{AreEnds, SeesEnds};
 ghost use Rattle.p2p_server.specs.Talking.{AreAfterStep, place_of};
 ghost use Rattle.node_sessions.specs.Serving.{AreAfterIf, JudgedBy, Sees, ServesIf, StepsSo, closing_made, failed_by, sessions_after};
 ghost use Rattle.node_sessions.specs.Sessions.{AreFilled, AreSessions, FedAll, HaveEnds, IsOther, IsSetUp, LeavesPartsOf, OwnAll, connection_of, fills_in};
@@ -114,6 +116,19 @@ impl Sessions {
         end_all(list, table);
     }
 
+    /// Whether a session has a step: its end has room, and a frame waits there, or it is sending a content on an open connection.
+    pub fn is_ready(&self, ends: &mut Ends) -> bool
+        requires there { HaveEnds ends.old self.now }
+
+        // Of each state and look that these are: the state's sessions have a step.
+        ensures ready { (s : SetUp) (st : State) (k : Look) → AreEnds ends.old s st → SeesEnds ends.old s k → AreSessions s st.sessions self.now → is_some (session_step s st k) ≡ result }
+        ensures ends { ends.new ≡ ends.old }
+    {
+        // For the proof, which cites it.
+        frames_wait_at_ends();
+        first_turn(&self.list, ends).is_some()
+    }
+
     /// The step of the sessions: the first that has a step makes it, and the answer says what is to be done at its end. A session
     /// has a step where its end has room and a frame waits there, or it is sending a content on an open connection. The clock is
     /// the repository's, in milliseconds; the number is that of the entry that is to be made. After NoMemory all is as before.
@@ -139,9 +154,11 @@ impl Sessions {
         ensures serves { IfOk result (ServesIf ends.old) }
         ensures among { IfOk result (λ o. ForSome o (λ v. Member (v.peer, v.slot) (map connection_of self.old))) }
         ensures same { ends.new ≡ ends.old }
+        ensures idle { IfOk result (λ o. o ≡ None → self.new ≡ self.old) }
 
         // The holds and bars are those that the entry leaves, also where the store doesn't tell its contents.
         ensures after { IfOk result (λ o. AreAfterIf o table.old table.new) }
+        ensures bars { (key : List ℕ) → bar_at table.new key ≡ bar_at table.old key }
         ensures numbers { (n : ℕ) → number < n → All (λ h. h.number < n) table.new.holds }
         ensures owns { OwnAll table.new self.new }
         ensures places { map place_of self.new ≡ map place_of self.old }
@@ -152,6 +169,10 @@ impl Sessions {
         ensures filled { (others : List ℕ → Bool) → AreFilled table.old self.old others → AreFilled table.new self.new others }
         ensures parts { LeavesPartsOf self.old (K.parts keeper.old) (K.parts keeper.new) }
         ensures fed { ForSome (K.parts keeper.old) (λ p. FedAll p self.old → ForSome (K.parts keeper.new) (λ p'. FedAll p' self.new)) }
+
+        // The files stay, and a store that tells its parts and its contents goes on to tell its contents.
+        ensures files { K.files keeper.new ≡ K.files keeper.old }
+        ensures told { is_some (K.parts keeper.old) ≡ true → is_some (K.contents keeper.new) ≡ is_some (K.contents keeper.old) }
 
         ensures judged { IfOk result (JudgedBy self.old) }
         ensures agrees { Agrees (K.records keeper.new) table.new.holds }

@@ -15,5 +15,6 @@ pub mod Moves
 pub mod Reading
 pub mod Stepping
 pub mod Taking
+pub mod Telling
 pub mod Unexpected
 pub mod Waiting

@@ -1,5 +1,5 @@
 //! Answers by the row of a key: whether its content is there, a hold on it, and its removal.
-ghost use Rattle.std.specs.Prelude.{◌≡◌, ◌≤◌, ◌+◌, ◌/◌, ◌<◌, ◌^◌, ℕ, Bool, List, [], ◌∷◌, false, Some, None, All, IfOk, OnOk, OnErr, IfSome, IfNone};
+ghost use Rattle.std.specs.Prelude.{◌≡◌, ◌≤◌, ◌+◌, ◌/◌, ◌<◌, ◌^◌, ℕ, Bool, List, [], ◌∷◌, false, Some, None, All, IfOk, OnOk, OnErr, IfSome, IfNone, is_some};
 ghost use Rattle.std.specs.declared.option.Option.{Option};
 ghost use Rattle.std.specs.Option.{ForSome};
 ghost use Rattle.annex_base.specs.Causes.{Rose};
@@ -88,6 +88,8 @@ pub(crate) fn check_present<K: Keeper>(
     ensures fits { Fits scene.number result }
     ensures parts { K.parts keeper.new ≡ K.parts keeper.old }
     ensures records { K.records keeper.new ≡ K.records keeper.old }
+    ensures files { K.files keeper.new ≡ K.files keeper.old }
+    ensures told { is_some (K.contents keeper.new) ≡ is_some (K.contents keeper.old) }
     ensures later { K.faults keeper.old ≤ K.faults keeper.new }
     ensures cause { IfSome (failed_in result.kind) (λ call. Rose (K.faults keeper.old) (K.faults keeper.new)) }
 {
@@ -111,6 +113,8 @@ pub(crate) fn remove<K: Keeper>(scene: Scene, table: &LockTable, keeper: &mut K,
     ensures fits { Fits scene.number result }
     ensures parts { K.parts keeper.new ≡ K.parts keeper.old }
     ensures records { K.records keeper.new ≡ K.records keeper.old }
+    ensures files { K.files keeper.new ≡ K.files keeper.old }
+    ensures told { is_some (K.contents keeper.new) ≡ is_some (K.contents keeper.old) }
     ensures later { K.faults keeper.old ≤ K.faults keeper.new }
     ensures cause { IfSome (failed_in result.kind) (λ call. Rose (K.faults keeper.old) (K.faults keeper.new)) }
 {
@@ -144,6 +148,8 @@ pub(crate) fn remove_before<K: Keeper>(
     ensures fits { Fits scene.number result }
     ensures parts { K.parts keeper.new ≡ K.parts keeper.old }
     ensures records { K.records keeper.new ≡ K.records keeper.old }
+    ensures files { K.files keeper.new ≡ K.files keeper.old }
+    ensures told { is_some (K.contents keeper.new) ≡ is_some (K.contents keeper.old) }
     ensures later { K.faults keeper.old ≤ K.faults keeper.new }
     ensures cause { IfSome (failed_in result.kind) (λ call. Rose (K.faults keeper.old) (K.faults keeper.new)) }
 {
@@ -179,6 +185,8 @@ pub(crate) fn lock<K: Keeper>(
     ensures err_contents { OnErr result (K.contents keeper.new ≡ K.contents keeper.old) }
     ensures parts { K.parts keeper.new ≡ K.parts keeper.old }
     ensures err_records { OnErr result (K.records keeper.new ≡ K.records keeper.old) }
+    ensures files { K.files keeper.new ≡ K.files keeper.old }
+    ensures told { is_some (K.contents keeper.new) ≡ is_some (K.contents keeper.old) }
     ensures agrees { Agrees (K.records keeper.new) table.new.holds }
     ensures later { K.faults keeper.old ≤ K.faults keeper.new }
     ensures cause { IfOk result (λ r. IfSome (failed_in r.0.kind) (λ call. Rose (K.faults keeper.old) (K.faults keeper.new))) }

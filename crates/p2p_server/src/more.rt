@@ -58,6 +58,7 @@ pub(crate) fn next_of<K: Keeper>(
     ensures contents { K.contents keeper.new ≡ K.contents keeper.old }
     ensures parts { K.parts keeper.new ≡ K.parts keeper.old }
     ensures records { K.records keeper.new ≡ K.records keeper.old }
+    ensures files { K.files keeper.new ≡ K.files keeper.old }
     ensures later { K.faults keeper.old ≤ K.faults keeper.new }
     ensures cause { IfOk result (λ more. IfSome (failed_more more) (λ call. Rose (K.faults keeper.old) (K.faults keeper.new))) }
 {

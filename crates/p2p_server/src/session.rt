@@ -1,5 +1,5 @@
 //! A session at a server's end of a connection.
-ghost use Rattle.std.specs.Prelude.{◌≡◌, ◌≤◌, ◌+◌, ◌<◌, ◌^◌, ℕ, Bool, List, length, All, min, codes, true, false, Some, None, IfOk, OnOk, OnErr, IfSome};
+ghost use Rattle.std.specs.Prelude.{◌≡◌, ◌≤◌, ◌+◌, ◌<◌, ◌^◌, ℕ, Bool, List, length, All, min, codes, true, false, Some, None, IfOk, OnOk, OnErr, IfSome, is_some};
 ghost use Rattle.std.specs.declared.option.Option.{Option};
 ghost use Rattle.std.specs.Option.{ForSome};
 ghost use Rattle.annex_base.specs.Causes.{Rose};
@@ -155,9 +155,11 @@ impl Session {
         requires early { scene.clock + 600000 < 2 ^ 62 }
         requires fresh { All (λ h. h.number < scene.number) table.old.holds }
         requires waits { self.old.doing ≡ Doing.Waits }
-        ensures { Goes scene (Incoming.Message (Message.LockContent key.now))
+        ensures goes { Goes scene (Incoming.Message (Message.LockContent key.now))
             (moment_of self.old table.old (K.contents keeper.old) (K.parts keeper.old) (K.records keeper.old) (K.faults keeper.old))
             (moment_of self.new table.new (K.contents keeper.new) (K.parts keeper.new) (K.records keeper.new) (K.faults keeper.new)) result }
+        ensures files { K.files keeper.new ≡ K.files keeper.old }
+        ensures told { is_some (K.contents keeper.new) ≡ is_some (K.contents keeper.old) }
     {
         let key = key.copy()?;
         let (step, share) = answers::lock(scene, table, keeper, key)?;
@@ -183,9 +185,11 @@ impl Session {
         requires agrees { Agrees (K.records keeper.old) table.now.holds }
         requires waits { self.old.doing ≡ Doing.Waits }
         requires spoken { 1 ≤ self.old.spoken }
-        ensures { (file : List ℕ) → Goes scene (Incoming.Message (Message.Get start file key.now))
+        ensures goes { (file : List ℕ) → Goes scene (Incoming.Message (Message.Get start file key.now))
             (moment_of self.old table.now (K.contents keeper.old) (K.parts keeper.old) (K.records keeper.old) (K.faults keeper.old))
             (moment_of self.new table.now (K.contents keeper.new) (K.parts keeper.new) (K.records keeper.new) (K.faults keeper.new)) result }
+        ensures files { K.files keeper.new ≡ K.files keeper.old }
+        ensures told { is_some (K.contents keeper.new) ≡ is_some (K.contents keeper.old) }
     {
         let (step, giving) = transfer::get(scene, keeper, start, key)?;
         match giving {
@@ -213,9 +217,11 @@ impl Session {
         requires agrees { Agrees (K.records keeper.old) table.old.holds }
         requires waits { self.old.doing ≡ Doing.Waits }
         requires spoken { 1 ≤ self.old.spoken }
-        ensures { (file : List ℕ) → Goes scene (Incoming.Message (Message.Put file key.now))
+        ensures goes { (file : List ℕ) → Goes scene (Incoming.Message (Message.Put file key.now))
             (moment_of self.old table.old (K.contents keeper.old) (K.parts keeper.old) (K.records keeper.old) (K.faults keeper.old))
             (moment_of self.new table.new (K.contents keeper.new) (K.parts keeper.new) (K.records keeper.new) (K.faults keeper.new)) result }
+        ensures files { K.files keeper.new ≡ K.files keeper.old }
+        ensures told { is_some (K.contents keeper.new) ≡ is_some (K.contents keeper.old) }
     {
         let (step, wanting) = transfer::put(scene, alloc, table, keeper, key)?;
         match wanting {
@@ -241,9 +247,11 @@ impl Session {
         requires early { scene.clock + 600000 < 2 ^ 62 }
         requires fresh { All (λ h. h.number < scene.number) table.old.holds }
         requires waits { self.old.doing ≡ Doing.Waits }
-        ensures { Goes scene (Incoming.Message message.now)
+        ensures goes { Goes scene (Incoming.Message message.now)
             (moment_of self.old table.old (K.contents keeper.old) (K.parts keeper.old) (K.records keeper.old) (K.faults keeper.old))
             (moment_of self.new table.new (K.contents keeper.new) (K.parts keeper.new) (K.records keeper.new) (K.faults keeper.new)) result }
+        ensures files { K.files keeper.new ≡ K.files keeper.old }
+        ensures told { is_some (K.contents keeper.new) ≡ is_some (K.contents keeper.old) }
     {
         match message {
             Message::Error(_) => Ok(self.give_up(table)),
@@ -302,9 +310,11 @@ impl Session {
         requires at { IsAt scene self.old table.old }
         requires agrees { Agrees (K.records keeper.old) table.old.holds }
         requires phase { IsGuarding self.old.doing }
-        ensures { Goes scene (Incoming.Message message.now)
+        ensures goes { Goes scene (Incoming.Message message.now)
             (moment_of self.old table.old (K.contents keeper.old) (K.parts keeper.old) (K.records keeper.old) (K.faults keeper.old))
             (moment_of self.new table.new (K.contents keeper.new) (K.parts keeper.new) (K.records keeper.new) (K.faults keeper.new)) result }
+        ensures files { K.files keeper.new ≡ K.files keeper.old }
+        ensures told { is_some (K.contents keeper.new) ≡ is_some (K.contents keeper.old) }
     {
         match message {
             Message::Error(_) => Ok(self.give_up(table)),
@@ -330,9 +340,11 @@ impl Session {
         requires at { IsAt scene self.old table.old }
         requires agrees { Agrees (K.records keeper.old) table.old.holds }
         requires guards { guards_key self.old.doing key ≡ true }
-        ensures { IsStep scene (Incoming.Message (Message.UnlockContent key))
+        ensures goes { IsStep scene (Incoming.Message (Message.UnlockContent key))
             (moment_of self.old table.old (K.contents keeper.old) (K.parts keeper.old) (K.records keeper.old) (K.faults keeper.old))
             (moment_of self.new table.new (K.contents keeper.new) (K.parts keeper.new) (K.records keeper.new) (K.faults keeper.new)) result }
+        ensures files { K.files keeper.new ≡ K.files keeper.old }
+        ensures told { is_some (K.contents keeper.new) ≡ is_some (K.contents keeper.old) }
     {
         let share = unguard(&mut self.doing);
         let hold = share.number();
@@ -427,9 +439,11 @@ impl Session {
     ) -> Result<Step, NoMemory>
         requires at { IsAt scene self.old table.old }
         requires agrees { Agrees (K.records keeper.old) table.old.holds }
-        ensures { Goes scene (Incoming.Bytes bytes.now)
+        ensures goes { Goes scene (Incoming.Bytes bytes.now)
             (moment_of self.old table.old (K.contents keeper.old) (K.parts keeper.old) (K.records keeper.old) (K.faults keeper.old))
             (moment_of self.new table.new (K.contents keeper.new) (K.parts keeper.new) (K.records keeper.new) (K.faults keeper.new)) result }
+        ensures files { K.files keeper.new ≡ K.files keeper.old }
+        ensures told { is_some (K.contents keeper.new) ≡ is_some (K.contents keeper.old) }
     {
         let Doing::Takes(taking) = &self.doing else {
             return self.refuse(alloc, table);
@@ -463,9 +477,11 @@ impl Session {
         requires at { IsAt scene self.old table.old }
         requires agrees { Agrees (K.records keeper.old) table.old.holds }
         requires phase { IsTook self.old.doing }
-        ensures { Goes scene (Incoming.Message message.now)
+        ensures goes { Goes scene (Incoming.Message message.now)
             (moment_of self.old table.old (K.contents keeper.old) (K.parts keeper.old) (K.records keeper.old) (K.faults keeper.old))
             (moment_of self.new table.new (K.contents keeper.new) (K.parts keeper.new) (K.records keeper.new) (K.faults keeper.new)) result }
+        ensures files { K.files keeper.new ≡ K.files keeper.old }
+        ensures told { is_some (K.parts keeper.old) ≡ true → is_some (K.contents keeper.new) ≡ is_some (K.contents keeper.old) }
     {
         match message {
             Message::Error(_) => Ok(self.give_up(table)),
@@ -488,9 +504,11 @@ impl Session {
     ) -> Result<Step, NoMemory>
         requires at { IsAt scene self.old table.old }
         requires agrees { Agrees (K.records keeper.old) table.old.holds }
-        ensures { Goes scene (Incoming.Message Message.Valid)
+        ensures goes { Goes scene (Incoming.Message Message.Valid)
             (moment_of self.old table.old (K.contents keeper.old) (K.parts keeper.old) (K.records keeper.old) (K.faults keeper.old))
             (moment_of self.new table.new (K.contents keeper.new) (K.parts keeper.new) (K.records keeper.new) (K.faults keeper.new)) result }
+        ensures files { K.files keeper.new ≡ K.files keeper.old }
+        ensures told { is_some (K.parts keeper.old) ≡ true → is_some (K.contents keeper.new) ≡ is_some (K.contents keeper.old) }
     {
         let Doing::Took(taken) = &self.doing else {
             return self.refuse(alloc, table);
@@ -513,9 +531,11 @@ impl Session {
         requires agrees { Agrees (K.records keeper.old) table.old.holds }
         requires early { scene.clock + 600000 < 2 ^ 62 }
         requires fresh { All (λ h. h.number < scene.number) table.old.holds }
-        ensures { Goes scene (incoming.now)
+        ensures goes { Goes scene (incoming.now)
             (moment_of self.old table.old (K.contents keeper.old) (K.parts keeper.old) (K.records keeper.old) (K.faults keeper.old))
             (moment_of self.new table.new (K.contents keeper.new) (K.parts keeper.new) (K.records keeper.new) (K.faults keeper.new)) result }
+        ensures files { K.files keeper.new ≡ K.files keeper.old }
+        ensures told { is_some (K.parts keeper.old) ≡ true → is_some (K.contents keeper.new) ≡ is_some (K.contents keeper.old) }
     {
         match incoming {
             Incoming::Opening => Ok(answers::welcome(scene.place.id)),
@@ -596,6 +616,10 @@ impl Session {
         ensures err_contents { OnErr result (K.contents keeper.new ≡ K.contents keeper.old) }
         ensures err_parts { OnErr result (K.parts keeper.new ≡ K.parts keeper.old) }
         ensures err_records { OnErr result (K.records keeper.new ≡ K.records keeper.old) }
+
+        // The files stay. A store that tells its contents still does; of a commit it must tell the part, too.
+        ensures files { K.files keeper.new ≡ K.files keeper.old }
+        ensures told { is_some (K.parts keeper.old) ≡ true → is_some (K.contents keeper.new) ≡ is_some (K.contents keeper.old) }
     {
         let scene = Scene {
             place: self.place,
@@ -624,6 +648,8 @@ impl Session {
         ensures contents { K.contents keeper.new ≡ K.contents keeper.old }
         ensures parts { K.parts keeper.new ≡ K.parts keeper.old }
         ensures records { K.records keeper.new ≡ K.records keeper.old }
+        ensures files { K.files keeper.new ≡ K.files keeper.old }
+        ensures told { is_some (K.contents keeper.new) ≡ is_some (K.contents keeper.old) }
         ensures later { K.faults keeper.old ≤ K.faults keeper.new }
         ensures cause { IfOk result (λ more. IfSome (failed_more more) (λ call. Rose (K.faults keeper.old) (K.faults keeper.new))) }
     {

@@ -1,5 +1,5 @@
 //! The transfers of contents: what is offered, what is asked for, and the verdict on what came.
-ghost use Rattle.std.specs.Prelude.{◌≡◌, ◌≤◌, ◌<◌, ◌^◌, ◌+◌, ◌-◌, ◌++◌, ℕ, Bool, List, length, [], ◌∷◌, false, true, Some, None, IfOk, OnOk, OnErr, IfSome, IfNone, IsErrOf};
+ghost use Rattle.std.specs.Prelude.{◌≡◌, ◌≤◌, ◌<◌, ◌^◌, ◌+◌, ◌-◌, ◌++◌, ℕ, Bool, List, length, [], ◌∷◌, false, true, Some, None, IfOk, OnOk, OnErr, IfSome, IfNone, IsErrOf, is_some};
 ghost use Rattle.std.specs.Option.{ForSome};
 ghost use Rattle.std.specs.declared.option.Option.{Option};
 ghost use Rattle.annex_base.specs.Causes.{Rose};
@@ -75,6 +75,7 @@ pub(crate) fn get<K: Keeper>(
     ensures contents { K.contents keeper.new ≡ K.contents keeper.old }
     ensures parts { K.parts keeper.new ≡ K.parts keeper.old }
     ensures records { K.records keeper.new ≡ K.records keeper.old }
+    ensures files { K.files keeper.new ≡ K.files keeper.old }
     ensures later { K.faults keeper.old ≤ K.faults keeper.new }
     ensures cause { IfOk result (λ r. IfSome (failed_in r.0.kind) (λ call. Rose (K.faults keeper.old) (K.faults keeper.new))) }
 {
@@ -129,6 +130,7 @@ pub(crate) fn put<K: Keeper>(
     ensures contents { K.contents keeper.new ≡ K.contents keeper.old }
     ensures parts { K.parts keeper.new ≡ K.parts keeper.old }
     ensures records { K.records keeper.new ≡ K.records keeper.old }
+    ensures files { K.files keeper.new ≡ K.files keeper.old }
     ensures later { K.faults keeper.old ≤ K.faults keeper.new }
     ensures cause { IfOk result (λ r. IfSome (failed_in r.0.kind) (λ call. Rose (K.faults keeper.old) (K.faults keeper.new))) }
 {
@@ -176,6 +178,7 @@ fn ask<K: Keeper>(
     ensures contents { K.contents keeper.new ≡ K.contents keeper.old }
     ensures parts { K.parts keeper.new ≡ K.parts keeper.old }
     ensures records { K.records keeper.new ≡ K.records keeper.old }
+    ensures files { K.files keeper.new ≡ K.files keeper.old }
     ensures later { K.faults keeper.old ≤ K.faults keeper.new }
     ensures cause { IfOk result (λ r. IfSome (failed_in r.0.kind) (λ call. Rose (K.faults keeper.old) (K.faults keeper.new))) }
 {
@@ -219,6 +222,7 @@ fn resume<K: Keeper>(
     ensures contents { K.contents keeper.new ≡ K.contents keeper.old }
     ensures parts { K.parts keeper.new ≡ K.parts keeper.old }
     ensures records { K.records keeper.new ≡ K.records keeper.old }
+    ensures files { K.files keeper.new ≡ K.files keeper.old }
     ensures later { K.faults keeper.old ≤ K.faults keeper.new }
     ensures some { IsErrOf result KeeperFault.Failed → 0 < size }
     ensures cause { IsErrOf result KeeperFault.Failed → Rose (K.faults keeper.old) (K.faults keeper.new) }
@@ -249,6 +253,7 @@ fn read_on<K: Keeper>(
     ensures contents { K.contents keeper.new ≡ K.contents keeper.old }
     ensures parts { K.parts keeper.new ≡ K.parts keeper.old }
     ensures records { K.records keeper.new ≡ K.records keeper.old }
+    ensures files { K.files keeper.new ≡ K.files keeper.old }
     ensures later { K.faults keeper.old ≤ K.faults keeper.new }
     ensures cause { IsErrOf result KeeperFault.Failed → Rose (K.faults keeper.old) (K.faults keeper.new) }
 {
@@ -370,6 +375,8 @@ pub(crate) fn verify<K: Keeper>(
     ensures err_contents { OnErr result (K.contents keeper.new ≡ K.contents keeper.old) }
     ensures err_parts { OnErr result (K.parts keeper.new ≡ K.parts keeper.old) }
     ensures records { K.records keeper.new ≡ K.records keeper.old }
+    ensures files { K.files keeper.new ≡ K.files keeper.old }
+    ensures told { is_some (K.parts keeper.old) ≡ true → is_some (K.contents keeper.new) ≡ is_some (K.contents keeper.old) }
     ensures later { K.faults keeper.old ≤ K.faults keeper.new }
     ensures cause { IfOk result (λ step. IfSome (failed_in step.kind) (λ call. Rose (K.faults keeper.old) (K.faults keeper.new))) }
 {
@@ -394,6 +401,8 @@ fn commit<K: Keeper>(scene: Scene, keeper: &mut K, key: Key, size: u64) -> Resul
     ensures err_contents { OnErr result (K.contents keeper.new ≡ K.contents keeper.old) }
     ensures err_parts { OnErr result (K.parts keeper.new ≡ K.parts keeper.old) }
     ensures records { K.records keeper.new ≡ K.records keeper.old }
+    ensures files { K.files keeper.new ≡ K.files keeper.old }
+    ensures told { is_some (K.parts keeper.old) ≡ true → is_some (K.contents keeper.new) ≡ is_some (K.contents keeper.old) }
     ensures later { K.faults keeper.old ≤ K.faults keeper.new }
     ensures cause { IfOk result (λ step. IfSome (failed_in step.kind) (λ call. Rose (K.faults keeper.old) (K.faults keeper.new))) }
 {
@@ -421,6 +430,7 @@ fn discard<K: Keeper>(scene: Scene, keeper: &mut K, key: &Key) -> Step
     ensures parts { K.parts keeper.new ≡ parts_after_valid key.now result.kind (K.parts keeper.old) }
     ensures contents { K.contents keeper.new ≡ K.contents keeper.old }
     ensures records { K.records keeper.new ≡ K.records keeper.old }
+    ensures files { K.files keeper.new ≡ K.files keeper.old }
     ensures later { K.faults keeper.old ≤ K.faults keeper.new }
     ensures cause { IfSome (failed_in result.kind) (λ call. Rose (K.faults keeper.old) (K.faults keeper.new)) }
 {

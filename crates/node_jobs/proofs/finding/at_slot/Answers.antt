@@ -9,7 +9,7 @@ returns-in_default-clause-finds c = none_idle c.args.place.now c.args.clock c.ar
 pub returns-in-Some-2-clause-finds : goal.returns-in-Some-2-clause-finds
 returns-in-Some-2-clause-finds c =
     ready_found c.args.place.now c.args.clock c.args.ends.now c.args.jobs.now c.args.time c.args.slot c.in-Some.index (sym c.index_of.ensures ∙ c.in-Some.is) c.index-jobs-index.result c.index-jobs-index.is
-    c.in_ok-feed.field-0 c.in-Some-2.feed c.in-Some-2.is c.in_ok-feed.ensures.answers c.in_ok-feed.ensures.told c.in_ok-feed.ensures.fed
+    c.in_ok-feed.field-0 c.in-Some-2.feed c.in-Some-2.is c.in_ok-feed.ensures.answers c.in_ok-feed.ensures.told c.in_ok-feed.ensures.fed c.in_ok-feed.ensures.waits
 
 pub returns-in-None-clause-finds : goal.returns-in-None-clause-finds
 returns-in-None-clause-finds c =

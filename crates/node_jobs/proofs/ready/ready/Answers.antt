@@ -1,7 +1,7 @@
 -- What came for the job.
 use Rattle.std.proofs.Common.{sym, ◌∙◌}
 use Rattle.std.specs.Prelude.{length}
-use Rattle.node_jobs.proofs.Hearing.{awaits_other, free_fed, heard_fed, heard_ok, link_there}
+use Rattle.node_jobs.proofs.Hearing.{awaits_other, free_fed, free_waits, heard_fed, heard_ok, heard_waits, link_there}
 use Rattle.node_jobs.proofs.ready.ready.Goals as goal
 
 pub returns-in-Some-clause-answers : goal.returns-in-Some-clause-answers
@@ -18,3 +18,10 @@ returns-in-Some-clause-fed c =
 
 pub returns-in-None-clause-fed : goal.returns-in-None-clause-fed
 returns-in-None-clause-fed c = free_fed c.args.ends.now c.args.job.now c.free.result (sym (rw c.worker.ensures at c.in-None.ensures))
+
+pub returns-in-Some-clause-waits : goal.returns-in-Some-clause-waits
+returns-in-Some-clause-waits c =
+    heard_waits c.args.ends.now c.args.job.now.worker.slot c.in-Some.peer c.heard.result (rw (c.slot-slot.ensures, c.worker-in-Some.ensures) at c.heard.ensures.feed)
+
+pub returns-in-None-clause-waits : goal.returns-in-None-clause-waits
+returns-in-None-clause-waits c = free_waits c.args.ends.now c.args.job.now.worker.slot c.free.result c.free.ensures.takes

@@ -3,6 +3,7 @@ use Rattle.std.proofs.Common.{Some, None, refl, ◌∙◌}
 use Rattle.p2p_server.specs.Answers.{here_of}
 use Rattle.p2p_server.proofs.Replies.{remove_there, remove_gone, remove_barred, remove_held, remove_failed, remove_leaves}
 use Rattle.p2p_server.proofs.Doings.{checks, faults, removes, no_bar}
+use Rattle.p2p_server.proofs.Telling.{told_after_change}
 use Rattle.p2p_server.proofs.answers.remove.Goals as goal
 
 pub returns-in-Ok-Gone-clause-does : goal.returns-in-Ok-Gone-clause-does
@@ -15,6 +16,9 @@ pub returns-in-Ok-Gone-clause-after : goal.returns-in-Ok-Gone-clause-after
 returns-in-Ok-Gone-clause-after g c =
     let found = rw c.in-Ok-Gone.field-0-is at c.in-Ok-Gone.ensures.found in
     rw c.granted.ensures (no_bar _ _ _ found.1)
+
+pub returns-in-Ok-Gone-clause-told : goal.returns-in-Ok-Gone-clause-told
+returns-in-Ok-Gone-clause-told g c = told_after_change _ _ _ (c.in-Ok-Gone.ensures.gone c.in-Ok-Gone.field-0-is)
 
 pub returns-in-Ok-Absent-clause-does : goal.returns-in-Ok-Absent-clause-does
 returns-in-Ok-Absent-clause-does g c = λ p is part right.

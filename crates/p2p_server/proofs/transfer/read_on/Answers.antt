@@ -11,6 +11,7 @@ loop-at-preserved g c =
       contents = read.contents ∙ was.contents;
       parts = read.parts ∙ was.parts;
       records = read.records ∙ was.records;
+      files = read.files ∙ was.files;
       later = omega (arith, read.later, was.later);
       room = search rules;
       count = search rules;

@@ -10,6 +10,7 @@ invariant-loop-at g l = record {
   contents : g.K.Keeper.contents l.keeper ≡ g.K.Keeper.contents l.fn.keeper;
   parts : g.K.Keeper.parts l.keeper ≡ g.K.Keeper.parts l.fn.keeper;
   records : g.K.Keeper.records l.keeper ≡ g.K.Keeper.records l.fn.keeper;
+  files : g.K.Keeper.files l.keeper ≡ g.K.Keeper.files l.fn.keeper;
   later : g.K.Keeper.faults l.fn.keeper ≤ g.K.Keeper.faults l.keeper;
   room : length l.room ≡ 32768;
   count : bytes_taken l.digester ≡ l.at;

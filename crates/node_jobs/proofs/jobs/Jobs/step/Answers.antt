@@ -11,7 +11,7 @@ use Rattle.node_jobs.specs.Finding.{Finds}
 use Rattle.node_jobs.specs.Leaving.{Leaves}
 use Rattle.node_jobs.specs.Running.{DropJob, IsOwn, Jobs, OwnAll}
 use Rattle.node_jobs.proofs.Owning.{leaves_after, owns_after}
-use Rattle.node_jobs.proofs.Stepping.{first_of_found, none_steps, sees_each, steps_jobs}
+use Rattle.node_jobs.proofs.Stepping.{kind_is, first_of_found, in_a_slot, none_steps, sees_each, steps_jobs, takes_waiting}
 use Rattle.node_jobs.proofs.jobs.Jobs.step.Goals as goal
 
 pub returns-in_default-clause-step : goal.returns-in_default-clause-step
@@ -40,6 +40,27 @@ returns-clause-step g c = λ x tells s st k sees keeps acted.
     (subst (λ (o : Option Found). Finds c.self.inside.place c.args.clock c.args.ends.now c.self.inside.running.items c.args.time o) c.in-Some.is (rw c.deref.ensures.value at c.in_ok-found.ensures.finds)) (rw c.find_ready.ensures.same at c.in_ok-acted.ensures.changes) x tells s st k
     (subst (λ (js : Jobs). SeesJobs c.args.ends.now c.args.clock settings js c.args.number c.args.time s st k) (sym c.self.view_is) sees) keeps
     (subst (λ (js : Jobs). SeesActed js k (Some c.in_ok-acted.acted)) (sym c.self.view_is) acted))
+
+pub returns-clause-waits : goal.returns-clause-waits
+returns-clause-waits g c =
+    let jobs : Jobs = record { place = c.self.inside.place; running = c.self.inside.running.items; begun = c.self.inside.begun } in
+    takes_waiting c.args.ends.now c.args.clock (settings_of c.args.settings.now) jobs c.args.number c.args.time c.in-Some.found (g.K.Keeper.contents c.args.keeper.now) (g.K.Keeper.contents c.turn.new.keeper) c.args.table.now c.turn.new.table c.turn.new.running.items
+    c.in_ok-acted.acted (subst (λ (js : Jobs). OwnAll js c.args.table.now) (sym c.self.view_is) c.requires.owns)
+    (subst (λ (o : Option Found). Finds c.self.inside.place c.args.clock c.args.ends.now c.self.inside.running.items c.args.time o) c.in-Some.is (rw c.deref.ensures.value at c.in_ok-found.ensures.finds)) (rw c.find_ready.ensures.same at c.in_ok-acted.ensures.changes)
+
+pub returns-clause-slot : goal.returns-clause-slot
+returns-clause-slot g c =
+    let jobs : Jobs = record { place = c.self.inside.place; running = c.self.inside.running.items; begun = c.self.inside.begun } in
+    in_a_slot c.args.ends.now c.args.clock (settings_of c.args.settings.now) jobs c.args.number c.args.time c.in-Some.found (g.K.Keeper.contents c.args.keeper.now) (g.K.Keeper.contents c.turn.new.keeper) c.args.table.now c.turn.new.table c.turn.new.running.items
+    c.in_ok-acted.acted (subst (λ (js : Jobs). OwnAll js c.args.table.now) (sym c.self.view_is) c.requires.owns)
+    (subst (λ (o : Option Found). Finds c.self.inside.place c.args.clock c.args.ends.now c.self.inside.running.items c.args.time o) c.in-Some.is (rw c.deref.ensures.value at c.in_ok-found.ensures.finds)) (rw c.find_ready.ensures.same at c.in_ok-acted.ensures.changes)
+
+pub returns-clause-kind : goal.returns-clause-kind
+returns-clause-kind g c =
+    let jobs : Jobs = record { place = c.self.inside.place; running = c.self.inside.running.items; begun = c.self.inside.begun } in
+    kind_is c.args.ends.now c.args.clock (settings_of c.args.settings.now) jobs c.args.number c.args.time c.in-Some.found (g.K.Keeper.contents c.args.keeper.now) (g.K.Keeper.contents c.turn.new.keeper) c.args.table.now c.turn.new.table c.turn.new.running.items
+    c.in_ok-acted.acted (subst (λ (js : Jobs). OwnAll js c.args.table.now) (sym c.self.view_is) c.requires.owns)
+    (subst (λ (o : Option Found). Finds c.self.inside.place c.args.clock c.args.ends.now c.self.inside.running.items c.args.time o) c.in-Some.is (rw c.deref.ensures.value at c.in_ok-found.ensures.finds)) (rw c.find_ready.ensures.same at c.in_ok-acted.ensures.changes)
 
 pub returns-clause-owns : goal.returns-clause-owns
 returns-clause-owns g c =

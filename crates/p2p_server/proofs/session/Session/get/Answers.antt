@@ -4,8 +4,8 @@ use Rattle.std.proofs.lemmas.Bool.{le-leb}
 use Rattle.p2p_server.proofs.Waiting.{get_so, giving_of, in_phase, spoken_of}
 use Rattle.p2p_server.proofs.session.Session.get.Goals as goal
 
-pub returns-in-Some : goal.returns-in-Some
-returns-in-Some g c = λ file.
+pub returns-in-Some-clause-goes : goal.returns-in-Some-clause-goes
+returns-in-Some-clause-goes g c = λ file.
     let s = c.args.self.now in
     let r = c.in_ok-step.ensures in
     get_so c.args.scene c.args.start file c.args.key.now s _ c.args.table.now _ _ _ _ _ _ _ _ c.in_ok-step.giving c.in_ok-step.step c.requires.waits
@@ -13,8 +13,8 @@ returns-in-Some g c = λ file.
     c.requires.at (le-leb 1 s.spoken c.requires.spoken) r.does r.after r.fits r.given r.lost r.plain r.still c.get.ensures.parts
     (rw c.get.ensures.records c.requires.agrees) c.get.ensures.later r.cause
 
-pub returns-in-None : goal.returns-in-None
-returns-in-None g c = λ file.
+pub returns-in-None-clause-goes : goal.returns-in-None-clause-goes
+returns-in-None-clause-goes g c = λ file.
     let s = c.args.self.now in
     let r = c.in_ok-step.ensures in
     get_so c.args.scene c.args.start file c.args.key.now s _ c.args.table.now _ _ _ _ _ _ _ _ c.in_ok-step.giving c.in_ok-step.step c.requires.waits

@@ -3,8 +3,8 @@ use Rattle.std.proofs.Common.{ap, sym, ◌∙◌}
 use Rattle.p2p_server.proofs.Waiting.{guarding, in_phase, lock_so}
 use Rattle.p2p_server.proofs.session.Session.lock.Goals as goal
 
-pub returns-in-Some : goal.returns-in-Some
-returns-in-Some g c =
+pub returns-in-Some-clause-goes : goal.returns-in-Some-clause-goes
+returns-in-Some-clause-goes g c =
     let s = c.args.self.now in
     let r = c.in_ok-step.ensures in
     rw (← c.in_ok-key.ensures) (
@@ -12,8 +12,8 @@ returns-in-Some g c =
     ((λ j. in_phase s.place s.spoken (c.begin.ensures j)) ∙ ap (λ o. in_phase s.place s.spoken (guarding o)) (sym c.in-Some.is))
     c.requires.at.here r.does r.after c.lock.ensures.bars r.fits r.shared r.refused r.owns c.lock.ensures.others r.plain r.still c.lock.ensures.parts c.lock.ensures.agrees c.lock.ensures.later r.cause)
 
-pub returns-in-None : goal.returns-in-None
-returns-in-None g c =
+pub returns-in-None-clause-goes : goal.returns-in-None-clause-goes
+returns-in-None-clause-goes g c =
     let s = c.args.self.now in
     let r = c.in_ok-step.ensures in
     rw (← c.in_ok-key.ensures) (

@@ -10,11 +10,11 @@ use Rattle.p2p_server.proofs.Phases.{awaited, piece_so}
 use Rattle.p2p_server.proofs.Unexpected.{bytes_past, no_bytes}
 use Rattle.p2p_server.proofs.session.Session.piece.Goals as goal
 
-pub returns-in_default : goal.returns-in_default
-returns-in_default g c = c.refuse.ensures c.args.scene _ _ _ _ _ c.requires.at.here (no_bytes c.args.self.now c.args.bytes.now c.in_default.not-Takes) c.requires.agrees
+pub returns-in_default-clause-goes : goal.returns-in_default-clause-goes
+returns-in_default-clause-goes g c = c.refuse.ensures c.args.scene _ _ _ _ _ c.requires.at.here (no_bytes c.args.self.now c.args.bytes.now c.in_default.not-Takes) c.requires.agrees
 
-pub returns-then-not-awaits : goal.returns-then-not-awaits
-returns-then-not-awaits g c =
+pub returns-then-not-awaits-clause-goes : goal.returns-then-not-awaits-clause-goes
+returns-then-not-awaits-clause-goes g c =
     let left = c.in-Takes.taking.left in
     let len : c.len-count.result ≡ length c.args.bytes.now.items = omega (arith, c.args.bytes.now.ok.0, c.len-count.ensures) in
     c.refuse-then-not-awaits.ensures c.args.scene _ _ _ _ _ c.requires.at.here
@@ -22,8 +22,8 @@ returns-then-not-awaits g c =
     ((λ j. nat_lt 0 (sym len j) && nat_le (sym len j) left) ∙ sym c.awaits.ensures ∙ c.if-not-awaits.true))
     c.requires.agrees
 
-pub returns-in-Ok : goal.returns-in-Ok
-returns-in-Ok g c =
+pub returns-in-Ok-clause-goes : goal.returns-in-Ok-clause-goes
+returns-in-Ok-clause-goes g c =
     let s = c.args.self.now in
     let t = c.in-Takes.taking in
     let parts = g.K.Keeper.parts c.args.keeper.now in

@@ -4,8 +4,8 @@ use Rattle.std.proofs.lemmas.Bool.{le-leb}
 use Rattle.p2p_server.proofs.Waiting.{in_phase, put_so, wanting_of}
 use Rattle.p2p_server.proofs.session.Session.put.Goals as goal
 
-pub returns-in-Some : goal.returns-in-Some
-returns-in-Some g c = λ file.
+pub returns-in-Some-clause-goes : goal.returns-in-Some-clause-goes
+returns-in-Some-clause-goes g c = λ file.
     let s = c.args.self.now in
     let r = c.in_ok-step.ensures in
     put_so c.args.scene file c.args.key.now s _ c.args.table.now c.put.new.table _ _ _ _ _ _ _ _ c.in_ok-step.wanting c.in_ok-step.step c.requires.waits
@@ -13,8 +13,8 @@ returns-in-Some g c = λ file.
     c.requires.at (le-leb 1 s.spoken c.requires.spoken) r.does r.after c.put.ensures.bars r.fits r.given r.filled r.next r.plain r.still r.fed c.put.ensures.holds c.put.ensures.parts
     (rw (c.put.ensures.records, c.put.ensures.holds) c.requires.agrees) c.put.ensures.later r.cause
 
-pub returns-in-None : goal.returns-in-None
-returns-in-None g c = λ file.
+pub returns-in-None-clause-goes : goal.returns-in-None-clause-goes
+returns-in-None-clause-goes g c = λ file.
     let s = c.args.self.now in
     let r = c.in_ok-step.ensures in
     put_so c.args.scene file c.args.key.now s s c.args.table.now c.put.new.table _ _ _ _ _ _ _ _ c.in_ok-step.wanting c.in_ok-step.step c.requires.waits

@@ -3,17 +3,17 @@ use Rattle.p2p_server.proofs.Phases.{invalid_so}
 use Rattle.p2p_server.proofs.Unexpected.{none_took}
 use Rattle.p2p_server.proofs.session.Session.received.Goals as goal
 
-pub returns-in-Error : goal.returns-in-Error
-returns-in-Error g c = rw c.in-Error.is (c.give_up.ensures c.args.scene _ _ _ _ _ c.requires.at.here c.requires.agrees)
+pub returns-in-Error-clause-goes : goal.returns-in-Error-clause-goes
+returns-in-Error-clause-goes g c = rw c.in-Error.is (c.give_up.ensures c.args.scene _ _ _ _ _ c.requires.at.here c.requires.agrees)
 
-pub returns-in-Valid : goal.returns-in-Valid
-returns-in-Valid g c = rw c.in-Valid.is c.verify.ensures
+pub returns-in-Valid-clause-goes : goal.returns-in-Valid-clause-goes
+returns-in-Valid-clause-goes g c = rw c.in-Valid.is c.verify.ensures.goes
 
-pub returns-in-Invalid : goal.returns-in-Invalid
-returns-in-Invalid g c = rw c.in-Invalid.is (
+pub returns-in-Invalid-clause-goes : goal.returns-in-Invalid-clause-goes
+returns-in-Invalid-clause-goes g c = rw c.in-Invalid.is (
     invalid_so c.args.scene c.args.self.now c.let_go.new.self c.args.table.now c.let_go.new.table _ _ _ _ _ c.requires.at c.requires.phase c.let_go.ensures.session c.let_go.ensures.table c.requires.agrees c.says.ensures)
 
-pub returns-in_default : goal.returns-in_default
-returns-in_default g c =
+pub returns-in_default-clause-goes : goal.returns-in_default-clause-goes
+returns-in_default-clause-goes g c =
     c.refuse.ensures c.args.scene _ _ _ _ _ c.requires.at.here
     (none_took c.args.self.now c.args.message.now c.requires.phase c.in_default.not-Error c.in_default.not-Valid c.in_default.not-Invalid) c.requires.agrees

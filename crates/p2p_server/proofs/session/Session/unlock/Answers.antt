@@ -5,8 +5,8 @@ use Rattle.run_data.specs.declared.entry.EntryKind.TheVariants.{Release}
 use Rattle.p2p_server.proofs.Phases.{going, released_so}
 use Rattle.p2p_server.proofs.session.Session.unlock.Goals as goal
 
-pub returns-in-Ok : goal.returns-in-Ok
-returns-in-Ok g c =
+pub returns-in-Ok-clause-goes : goal.returns-in-Ok-clause-goes
+returns-in-Ok-clause-goes g c =
     let s = c.args.self.now in
     let share = c.unguard-share.result in
     released_so c.args.scene c.args.key s _ share c.args.table.now c.release.new.self _ _ _ _ _ _ _ _ c.silent.result c.requires.at c.requires.guards c.unguard-share.ensures.guards

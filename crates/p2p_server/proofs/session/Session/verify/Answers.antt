@@ -3,11 +3,11 @@ use Rattle.p2p_server.proofs.Unexpected.{no_valid}
 use Rattle.p2p_server.proofs.Phases.{valid_so}
 use Rattle.p2p_server.proofs.session.Session.verify.Goals as goal
 
-pub returns-in_default : goal.returns-in_default
-returns-in_default g c = c.refuse.ensures c.args.scene _ _ _ _ _ c.requires.at.here (no_valid c.args.self.now c.in_default.not-Took) c.requires.agrees
+pub returns-in_default-clause-goes : goal.returns-in_default-clause-goes
+returns-in_default-clause-goes g c = c.refuse.ensures c.args.scene _ _ _ _ _ c.requires.at.here (no_valid c.args.self.now c.in_default.not-Took) c.requires.agrees
 
-pub returns : goal.returns
-returns g c =
+pub returns-clause-goes : goal.returns-clause-goes
+returns-clause-goes g c =
     let r = c.in_ok-step.ensures in
     valid_so c.args.scene c.args.self.now c.let_go.new.self _ c.args.table.now c.let_go.new.table _ _ _ _ _ _ _ _ c.in_ok-step.step c.in-Took.is c.requires.at
     r.does r.after r.fits r.plain r.judged r.parts c.let_go.ensures.session c.let_go.ensures.table (rw c.verify.ensures.records c.requires.agrees) c.verify.ensures.later r.cause

@@ -1,0 +1,52 @@
+-- Where there is room for the frames of a step, and what the step of a job that drops its own copy makes (own).
+use Rattle.std.specs.Prelude.{◌≡◌, ◌⊎◌, Bool, true, false, fold, List, [], ◌∷◌, ◌++◌, Some, None}
+use Rattle.annex_base.specs.declared.kinds.Call.{Call}
+use Rattle.annex_base.specs.declared.kinds.Call.TheVariants as calls
+use Rattle.run_data.specs.declared.entry.By.TheVariants.{Job as by_job}
+use Rattle.run_data.specs.declared.entry.EntryKind.{EntryKind}
+use Rattle.run_data.specs.declared.entry.EntryKind.TheVariants.{Talk, Bar, Gone, Fault, End as ends_job}
+use Rattle.run_data.specs.declared.entry.FrameView.{FrameView}
+use Rattle.node_model.specs.Ends.{End, EndName, end_sends, sent_at, taken_at}
+use Rattle.node_model.specs.Look.{Made}
+use Rattle.node_model.specs.Sessions.{is_closing}
+
+-- ---- room
+
+-- the end at which a frame is sent
+abbrev pub end_of : FrameView → EndName
+end_of f = record { peer = f.peer; slot = f.slot; client = f.up }
+
+-- a frame that is sent behind these has its place: it is a Close at an end that is open then, or the first frame that is
+-- sent at an end with room
+abbrev pub HasPlace : (EndName → End) → (EndName → Bool) → List FrameView → FrameView → Type 0
+HasPlace ends room before f =
+    ((is_closing f.body ≡ true) × ((fold (λ c g. end_sends c g.body) (ends (end_of f)) (sent_at (end_of f) before)).opened ≡ true))
+    ⊎ ((is_closing f.body ≡ false) × (room (end_of f) ≡ true) × (sent_at (end_of f) before ≡ []))
+
+-- each of the frames has its place behind those before it
+abbrev pub SendsWell : (EndName → End) → (EndName → Bool) → List FrameView → Type 0
+SendsWell ends room sent = (xs ys : List FrameView) (f : FrameView) → sent ≡ xs ++ f ∷ ys → HasPlace ends room xs f
+
+-- ---- what a job makes
+
+-- the store calls of a job that drops its own copy
+abbrev pub IsCallOfJob : Call → Type 0
+IsCallOfJob calls.Has = Unit {0}
+IsCallOfJob calls.Remove = Unit {0}
+IsCallOfJob calls.Unhold = Unit {0}
+IsCallOfJob _ = ⊥
+
+-- the entries of such jobs
+abbrev pub IsOfJob : EntryKind → Type 0
+IsOfJob (Talk (Some job)) = Unit {0}
+IsOfJob (Bar job need key) = Unit {0}
+IsOfJob (Gone (by_job job) key) = Unit {0}
+IsOfJob (Fault call (by_job job)) = IsCallOfJob call
+IsOfJob (ends_job job outcome) = Unit {0}
+IsOfJob _ = ⊥
+
+-- such an entry adds no line, and takes and sends frames only at ends whose client the repository is
+pub record IsOwnEntry (m : Made) : Type 0 where
+  pub kind : IsOfJob m.kind
+  pub lines : m.lines ≡ []
+  pub clients : (a : EndName) → a.client ≡ false → (taken_at a m.taken ≡ None) × (sent_at a m.sent ≡ [])

@@ -1,0 +1,55 @@
+    /// The step of the first job, in order of slot, that has one: its frames are taken and sent. A job that ends is off the list.
+    /// After NoMemory all is as before.
+    pub fn act<K: Keeper>(
+        &mut self,
+        alloc: Global,
+        settings: &Settings,
+        keeper: &mut K,
+        moment: Moment,
+    ) -> Result<Option<Done>, NoMemory>
+        requires agrees { Agrees (K.records keeper.old) self.old.table.holds }
+        requires fresh { All (λ h. h.number < moment.number) self.old.table.holds }
+
+        // Over a store that tells: of each state that these and the store are, with these settings, this is the step of its jobs.
+        ensures step { IfOk result (λ o. ForSome (K.contents keeper.old) (λ c. Acts self.old self.new c (K.contents keeper.new) moment.clock (settings_of settings.now) moment.time moment.number o)) }
+        ensures leaves { IfOk result (LeavesSo moment.number self.old self.new) }
+        ensures sessions { self.new.sessions ≡ self.old.sessions }
+        ensures told { is_some (K.contents keeper.new) ≡ is_some (K.contents keeper.old) }
+        ensures parts { K.parts keeper.new ≡ K.parts keeper.old }
+        ensures files { K.files keeper.new ≡ K.files keeper.old }
+        ensures records { K.records keeper.new ≡ K.records keeper.old }
+        ensures agrees { Agrees (K.records keeper.new) self.new.table.holds }
+        ensures paired { StayPaired self.old.links self.new.links }
+        ensures later { K.faults keeper.old ≤ K.faults keeper.new }
+        ensures cause { IfOk result (λ o. IfSome (failed_by o) (λ call. Rose (K.faults keeper.old) (K.faults keeper.new))) }
+        ensures err { OnErr result ((self.new ≡ self.old) × (K.contents keeper.new ≡ K.contents keeper.old)) }
+    {
+        let stamp = moment.stamp(self.jobs.number());
+        let acted = self.jobs.step(
+            alloc,
+            moment.clock,
+            settings,
+            &mut self.ends,
+            &mut self.table,
+            keeper,
+            moment.time,
+            moment.number,
+        )?;
+        match acted {
+            None => Ok(None),
+            Some(acted) => Ok(Some(act(&mut self.ends, stamp, acted))),
+        }
+    }
+
+    /// Whether a session or a job has a step; nothing changes.
+    pub fn is_ready(&mut self, alloc: Global, moment: Moment) -> Result<bool, NoMemory>
+        ensures ready { IfOk result (λ b. (c : Contents) (s : SetUp) (st : State) (k : Look) → SeesParts self.old c moment.clock moment.time moment.number s st k → is_some (first_of (session_step s st k) (job_step s st k)) ≡ b) }
+        ensures same { self.new ≡ self.old }
+    {
+        if self.sessions.is_ready(&mut self.ends) {
+            return Ok(true);
+        }
+        self.jobs
+            .is_ready(alloc, moment.clock, &mut self.ends, moment.time)
+    }
+

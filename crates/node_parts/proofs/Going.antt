@@ -1,0 +1,117 @@
+-- The parts are those of a state: the first, and after a job has begun, or frames were carried or dropped.
+use Rattle.std.proofs.Common.{◌≡◌, ◌≢◌, ℕ, ◌<◌, ◌*◌, ◌+◌, Bool, true, false, List, [], ◌∷◌, Option, Some, None, length, map, refl, sym, ap, subst, ◌∙◌, arith}
+use Rattle.std.specs.Prelude.{fold, find, replicate, ◌==◌}
+use Rattle.annex_base.specs.Lists.{Each, Member}
+use Rattle.annex_base.specs.Settings.{Settings}
+use Rattle.run_data.specs.declared.entry.Entry.{Entry}
+use Rattle.run_data.specs.declared.entry.EntryKind.{EntryKind}
+use Rattle.run_data.specs.declared.entry.EntryKind.TheVariants.{Begin}
+use Rattle.run_data.specs.declared.entry.FrameView.{FrameView}
+use Rattle.run_data.specs.declared.job.Job.{Job}
+use Rattle.run_data.specs.declared.run.RepoView.{RepoView}
+use Rattle.trust_groups.specs.Settings.{settings}
+use Rattle.link_ring.specs.Ends.{EndView, fresh}
+use Rattle.content_lock.specs.Rows.{Rows}
+use Rattle.p2p_server.specs.declared.session.Session.{Session}
+use Rattle.node_model.specs.After.{first_state, read_after, state_after}
+use Rattle.node_model.specs.AnyTime.{all_ends}
+use Rattle.node_model.specs.Ends.{End, EndName, end_sends, end_took, never, sent_at, taken_at}
+use Rattle.node_model.specs.Files.{lines_after}
+use Rattle.node_model.specs.Jobs.{Work}
+use Rattle.node_model.specs.Rows.{bar_after, holds_after}
+use Rattle.node_model.specs.Sessions.{new_session, session_after}
+use Rattle.node_model.specs.SetUp.{SetUp}
+use Rattle.node_model.specs.State.{State}
+use Rattle.node_ends.specs.Ends.{AreEnds, end_at}
+use Rattle.node_ends.specs.Going.{AreAfter}
+use Rattle.node_sessions.specs.Sessions.{AreSessions, HaveEnds, IsSetUp}
+use Rattle.node_jobs.specs.Places.{IsPlace}
+use Rattle.node_jobs.specs.Running.{AreWorks, DropJob, Follows, Jobs}
+use Rattle.node_parts.specs.Parts.{AreParts, PartsView}
+
+-- ---- the ends stand as they stood
+
+pub parts_stand : (was : PartsView) (links : List EndView) → length links ≡ length was.links → ((a : EndName) → end_at links a ≡ end_at was.links a) → (s : SetUp) (st : State) → AreParts s st was → AreParts s st (record was { links = links })
+parts_stand was links count stand s st are = record {
+  place = are.place;
+  holds = are.holds;
+  bars = are.bars;
+  ends = record { count = count ∙ are.ends.count; ends = λ a among. are.ends.ends a among ∙ sym (stand a) };
+  each = λ a. are.each a ∙ sym (stand a);
+  sessions = are.sessions;
+  closed = are.closed;
+  works = are.works;
+  logs = are.logs;
+}
+
+-- ---- before the first entry
+
+pub first_parts : ((s : SetUp) → AreEnds (replicate (length s.repos * 8) fresh) s (first_state s)) → ((count : ℕ) (a : EndName) → end_at (replicate count fresh) a ≡ never)
+    → (number : ℕ) (ids : List (List ℕ)) (id : List ℕ) (version : ℕ) (locks : Bool) (xs : List Session) (s : SetUp) → IsSetUp s id version locks number (length ids)
+    → map (λ (repo : RepoView). repo.id) s.repos ≡ ids → AreSessions s (λ a. new_session) xs
+    → AreParts s (first_state s) (record { table = record { holds = []; bars = []; fills = [] }; links = replicate (length ids * 8) fresh; sessions = xs; jobs = record { place = record { number = number; ids = ids }; running = []; begun = 0 } })
+first_parts ends closed number ids id version locks xs s set_up ids_are sessions = record {
+  place = record { number = set_up.number_is; ids = ids_are };
+  holds = refl;
+  bars = λ key. refl;
+  ends = subst (λ (n : ℕ). AreEnds (replicate (n * 8) fresh) s (first_state s)) set_up.count_is (ends s);
+  each = λ a. sym (closed (length ids * 8) a);
+  sessions = sessions;
+  closed = λ a server shut. refl;
+  works = record { works = refl; begun = refl; read = tt };
+  logs = refl;
+}
+
+-- ---- after an entry that takes and sends nothing
+
+-- what a law says of the sessions, after such an entry
+abbrev pub SessionsStay : Type 0
+SessionsStay = (s : SetUp) (st : State) (e : Entry) (xs : List Session) → AreSessions s st.sessions xs → ((a : EndName) → a.client ≡ false → (taken_at a e.taken ≡ None) × (sent_at a e.sent ≡ [])) → AreSessions s (state_after s st e).sessions xs
+
+-- what a law says of the ends, after any entry
+abbrev pub EndsGo : Type 0
+EndsGo = (was now : List EndView) (s : SetUp) (st : State) (e : Entry) → AreEnds was s st → AreAfter was now e.taken e.sent → AreEnds now s (state_after s st e)
+
+module _ (s : SetUp) (st : State) (e : Entry) (taken : e.taken ≡ None) (sent : e.sent ≡ []) where
+  pub end_stays : (a : EndName) → (state_after s st e).ends a ≡ st.ends a
+  end_stays a = λ i. fold (λ (c : End) (f : FrameView). end_sends c f.body) (end_took (st.ends a) (taken_at a (taken i))) (sent_at a (sent i))
+
+  pub session_stays : (a : EndName) → (state_after s st e).sessions a ≡ st.sessions a
+  session_stays a = λ i. session_after st.content e.kind (st.sessions a) (sent_at a (sent i)) (taken_at a (taken i))
+
+  pub none_moves : (a : EndName) → (taken_at a e.taken ≡ None) × (sent_at a e.sent ≡ [])
+  none_moves a = (ap (taken_at a) taken, ap (sent_at a) sent)
+
+  pub closed_stays : ((a : EndName) → a.client ≡ false → (st.ends a).opened ≡ false → st.sessions a ≡ new_session) → (a : EndName) → a.client ≡ false → ((state_after s st e).ends a).opened ≡ false → (state_after s st e).sessions a ≡ new_session
+  closed_stays closed a server shut = session_stays a ∙ closed a server (ap (λ (c : End). c.opened) (sym (end_stays a)) ∙ shut)
+
+  pub ends_stay : EndsGo → (links : List EndView) → AreAfter links links None [] → AreEnds links s st → AreEnds links s (state_after s st e)
+  ends_stay go links after are = go links links s st e are (subst (λ (o : Option FrameView). AreAfter links links o e.sent) (sym taken) (subst (AreAfter links links None) (sym sent) after))
+
+-- ---- a job begins
+
+module _ (s : SetUp) (st : State) (e : Entry) (n : ℕ) (what : Job) (is : e.kind ≡ Begin n what) where
+  begin_logs : st.logs ≡ settings st.lines → (state_after s st e).logs ≡ st.logs
+  begin_logs logs = (λ i. settings (λ path. lines_after path (st.lines path) (is i) e.lines)) ∙ sym logs
+
+  pub begin_follows : st.logs ≡ settings st.lines → Follows s st e (state_after s st e)
+  begin_follows logs = record {
+    works = refl;
+    begun = refl;
+    logs = begin_logs logs;
+    read = λ job. ap (λ (l : Settings). read_after l (st.read job) (find (λ w. w.number == job) st.works)) (begin_logs logs);
+  }
+
+  pub begin_parts : EndsGo → ((links : List EndView) → AreAfter links links None []) → SessionsStay → e.taken ≡ None → e.sent ≡ [] → (was : PartsView) (jobs : Jobs) → AreParts s st was → jobs.place ≡ was.jobs.place
+      → AreWorks s (state_after s st e) jobs → AreParts s (state_after s st e) (record was { jobs = jobs })
+  begin_parts go still stay taken sent was jobs are place works = record {
+    place = subst (λ p. IsPlace p s) (sym place) are.place;
+    holds = are.holds ∙ (λ i. holds_after st.holds (sym is i));
+    bars = λ key. are.bars key ∙ (λ i. bar_after key (st.bar key) (sym is i));
+    ends = ends_stay s st e taken sent go was.links (still was.links) are.ends;
+    each = λ a. end_stays s st e taken sent a ∙ are.each a;
+    sessions = stay s st e was.sessions are.sessions (λ a server. none_moves s st e taken sent a);
+    closed = closed_stays s st e taken sent are.closed;
+    works = works;
+    logs = refl;
+  }

@@ -1,0 +1,5 @@
+-- The lemmas of this crate.
+pub mod Sounding
+pub mod Going
+pub mod Served
+pub mod Staying

@@ -1,0 +1,209 @@
+-- What the sessions serve is the step of the parts.
+use Rattle.std.proofs.Common.{◌≡◌, ℕ, ◌<◌, ◌+◌, Bool, true, false, List, [], ◌∷◌, Option, Some, None, length, map, refl, sym, ap, subst, ◌∙◌}
+use Rattle.std.specs.Prelude.{◌&&◌, ◌||◌, All, bytes_eq, fold}
+use Rattle.std.specs.List.{list_any}
+use Rattle.std.specs.Option.{ForSome, option_map}
+use Rattle.annex_base.specs.declared.kinds.Call.{Call}
+use Rattle.run_data.specs.declared.entry.By.TheVariants.{Job as by_job, Peer, Script}
+use Rattle.run_data.specs.declared.entry.Entry.{Entry}
+use Rattle.run_data.specs.declared.entry.EntryKind.{EntryKind}
+use Rattle.run_data.specs.declared.entry.EntryKind.TheVariants as kinds
+use Rattle.run_data.specs.declared.entry.FrameView.{FrameView}
+use Rattle.object_store.specs.Stores.{Contents, Parts as StoredParts}
+use Rattle.content_lock.specs.Rows.{Rows, bar_at, is_filling}
+use Rattle.link_ring.specs.Ends.{EndView}
+use Rattle.node_model.specs.After.{state_after}
+use Rattle.node_model.specs.Clocks.{ClockSet, runs_on}
+use Rattle.node_model.specs.Ends.{End, EndName, end_sends, end_took, sent_at, taken_at}
+use Rattle.node_model.specs.Jobs.{Work}
+use Rattle.node_model.specs.Look.{Look, Made, entry_of}
+use Rattle.node_model.specs.Rows.{bar_after, content_after, holds_after, present_after}
+use Rattle.node_model.specs.Sessions.{new_session}
+use Rattle.node_model.specs.SessionStep.{is_filled, session_step}
+use Rattle.node_model.specs.SetUp.{SetUp}
+use Rattle.node_model.specs.Slots.{job_of}
+use Rattle.node_model.specs.State.{State}
+use Rattle.node_ends.specs.Ends.{AreEnds, end_at}
+use Rattle.node_ends.specs.Going.{AreAfter}
+use Rattle.p2p_server.specs.declared.session.Session.{Session}
+use Rattle.p2p_server.specs.Answers.{failed_in as failed_here}
+use Rattle.p2p_server.specs.States.{Keeps, stand_after, stand_of}
+use Rattle.p2p_server.specs.Talking.{AreAfterStep}
+use Rattle.drop_worker.specs.Working.{failed_in}
+use Rattle.node_sessions.specs.declared.served.Served.{Served}
+use Rattle.node_sessions.specs.Kinds.{IsOfSession}
+use Rattle.node_sessions.specs.Sessions.{AreSessions, FedAll, fills_in}
+use Rattle.node_sessions.specs.Serving.{AreAfterIf, FailsBy, HasPart, Sees, SeesPartBy, ServesAt, ServesIf, StepsSo, end_by, ends_after, failed_by as failed_by_served, made_by, sessions_after}
+use Rattle.node_jobs.specs.Places.{IsPlace}
+use Rattle.node_jobs.specs.Running.{AreWorks, DropJob, Jobs, OwnAll as JobsOwn, work_now}
+use Rattle.node_parts.specs.declared.done.Done.{Done}
+use Rattle.node_parts.specs.Parts.{AreParts, HasContents, PartsView}
+use Rattle.node_parts.specs.Sound.{AreSound}
+use Rattle.node_parts.specs.Steps.{Fails, Leaves, LeavesSo, SeesParts, Serves, Steps, failed_by, made_of, state_then}
+use Rattle.node_parts.proofs.Going.{EndsGo}
+
+-- ---- what laws say
+
+abbrev pub FillsLaw : Type 0
+FillsLaw = (s : SetUp) (st : State) (xs : List Session) (key : List ℕ) → AreSessions s st.sessions xs → ((a : EndName) → a.client ≡ false → (st.ends a).opened ≡ false → st.sessions a ≡ new_session)
+    → is_filled s st key ≡ (fills_in xs key || list_any (λ w. w.fills && bytes_eq w.what.key key) st.works)
+
+abbrev pub ClosedLaw : Type 0
+ClosedLaw = (links : List EndView) (v : Served) (st : State) → ServesAt links v → st.ends (end_by v) ≡ end_at links (end_by v) → ((a : EndName) → a.client ≡ false → (st.ends a).opened ≡ false → st.sessions a ≡ new_session)
+    → (a : EndName) → a.client ≡ false → (ends_after st (Some (made_by links v)) a).opened ≡ false → sessions_after st (Some (made_by links v)) a ≡ new_session
+
+abbrev pub JobsStay : Type 0
+JobsStay = (s : SetUp) (st : State) (e : Entry) (jobs : Jobs) (rows : Rows) → AreWorks s st jobs → JobsOwn jobs rows → job_of e.kind ≡ None → ((clock : ℕ) → e.kind ≡ kinds.Crash clock → ⊥) → AreWorks s (state_after s st e) jobs
+
+abbrev pub OwnEntries : Type 0
+OwnEntries = (s : SetUp) (st : State) (k : Look) (m : Made) → session_step s st k ≡ Some m → IsOfSession m.kind × (m.lines ≡ [])
+
+abbrev pub LooksSee : Type 0
+LooksSee = (p : StoredParts) (xs : List Session) (links : List EndView) (o : Option Served) → FedAll p xs → HasPart (Some p) xs links o
+
+-- ---- what the state is
+
+no_work_fills : (key : List ℕ) (js : List DropJob) → list_any (λ (w : Work). w.fills && bytes_eq w.what.key key) (map work_now js) ≡ false
+no_work_fills key [] = refl
+no_work_fills key (j ∷ js) = no_work_fills key js
+
+
+-- the table fills what the state does
+pub table_fills : FillsLaw → (s : SetUp) (st : State) (p : PartsView) (key : List ℕ) → AreSound p → AreParts s st p → is_filling p.table key ≡ is_filled s st key
+table_fills law s st p key sound are =
+    let none : list_any (λ (w : Work). w.fills && bytes_eq w.what.key key) st.works ≡ false = ap (list_any (λ (w : Work). w.fills && bytes_eq w.what.key key)) are.works.works ∙ no_work_fills key p.jobs.running in
+    sound.filled.filled key ∙ (ap (λ (b : Bool). fills_in p.sessions key || b) (sym none) ∙ sym (law s st p.sessions key are.sessions are.closed))
+
+sees_of : FillsLaw → (p : PartsView) (c : Contents) (q : StoredParts) (clock : ClockSet) (time number : ℕ) (o : Option Served) (s : SetUp) (st : State) (k : Look)
+    → AreSound p → SeesParts p c clock time number s st k → SeesPartBy (Some q) p.sessions p.links o k.part k.right → FailsBy o k.fails
+    → Sees p.links p.table (Some c) (Some q) (runs_on clock time) number p.sessions o s st k
+sees_of law p c q clock time number o s st k sound sees part fails = record {
+  ends = sees.parts.ends;
+  look = sees.ends;
+  sessions = sees.parts.sessions;
+  keeps = record { contents = c; told = refl; present = sees.stored.present; content = sees.stored.content; bar = sees.parts.bars; holds = sees.parts.holds };
+  filled = λ key. sym (table_fills law s st p key sound sees.parts);
+  time = ap (λ (f : ℕ → ℕ). f k.time) sees.ticks ∙ ap (runs_on clock) sees.time;
+  made = sym sees.number;
+  part = part;
+  fails = fails;
+}
+
+-- ---- the kinds of its entries
+
+no_job : (kind : EntryKind) → IsOfSession kind → job_of kind ≡ None
+no_job (kinds.Talk None) h = refl
+no_job (kinds.Check found key) h = refl
+no_job (kinds.Share hold end (Peer peer slot) key) h = refl
+no_job (kinds.Release hold key) h = refl
+no_job (kinds.Gone (Peer peer slot) key) h = refl
+no_job (kinds.Gain (Peer peer slot) size key) h = refl
+no_job (kinds.Fault call (Peer peer slot)) h = refl
+no_job (kinds.Close peer slot false) h = refl
+no_job kind h = absurd h
+
+no_crash : (kind : EntryKind) → IsOfSession kind → (clock : ℕ) → kind ≡ kinds.Crash clock → ⊥
+no_crash kind h clock e = subst IsOfSession e h
+
+same_failure : (kind : EntryKind) → failed_in kind ≡ failed_here kind
+same_failure (kinds.Fault call by) = refl
+same_failure kind = refl
+
+-- ---- the state after it
+
+module _ (was now : PartsView) (v : Served) (d : Done) (contents : Option Contents) (s : SetUp) (st : State) (k : Look)
+    (sound : AreSound was) (are : AreParts s st was) (jobs : now.jobs ≡ was.jobs) (serves : ServesAt was.links v) (same : made_of d ≡ made_by was.links v)
+    (after : AreAfterStep v.kind was.table now.table) (ends : AreAfter was.links now.links d.taken d.sent) (steps : StepsSo was.links (Some v) now.sessions now.table contents s st k) where
+  kind_is : d.kind ≡ v.kind
+  kind_is = ap (λ (m : Made). m.kind) same
+
+  step_is : session_step s st k ≡ Some (made_of d)
+  step_is = steps.made ∙ ap (λ (m : Made). Some m) (sym same)
+
+  then_is : State
+  then_is = state_after s st (entry_of s.number k (made_of d))
+
+  pub parts_served : EndsGo → ClosedLaw → JobsStay → OwnEntries → AreParts s (state_after s st (entry_of s.number k (made_of d))) now
+  parts_served go shuts stay own =
+      let is_own : IsOfSession d.kind = (own s st k (made_of d) step_is).0 in
+      record {
+        place = subst (λ (j : Jobs). IsPlace j.place s) (sym jobs) are.place;
+        holds = after.holds ∙ (λ i. holds_after (are.holds i) (sym kind_is i));
+        bars = λ key. after.bars key ∙ (λ i. bar_after key (are.bars key i) (sym kind_is i));
+        ends = go was.links now.links s st (entry_of s.number k (made_of d)) are.ends ends;
+        each = λ a. ap (λ (c : End). fold (λ (x : End) (f : FrameView). end_sends x f.body) (end_took c (taken_at a d.taken)) (sent_at a d.sent)) (are.each a) ∙ sym (ends.ends a);
+        sessions = subst (λ (m : Made). AreSessions s (sessions_after st (Some m)) now.sessions) (sym same) steps.next;
+        closed = λ a server shut. subst (λ (m : Made). (ends_after st (Some m) a).opened ≡ false → sessions_after st (Some m) a ≡ new_session) (sym same) (shuts was.links v st serves (are.each (end_by v)) are.closed a server) shut;
+        works = subst (AreWorks s (state_after s st (entry_of s.number k (made_of d)))) (sym jobs)
+            (stay s st (entry_of s.number k (made_of d)) was.jobs was.table are.works sound.acting (no_job d.kind is_own) (λ clock e. no_crash d.kind is_own clock e));
+        logs = refl;
+      }
+
+  pub stored_served : ForSome contents (λ c. HasContents c (state_after s st (entry_of s.number k (made_of d))))
+  stored_served =
+      subst (λ (o : Option Contents). ForSome o (λ c. HasContents c (state_after s st (entry_of s.number k (made_of d))))) (sym steps.keeps.told)
+      (record {
+        present = λ key. steps.keeps.present key ∙ ap (present_after key (st.present key)) (sym kind_is);
+        content = λ key. steps.keeps.content key ∙ ap (content_after key (st.content key)) (sym kind_is);
+      })
+
+-- ---- the step
+
+-- what there is of it for a state and a look
+abbrev pub Then : PartsView → PartsView → Option Contents → Option Served → Option Done → Type 0
+Then was now contents o d = (s : SetUp) (st : State) (k : Look) → AreParts s st was → StepsSo was.links o now.sessions now.table contents s st k → Steps session_step now contents s st k d
+
+pub then_none : (was now : PartsView) (contents : Option Contents) → now ≡ was → Then was now contents None None
+then_none was now contents same s st k are steps = record {
+  made = steps.made;
+  parts = subst (AreParts s st) (sym same) are;
+  stored = subst (λ (o : Option Contents). ForSome o (λ c. HasContents c st)) (sym steps.keeps.told) (record { present = steps.keeps.present; content = steps.keeps.content });
+}
+
+pub then_some : EndsGo → ClosedLaw → JobsStay → OwnEntries → (was now : PartsView) (contents : Option Contents) (v : Served) (d : Done)
+    → AreSound was → now.jobs ≡ was.jobs → ServesAt was.links v → made_of d ≡ made_by was.links v → AreAfterStep v.kind was.table now.table → AreAfter was.links now.links d.taken d.sent
+    → Then was now contents (Some v) (Some d)
+then_some go shuts stay own was now contents v d sound jobs serves same after ends s st k are steps = record {
+  made = steps.made ∙ ap (λ (m : Made). Some m) (sym same);
+  parts = parts_served was now v d contents s st k sound are jobs serves same after ends steps go shuts stay own;
+  stored = stored_served was now v d contents s st k sound are jobs serves same after ends steps;
+}
+
+-- the look finds of the call that fails what the entry of the sessions tells
+abbrev pub FailsSo : Option Served → Option Done → Type 0
+FailsSo o d = (k : Look) → Fails d k → FailsBy o k.fails
+
+pub fails_none : FailsSo None None
+fails_none k f = tt
+
+pub fails_some : (links : List EndView) (v : Served) (d : Done) → made_of d ≡ made_by links v → FailsSo (Some v) (Some d)
+fails_some links v d same k f = f ∙ (same_failure d.kind ∙ ap failed_here (ap (λ (m : Made). m.kind) same))
+
+pub serves : FillsLaw → LooksSee → (was now : PartsView) (known contents : Option Contents) (parts : Option StoredParts) (clock : ClockSet) (time number : ℕ) (o : Option Served) (d : Option Done)
+    → AreSound was
+    → ((s : SetUp) (st : State) (k : Look) → Sees was.links was.table known parts (runs_on clock time) number was.sessions o s st k → StepsSo was.links o now.sessions now.table contents s st k)
+    → Then was now contents o d → FailsSo o d
+    → ForSome known (λ c. ForSome parts (λ q. FedAll q was.sessions → Serves was now c contents clock time number d))
+serves fills looks was now None contents parts clock time number o d sound step then_d fails = tt
+serves fills looks was now (Some c) contents None clock time number o d sound step then_d fails = tt
+serves fills looks was now (Some c) contents (Some q) clock time number o d sound step then_d fails = λ fed.
+    let has = looks q was.sessions was.links o fed in
+    record {
+      part = has.part;
+      right = has.right;
+      steps = λ s st k sees fail is_part is_right.
+          let part : SeesPartBy (Some q) was.sessions was.links o k.part k.right =
+              subst (λ (n : ℕ). SeesPartBy (Some q) was.sessions was.links o n k.right) (sym is_part) (subst (λ (b : Bool). SeesPartBy (Some q) was.sessions was.links o has.part b) (sym is_right) has.sees) in
+          then_d s st k sees.parts (step s st k (sees_of fills was c q clock time number o s st k sound sees part (fails k fail)));
+    }
+
+-- ---- what is left
+
+pub leaves_served : (number : ℕ) (was now : PartsView) (v : Served) (d : Done) → made_of d ≡ made_by was.links v → AreAfterStep v.kind was.table now.table
+    → All (λ h. h.number < number + 1) now.table.holds → AreAfter was.links now.links d.taken d.sent → LeavesSo number was now (Some d)
+leaves_served number was now v d same after numbers ends = record {
+  holds = after.holds ∙ ap (holds_after was.table.holds) (sym (ap (λ (m : Made). m.kind) same));
+  bars = λ key. after.bars key ∙ ap (bar_after key (bar_at was.table key)) (sym (ap (λ (m : Made). m.kind) same));
+  numbers = numbers;
+  ends = ends;
+}

@@ -1,0 +1,146 @@
+-- What the parts have of their table and of their ends, after these have changed.
+use Rattle.std.proofs.Common.{◌≡◌, ◌≢◌, ℕ, ◌<◌, ◌*◌, Bool, true, false, List, [], ◌∷◌, Option, Some, None, length, refl, sym, ap, subst, ◌∙◌, arith}
+use Rattle.std.specs.Prelude.{is_some, nat_lt, not, ◌==◌, ◌||◌, All}
+use Rattle.std.proofs.lemmas.Bool.{true≢false}
+use Rattle.std.proofs.lemmas.Bool.Decides.{nat_tests}
+use Rattle.annex_base.specs.Lists.{Each}
+use Rattle.annex_base.proofs.Lists.{Each-weaker}
+use Rattle.run_data.specs.declared.entry.By.TheVariants.{Job as by_job}
+use Rattle.link_ring.specs.Ends.{EndView}
+use Rattle.content_lock.specs.Rows.{Rows, bar_at}
+use Rattle.content_lock.specs.Tokens.{Owns, ShareView}
+use Rattle.p2p_server.specs.declared.session.Session.{Session}
+use Rattle.node_model.specs.Ends.{EndName}
+use Rattle.node_model.specs.Rows.{option_is}
+use Rattle.node_ends.specs.Ends.{link_at}
+use Rattle.node_ends.specs.Joined.{AreCarried, AreJoined, BothPaired, StayPaired, StaysSo, end_with, link_carried}
+use Rattle.node_sessions.specs.Sessions.{AreFilled, HaveEnds, IsOther, OwnAll, end_of, fills_in}
+use Rattle.drop_worker.specs.declared.phase.Token.{Token}
+use Rattle.drop_worker.specs.declared.phase.Token.TheVariants as tokens
+use Rattle.drop_worker.specs.Doing.{HasToken, share_in}
+use Rattle.node_jobs.specs.Running.{IsOwn, Jobs, OwnAll as JobsOwn}
+use Rattle.node_parts.specs.Parts.{PartsView}
+use Rattle.node_parts.specs.Sound.{AreSound}
+
+-- ---- what is paired
+
+pub stays_same : (o : Option EndView) → StaysSo o o
+stays_same None = tt
+stays_same (Some v) = λ other pair. pair
+
+stays_so_on : (a b c : Option EndView) → StaysSo a b → StaysSo b c → StaysSo a c
+stays_so_on None None c p q = q
+stays_so_on None (Some y) c p q = absurd p
+stays_so_on (Some x) None c p q = absurd p
+stays_so_on (Some x) (Some y) None p q = q
+stays_so_on (Some x) (Some y) (Some z) p q = λ other pair. q other (p other pair)
+
+pub stay_same : (links : List EndView) → StayPaired links links
+stay_same links a = stays_same (link_at links a)
+
+pub stay_on : (was mid now : List EndView) → StayPaired was mid → StayPaired mid now → StayPaired was now
+stay_on was mid now p q a = stays_so_on (link_at was a) (link_at mid a) (link_at now a) (p a) (q a)
+
+stays_there : (a b : Option EndView) → StaysSo a b → is_some a ≡ true → is_some b ≡ true
+stays_there None b p is = absurd (true≢false (sym is))
+stays_there (Some x) None p is = absurd p
+stays_there (Some x) (Some y) p is = refl
+
+-- ---- the ends of the sessions
+
+pub there_still : (was now : List EndView) (xs : List Session) → StayPaired was now → HaveEnds was xs → HaveEnds now xs
+there_still was now xs p there = λ i x at. stays_there (link_at was (end_of x)) (link_at now (end_of x)) (p (end_of x)) (there i x at)
+
+pub there_as : (was now : List EndView) (xs : List Session) → ((a : EndName) → is_some (link_at now a) ≡ is_some (link_at was a)) → HaveEnds was xs → HaveEnds now xs
+there_as was now xs same there = λ i x at. same (end_of x) ∙ there i x at
+
+-- ---- frames were carried
+
+pub first_there : (a b : Option EndView) → BothPaired a b → is_some a ≡ true
+first_there None b p = absurd p
+first_there (Some x) b p = refl
+
+pub second_there : (a b : Option EndView) → BothPaired a b → is_some b ≡ true
+second_there None b p = absurd p
+second_there (Some x) None p = absurd p
+second_there (Some x) (Some y) p = refl
+
+carried_some : (a b : Option EndView) → is_some a ≡ true → is_some b ≡ true → is_some (link_carried a b) ≡ true
+carried_some None b p q = absurd (true≢false (sym p))
+carried_some (Some x) None p q = absurd (true≢false (sym q))
+carried_some (Some x) (Some y) p q = refl
+
+low_slot : (links : List EndView) (x : EndName) → is_some (link_at links x) ≡ true → x.slot < 4
+low_slot links x is = go (nat_lt x.slot 4) refl is
+  where
+    go : (b : Bool) → nat_lt x.slot 4 ≡ b → is_some (link_at links x) ≡ true → x.slot < 4
+    go true low at = grind (arith, nat_tests)
+    go false high at = absurd (true≢false (sym (rw high at at)))
+
+-- each end that was there is there, where those of the other side are
+pub carried_there : (a b : ℕ) (was now other : List EndView) → AreCarried a b was now other
+    → ((slot : ℕ) (client : Bool) → slot < 4 → is_some (link_at other (end_with a slot (not client))) ≡ true)
+    → (x : EndName) → is_some (link_at was x) ≡ true → is_some (link_at now x) ≡ true
+carried_there a b was now other carried sides x is = go (x.peer == b) refl
+  where
+    go : (q : Bool) → (x.peer == b) ≡ q → is_some (link_at now x) ≡ true
+    go true same =
+        let peer : x.peer ≡ b = grind (arith, nat_tests) in
+        let name : x ≡ end_with b x.slot x.client = (λ i. record { peer = peer i; slot = x.slot; client = x.client }) in
+        let low = low_slot was x is in
+        ap (λ (y : EndName). is_some (link_at now y)) name
+        ∙ (ap is_some (carried.carried x.slot x.client low)
+        ∙ carried_some (link_at was (end_with b x.slot x.client)) (link_at other (end_with a x.slot (not x.client))) (ap (λ (y : EndName). is_some (link_at was y)) (sym name) ∙ is) (sides x.slot x.client low))
+    go false other_peer =
+        let apart : x.peer ≢ b = (λ same. grind (arith, nat_tests)) in
+        ap is_some (carried.others x apart) ∙ is
+
+pub joined_first : (a b : ℕ) (xs ys : List EndView) → AreJoined a b xs ys → (slot : ℕ) (client : Bool) → slot < 4 → is_some (link_at ys (end_with a slot (not client))) ≡ true
+joined_first a b xs ys joined slot client low = second_there (link_at xs (end_with b slot client)) (link_at ys (end_with a slot (not client))) (joined slot client low)
+
+pub joined_second : (a b : ℕ) (xs ys : List EndView) → AreJoined a b xs ys → (slot : ℕ) (client : Bool) → slot < 4 → is_some (link_at xs (end_with b slot (not client))) ≡ true
+joined_second a b xs ys joined slot client low = first_there (link_at xs (end_with b slot (not client))) (link_at ys (end_with a slot (not (not client)))) (joined slot (not client) low)
+
+-- ---- the tokens of the jobs
+
+-- no session acts for a job
+pub no_jobs : (xs : List Session) (job : ℕ) → IsOther (by_job job) xs
+no_jobs xs job = λ i x at. refl
+
+-- what jobs own stays theirs
+abbrev pub LeavesJobs : Rows → Rows → Type 0
+LeavesJobs was now = (job : ℕ) (share : Option ShareView) → Owns (by_job job) share was.holds → Owns (by_job job) share now.holds
+
+keeps_token : (was now : Rows) → ((key : List ℕ) → bar_at now key ≡ bar_at was key) → LeavesJobs was now → (job : ℕ) (key : List ℕ) (t : Token) → HasToken job key t was → HasToken job key t now
+keeps_token was now bars others job key t has = record {
+  of_key = has.of_key;
+  of_job = has.of_job;
+  bars = λ k. ap (λ (o : Option ℕ). option_is o job) (bars k) ∙ has.bars k;
+  holds = others job (share_in t) has.holds;
+}
+
+pub jobs_keep : (jobs : Jobs) (was now : Rows) → ((key : List ℕ) → bar_at now key ≡ bar_at was key) → LeavesJobs was now → JobsOwn jobs was → JobsOwn jobs now
+jobs_keep jobs was now bars others own = record {
+  drops = own.drops;
+  owns = Each-weaker (IsOwn jobs.begun was) (IsOwn jobs.begun now)
+      (λ j o. record { number = o.number; owns = keeps_token was now bars others j.worker.number j.worker.job.key j.worker.token o.owns }) jobs.running own.owns;
+  apart = own.apart;
+  later = λ job key beyond. keeps_token was now bars others job key tokens.Nothing (own.later job key beyond);
+}
+
+-- ---- all of it
+
+-- after a step of the sessions
+pub sound_after : (was : PartsView) (table : Rows) (links : List EndView) (xs : List Session) → AreSound was → length links ≡ length was.links → HaveEnds links xs → OwnAll table xs → AreFilled table xs (λ key. false)
+    → ((key : List ℕ) → bar_at table key ≡ bar_at was.table key) → LeavesJobs was.table table → AreSound (record { table = table; links = links; sessions = xs; jobs = was.jobs })
+sound_after was table links xs sound count there own filled bars others = record {
+  count = count ∙ sound.count;
+  there = there;
+  serving = own;
+  acting = jobs_keep was.jobs was.table table bars others sound.acting;
+  filled = filled;
+}
+
+-- after frames were carried or dropped
+pub sound_ends : (was : PartsView) (links : List EndView) → AreSound was → length links ≡ length was.links → HaveEnds links was.sessions → AreSound (record was { links = links })
+sound_ends was links sound count there = record { count = count ∙ sound.count; there = there; serving = sound.serving; acting = sound.acting; filled = sound.filled }

@@ -1,0 +1,5 @@
+-- The definitions of this crate.
+pub mod Parts
+pub mod Sound
+pub mod Steps
+pub mod Direct

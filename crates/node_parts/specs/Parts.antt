@@ -1,0 +1,40 @@
+-- The moving parts of a repository, and the state that they are (own).
+use Rattle.std.specs.Prelude.{◌≡◌, ℕ, List, Bool, false, is_some, length, Option}
+use Rattle.std.specs.Option.{option_map}
+use Rattle.object_store.specs.Stores.{Contents}
+use Rattle.content_lock.specs.Rows.{Rows, bar_at}
+use Rattle.link_ring.specs.Ends.{EndView}
+use Rattle.node_ends.specs.Ends.{AreEnds, end_at}
+use Rattle.p2p_server.specs.declared.session.Session.{Session}
+use Rattle.node_sessions.specs.Sessions.{AreSessions}
+use Rattle.node_jobs.specs.Places.{IsPlace}
+use Rattle.node_jobs.specs.Running.{AreWorks, Jobs}
+use Rattle.trust_groups.specs.Settings.{settings}
+use Rattle.node_model.specs.Ends.{EndName}
+use Rattle.node_model.specs.Sessions.{new_session}
+use Rattle.node_model.specs.SetUp.{SetUp}
+use Rattle.node_model.specs.State.{State}
+
+-- its rows, its ends with the frames at hand and on the way, its sessions as a server, and its running jobs
+pub record PartsView : Type 0 where
+  pub table : Rows
+  pub links : List EndView
+  pub sessions : List Session
+  pub jobs : Jobs
+
+-- the parts are those of this state
+pub record AreParts (s : SetUp) (st : State) (p : PartsView) : Type 0 where
+  pub place : IsPlace p.jobs.place s
+  pub holds : p.table.holds ≡ st.holds
+  pub bars : (key : List ℕ) → bar_at p.table key ≡ st.bar key
+  pub ends : AreEnds p.links s st
+  pub each : (a : EndName) → st.ends a ≡ end_at p.links a
+  pub sessions : AreSessions s st.sessions p.sessions
+  pub closed : (a : EndName) → a.client ≡ false → (st.ends a).opened ≡ false → st.sessions a ≡ new_session
+  pub works : AreWorks s st p.jobs
+  pub logs : st.logs ≡ settings st.lines
+
+-- the store has the contents of this state
+pub record HasContents (c : Contents) (st : State) : Type 0 where
+  pub present : (key : List ℕ) → is_some (c key) ≡ st.present key
+  pub content : (key : List ℕ) → option_map length (c key) ≡ st.content key

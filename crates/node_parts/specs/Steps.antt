@@ -1,0 +1,90 @@
+-- What a step of a repository's parts makes, and what it leaves (own).
+use Rattle.std.specs.Prelude.{◌≡◌, ℕ, ◌+◌, ◌<◌, Bool, List, [], All, Option, Some, None, option_and_then}
+use Rattle.std.specs.Option.{ForSome, option_map, option_map_or}
+use Rattle.annex_base.specs.Settings.{Settings}
+use Rattle.annex_base.specs.declared.kinds.Call.{Call}
+use Rattle.annex_base.specs.declared.kinds.Word.{Word}
+use Rattle.object_store.specs.Stores.{Contents}
+use Rattle.run_data.specs.declared.entry.Entry.{Entry}
+use Rattle.content_lock.specs.Rows.{Rows, bar_at}
+use Rattle.link_ring.specs.Ends.{EndView}
+use Rattle.node_ends.specs.Ends.{SeesEnds}
+use Rattle.node_ends.specs.Going.{AreAfter}
+use Rattle.node_model.specs.After.{state_after}
+use Rattle.node_model.specs.Clocks.{ClockSet, runs_on}
+use Rattle.node_model.specs.Look.{Look, Made, entry_of}
+use Rattle.node_model.specs.Rows.{bar_after, holds_after}
+use Rattle.node_model.specs.SetUp.{SetUp}
+use Rattle.node_model.specs.SessionStep.{session_step}
+use Rattle.node_model.specs.State.{State}
+use Rattle.node_model.specs.Turns.{job_step}
+use Rattle.node_jobs.specs.Running.{words_at}
+use Rattle.drop_worker.specs.Working.{failed_in}
+use Rattle.node_parts.specs.declared.done.Done.{Done}
+use Rattle.node_parts.specs.Parts.{AreParts, HasContents, PartsView}
+
+-- ---- what is made
+
+abbrev pub made_of : Done → Made
+made_of d = record { kind = d.kind; taken = d.taken; sent = d.sent; lines = [] }
+
+-- the store call that failed
+abbrev pub failed_by : Option Done → Option Call
+failed_by None = None
+failed_by (Some d) = failed_in d.kind
+
+-- ---- what a look finds
+
+-- The state is what these parts and a store with these contents are, before the entry of this number; and at this time the look
+-- finds what waits at the ends, and where they have room.
+pub record SeesParts (p : PartsView) (c : Contents) (clock : ClockSet) (time number : ℕ) (s : SetUp) (st : State) (k : Look) : Type 0 where
+  pub parts : AreParts s st p
+  pub stored : HasContents c st
+  pub ticks : st.clock ≡ runs_on clock
+  pub number : number ≡ st.made + 1
+  pub ends : SeesEnds p.links s k
+  pub time : k.time ≡ time
+
+-- where there is a step, the look finds its store call to fail that the entry tells
+abbrev pub Fails : Option Done → Look → Type 0
+Fails o k = ForSome o (λ d. k.fails ≡ failed_in d.kind)
+
+-- ---- what is left
+
+-- the state after the step's entry; where there is no step, it stays
+abbrev pub state_then : SetUp → State → Look → Option Done → State
+state_then s st k None = st
+state_then s st k (Some d) = state_after s st (entry_of s.number k (made_of d))
+
+-- this is the step that the definitions have, and the parts and the contents are those of the state after it
+pub record Steps (step : SetUp → State → Look → Option Made) (now : PartsView) (contents : Option Contents) (s : SetUp) (st : State) (k : Look) (o : Option Done) : Type 0 where
+  pub made : step s st k ≡ option_map made_of o
+  pub parts : AreParts s (state_then s st k o) now
+  pub stored : ForSome contents (λ c. HasContents c (state_then s st k o))
+
+-- There is a part, as the store has it, with which this is the step of the sessions: of each state that the parts and the store are,
+-- at a look that finds that part, and the step's store call to fail that its entry tells.
+pub record Serves (was now : PartsView) (c : Contents) (contents : Option Contents) (clock : ClockSet) (time number : ℕ) (o : Option Done) : Type 0 where
+  pub part : ℕ
+  pub right : Bool
+  pub steps : (s : SetUp) (st : State) (k : Look) → SeesParts was c clock time number s st k → Fails o k → k.part ≡ part → k.right ≡ right → Steps session_step now contents s st k o
+
+-- the words that the acting job heard beside its peers' answers
+abbrev pub words_heard : PartsView → Option Done → ℕ → Option Word
+words_heard p o = option_map_or (words_at p.jobs.running) (option_and_then (λ (d : Done). d.job) o) (λ c. None)
+
+-- the step of the jobs, of each state that the parts and the store are, at a look that finds those words
+abbrev pub Acts : PartsView → PartsView → Contents → Option Contents → ClockSet → Settings → ℕ → ℕ → Option Done → Type 0
+Acts was now c contents clock settings time number o = (s : SetUp) (st : State) (k : Look)
+    → st.logs ≡ settings → SeesParts was c clock time number s st k → Fails o k → k.words ≡ words_heard was o → Steps job_step now contents s st k o
+
+-- the rows are those after the entry, and the ends took and sent its frames; also where the store doesn't tell its contents
+pub record Leaves (number : ℕ) (was now : PartsView) (d : Done) : Type 0 where
+  pub holds : now.table.holds ≡ holds_after was.table.holds d.kind
+  pub bars : (key : List ℕ) → bar_at now.table key ≡ bar_after key (bar_at was.table key) d.kind
+  pub numbers : All (λ h. h.number < number + 1) now.table.holds
+  pub ends : AreAfter was.links now.links d.taken d.sent
+
+abbrev pub LeavesSo : ℕ → PartsView → PartsView → Option Done → Type 0
+LeavesSo number was now None = now ≡ was
+LeavesSo number was now (Some d) = Leaves number was now d

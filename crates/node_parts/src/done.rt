@@ -1,0 +1,12 @@
+//! What a step made.
+use annex_base::Items;
+use run_data::{EntryKind, FrameView};
+
+/// What a step made: the job that made it, if one did; what kind of entry; the frame that it took, and those that it sent (own).
+#[derive(Debug, Drop)]
+pub struct Done {
+    pub job: Option<u32>,
+    pub kind: EntryKind,
+    pub taken: Option<FrameView>,
+    pub sent: Items<FrameView>,
+}

@@ -1,0 +1,28 @@
+//! When an entry is made.
+ghost use Rattle.std.specs.Prelude.{◌≡◌};
+use annex_base::EntryStamp;
+use drop_worker::Time;
+use node_jobs::Clock;
+
+/// When the next entry of a repository is made: the time, the clock of the repository, the entry's count, and its number among
+/// those of the repository, from 1 (own).
+#[derive(Clone, Copy, Debug, PartialEq, Eq)]
+pub struct Moment {
+    pub time: Time,
+    pub clock: Clock,
+    pub count: u64,
+    pub number: u64,
+}
+
+impl Moment {
+    /// The stamp of the entry, as one of the repository of this number.
+    pub(crate) fn stamp(self, repo: u32) -> EntryStamp
+        ensures { result ≡ record { time = self.time; count = self.count; repo = repo } }
+    {
+        EntryStamp {
+            time: self.time.ms(),
+            count: self.count,
+            repo,
+        }
+    }
+}
