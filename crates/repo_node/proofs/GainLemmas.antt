@@ -16,7 +16,7 @@ use Rattle.repo_node.specs.declared.past.Past.{Past}
 use Rattle.repo_node.specs.declared.refused.NodeRefused.{NodeRefused}
 use Rattle.repo_node.specs.declared.refused.NodeRefused.TheVariants as refusals
 use Rattle.repo_node.specs.Debts.{with_status}
-use Rattle.repo_node.specs.Idle.{IsKept, owed_refused}
+use Rattle.repo_node.specs.Kept.{IsKept, owed_refused}
 use Rattle.repo_node.specs.Nodes.{NodeView}
 use Rattle.repo_node.specs.Pasts.{AddsTo, FailsAtScripts, FailsFor, SamePast}
 use Rattle.repo_node.specs.Placing.{HasPart, IsPlaced, IsTaken, StopsBefore, StopsPlacing, with_content, with_gain, with_placed}

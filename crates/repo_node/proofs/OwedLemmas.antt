@@ -23,7 +23,7 @@ use Rattle.node_model.specs.Clocks.{wall}
 use Rattle.node_model.specs.Owed.{Owed, due, if_new, owed_after, owed_without, pays, same_lines, status_line}
 use Rattle.node_model.specs.SetUp.{SetUp}
 use Rattle.node_model.specs.State.{State}
-use Rattle.repo_node.specs.Idle.{IsDirect, first_goes, is_debtor, owed_refused}
+use Rattle.repo_node.specs.Kept.{IsDirect, first_goes, is_debtor, owed_refused}
 use Rattle.repo_node.specs.Nodes.{Fits, IsState, NodeView, are_due, due_by, id_known, next_entry, owed_now, state_of}
 use Rattle.repo_node.specs.Owing.{AreDebts, owed_at, owed_of, rest_if}
 use Rattle.repo_node.specs.Pasts.{AddsTo, FailsFor, SamePast}

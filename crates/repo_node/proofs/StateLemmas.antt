@@ -28,7 +28,7 @@ use Rattle.node_model.specs.SetUp.{SetUp, served_connections}
 use Rattle.node_model.specs.State.{State}
 use Rattle.repo_node.specs.declared.setup.Setup.{Setup}
 use Rattle.repo_node.specs.Nodes.{Fits, IsState, NodeView, owed_now, state_of}
-use Rattle.repo_node.specs.Idle.{IsDirect, IsIdle, IsKept, IsOfFiles, may_fail}
+use Rattle.repo_node.specs.Kept.{IsDirect, IsIdle, IsKept, IsOfFiles, may_fail}
 use Rattle.repo_node.specs.Owing.{AreDebts, owed_at}
 use Rattle.repo_node.proofs.OwedLemmas.{owed_is}
 

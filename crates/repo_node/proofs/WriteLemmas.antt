@@ -20,7 +20,7 @@ use Rattle.repo_node.specs.declared.refused.NodeRefused.TheVariants as refusals
 use Rattle.repo_node.specs.declared.setup.Ended.{Ended}
 use Rattle.repo_node.specs.declared.setup.Setup.{Setup}
 use Rattle.node_model.specs.Owed.{Owed}
-use Rattle.repo_node.specs.Idle.{IsKept, IsOfFiles, may_fail, owed_refused}
+use Rattle.repo_node.specs.Kept.{IsKept, IsOfFiles, may_fail, owed_refused}
 use Rattle.repo_node.specs.Nodes.{HasFiles, NodeView, owed_now, with_entry}
 use Rattle.repo_node.specs.Owing.{rest_if}
 use Rattle.repo_node.specs.Pasts.{AddsTo, FailsFor, SamePast}

@@ -45,7 +45,7 @@ PartAfter taken key bytes known known' = MatchBool taken (known' ≡ known) (Has
 -- content has come, or where it was there or being filled, nothing is done.
 pub record IsPlaced {K : Type 0} (key bytes : List ℕ) (known : Option Contents) (parts : Option Parts) (known' : Option Contents) (was now : NodeView K) : Type 0 where
   pub taken : Bool
-  pub told : IsTaken taken known was.table key
+  pub told : IsTaken taken known was.parts.table key
   pub node : now ≡ (if taken then over now.keeper was else with_placed was now.keeper key (length bytes))
   pub contents : known' ≡ (if taken then known else with_content known parts key bytes)
 

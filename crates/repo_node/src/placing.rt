@@ -213,7 +213,7 @@ impl<K: Keeper> Node<K> {
     /// Makes the bytes the key's part; where the content is there or being filled, it answers so and does nothing.
     fn bring(&mut self, key: &Key, bytes: &[u8]) -> Result<bool, NodeRefused>
         ensures ok { OnOk result (self.new ≡ over self.new.keeper self.old) }
-        ensures taken { IfOk result (λ taken. IsTaken taken (K.contents self.old.keeper) self.old.table key.now) }
+        ensures taken { IfOk result (λ taken. IsTaken taken (K.contents self.old.keeper) self.old.parts.table key.now) }
         ensures part { IfOk result (λ taken. taken ≡ false → HasPart key.now bytes.now (K.parts self.old.keeper) (K.parts self.new.keeper)) }
         ensures left { IfOk result (λ taken. taken ≡ true → K.parts self.new.keeper ≡ K.parts self.old.keeper) }
         ensures err { IfErr result (λ e. StopsBefore e self.old self.new) }
@@ -221,7 +221,7 @@ impl<K: Keeper> Node<K> {
         ensures later { K.faults self.old.keeper ≤ K.faults self.new.keeper }
         ensures cause { IsErrOf result NodeRefused.StoreFault → Rose (K.faults self.old.keeper) (K.faults self.new.keeper) }
     {
-        bring(&mut self.keeper, &self.table, &mut self.past, key, bytes)
+        bring(&mut self.keeper, self.parts.table(), &mut self.past, key, bytes)
     }
 
     /// Makes the key's part its content, by one entry.
@@ -240,7 +240,7 @@ impl<K: Keeper> Node<K> {
     /// Replaces the part of the key by these bytes; where the content is there or being filled, nothing is done (own).
     pub fn place_part(&mut self, key: &Key, bytes: &[u8]) -> Result<(), NodeRefused>
         ensures ok { OnOk result (self.new ≡ over self.new.keeper self.old) }
-        ensures part { OnOk result ((taken : Bool) × IsTaken taken (K.contents self.old.keeper) self.old.table key.now × PartAfter taken key.now bytes.now (K.parts self.old.keeper) (K.parts self.new.keeper)) }
+        ensures part { OnOk result ((taken : Bool) × IsTaken taken (K.contents self.old.keeper) self.old.parts.table key.now × PartAfter taken key.now bytes.now (K.parts self.old.keeper) (K.parts self.new.keeper)) }
         ensures err { IfErr result (λ e. StopsBefore e self.old self.new) }
         ensures contents { K.contents self.new.keeper ≡ K.contents self.old.keeper }
         ensures later { K.faults self.old.keeper ≤ K.faults self.new.keeper }

@@ -11,7 +11,7 @@ ghost use Rattle.std.specs.Option.{ForSome};
 ghost use Rattle.trust_groups.specs.Adding.{lines_and};
 ghost use Rattle.trust_groups.specs.Reads.{Reads};
 ghost use Rattle.trust_groups.specs.Settings.{Lines};
-ghost use Rattle.repo_node.specs.Idle.{IsOfFiles, first_goes};
+ghost use Rattle.repo_node.specs.Kept.{IsOfFiles, first_goes};
 ghost use Rattle.repo_node.specs.Indexed.{ReadsAlike};
 ghost use Rattle.repo_node.specs.Nodes.{owed_now, with_entry};
 ghost use Rattle.repo_node.specs.Owing.{rest_if};

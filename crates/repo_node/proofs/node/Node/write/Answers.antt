@@ -5,7 +5,7 @@ use Rattle.node_model.specs.Files.{lines_after}
 use Rattle.union_merge.specs.Branch.{Files, lines_at, with_file}
 use Rattle.trust_groups.specs.Adding.{lines_and}
 use Rattle.repo_node.specs.Indexed.{ReadsAlike}
-use Rattle.repo_node.specs.Idle.{first_goes}
+use Rattle.repo_node.specs.Kept.{first_goes}
 use Rattle.repo_node.proofs.IndexLemmas.{indexed_written}
 use Rattle.repo_node.proofs.OwedLemmas.{debts_left, owed_in, owed_unwritten, owed_written, write_grows}
 use Rattle.repo_node.proofs.WriteLemmas.{seen_owed, seen_written, seen_refused, kept_written, files_written}
