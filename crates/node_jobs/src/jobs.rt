@@ -74,11 +74,25 @@ impl Jobs {
         self.place.number()
     }
 
+    /// How many repositories there are.
+    pub fn repositories(&self) -> u32
+        ensures { result ≡ length self.now.place.ids }
+    {
+        self.place.count()
+    }
+
     /// How many jobs were begun.
     pub fn begun(&self) -> u32
         ensures { result ≡ self.now.begun }
     {
         self.begun
+    }
+
+    /// How many jobs run.
+    pub fn running(&self) -> usize
+        ensures { result ≡ length self.now.running }
+    {
+        self.running.len()
     }
 
     /// Begins a drop of the repository's own copy, and gives its number. It makes no step yet.
@@ -161,6 +175,8 @@ impl Jobs {
         ensures records { K.records keeper.new ≡ K.records keeper.old }
         ensures later { K.faults keeper.old ≤ K.faults keeper.new }
         ensures cause { IfOk result (λ a. IfSome a (λ it. IfSome (failed_in it.kind) (λ call. Rose (K.faults keeper.old) (K.faults keeper.new)))) }
+        ensures parts { K.parts keeper.new ≡ K.parts keeper.old }
+        ensures files { K.files keeper.new ≡ K.files keeper.old }
     {
         let Some(found) = find_ready(&self.running, alloc, &self.place, clock, ends, time)? else {
             return Ok(None);

@@ -1,5 +1,7 @@
 -- The definitions of this crate.
 pub mod Parts
 pub mod Sound
+pub mod Kinds
 pub mod Steps
 pub mod Direct
+pub mod Posting

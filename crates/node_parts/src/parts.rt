@@ -38,10 +38,10 @@ use std::marker::Model;
 /// The moving parts of a repository: its lock table, its ends, its sessions and its running jobs (own). They have tokens to
 /// spend, so they are dissolved and never dropped.
 pub struct Parts {
-    table: LockTable,
-    ends: Ends,
-    sessions: Sessions,
-    jobs: Jobs,
+    pub(crate) table: LockTable,
+    pub(crate) ends: Ends,
+    pub(crate) sessions: Sessions,
+    pub(crate) jobs: Jobs,
 }
 
 impl Model for Parts {
