@@ -154,6 +154,7 @@ kept_more n branch' told told' owed' kind lines laws d kept here moves owes =
       clock = λ s fits. ap (λ (st : State). st.clock) (state_more s n.history e) ∙ clock_same (state_of s n.history).clock n.time kind d ∙ kept.clock s fits;
       numbered = numbers_more n.history e n.parts.table.holds kept.numbered;
       place = kept.place;
+      begun = omega (arith, kept.begun, longer n.history e);
     }
 
 -- the call that writes a file may fail for whomever it is made
@@ -188,9 +189,9 @@ no_rows = record { holds = []; bars = []; fills = [] }
 first_numbered : (rows : Rows) → rows ≡ no_rows → All (λ h. h.number < 1) rows.holds
 first_numbered rows none = subst (λ (r : Rows). All (λ h. h.number < 1) r.holds) (sym none) (λ k d less. absurd (omega (arith, less)))
 
-pub kept_first : (setup : Setup) (p : PartsView) (told : Option Contents) → Laws p → p.table ≡ no_rows → p.jobs.place ≡ record { number = setup.number; ids = setup.repos }
+pub kept_first : (setup : Setup) (p : PartsView) (told : Option Contents) → Laws p → p.table ≡ no_rows → p.jobs.place ≡ record { number = setup.number; ids = setup.repos } → p.jobs.begun ≡ 0
     → slice_get setup.repos setup.number ≡ Some setup.id → FitSo setup setup.repos p → ForSome told (λ c. (key : List ℕ) → c key ≡ None) → IsKept setup [] p [] [] told
-kept_first setup p told laws none place own fit empty = record {
+kept_first setup p told laws none place begun own fit empty = record {
   state = λ s fits. record {
     holds = ap (λ (r : Rows). r.holds) none;
     bars = λ key. ap (λ (r : Rows). bar_at r key) none;
@@ -205,17 +206,18 @@ kept_first setup p told laws none place own fit empty = record {
   clock = λ s fits. ap (λ (offset : ℕ). runs_on (record { at = 0; to = offset })) fits.offset;
   numbered = first_numbered p.table none;
   place = place;
+  begun = omega (arith, begun);
 }
 
-pub kept_new : (setup was : Setup) (ids : List (List ℕ)) (history : List Entry) (p : PartsView) (branch : Files) (told : Option Contents) (debts : List ℕ) → Laws p → p.table ≡ no_rows → p.jobs.place ≡ record { number = was.number; ids = ids }
+pub kept_new : (setup was : Setup) (ids : List (List ℕ)) (history : List Entry) (p : PartsView) (branch : Files) (told : Option Contents) (debts : List ℕ) → Laws p → p.table ≡ no_rows → p.jobs.place ≡ record { number = was.number; ids = ids } → p.jobs.begun ≡ 0
     → slice_get was.repos was.number ≡ Some was.id → FitSo was ids p → ids ≡ was.repos → setup ≡ was
     → history ≡ [] → branch ≡ [] → debts ≡ [] → ForSome told (λ c. (key : List ℕ) → c key ≡ None) → IsKept setup history p branch (owed_at setup.number history debts) told
-kept_new setup was ids history p branch told debts laws none place own fit same is first bare free empty =
+kept_new setup was ids history p branch told debts laws none place begun own fit same is first bare free empty =
     subst (λ (x : Setup). IsKept x history p branch (owed_at x.number history debts) told) (sym is)
     (subst (λ (ds : List ℕ). IsKept was history p branch (owed_at was.number history ds) told) (sym free)
     (subst (λ (h : List Entry). IsKept was h p branch [] told) (sym first)
     (subst (λ (b : Files). IsKept was [] p b [] told) (sym bare)
-    (kept_first was p told laws none (place ∙ ap (λ (xs : List (List ℕ)). seat was.number xs) same) own (subst (λ (xs : List (List ℕ)). FitSo was xs p) same fit) empty))))
+    (kept_first was p told laws none (place ∙ ap (λ (xs : List (List ℕ)). seat was.number xs) same) begun own (subst (λ (xs : List (List ℕ)). FitSo was xs p) same fit) empty))))
   where
     seat : ℕ → List (List ℕ) → PlaceView
     seat number ids = record { number = number; ids = ids }

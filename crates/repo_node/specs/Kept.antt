@@ -1,5 +1,5 @@
 -- What a node keeps: it stands as its history leaves it; for private contracts.
-use Rattle.std.specs.Prelude.{◌≡◌, ◌<◌, ◌+◌, Bool, true, false, List, All, length, Option, Result, Ok, Err}
+use Rattle.std.specs.Prelude.{◌≡◌, ◌≤◌, ◌<◌, ◌+◌, Bool, true, false, List, All, length, Option, Result, Ok, Err}
 use Rattle.std.specs.Option.{ForSome}
 use Rattle.object_store.specs.Stores.{Contents, Parts}
 use Rattle.run_data.specs.declared.entry.Entry.{Entry}
@@ -25,12 +25,14 @@ abbrev pub IsFed : Option Parts → PartsView → Type 0
 IsFed stored parts = ForSome stored (λ q. FedAll q parts.sessions)
 
 -- Its rows, its branch and, where its store tells, all that it has are those of the state that its history leaves. Its clock was
--- never set, each hold has the number of one of its entries, and its jobs know where it stands among the repositories.
+-- never set, each hold has the number of one of its entries, its jobs know where it stands among the repositories, and each that
+-- was begun has its entry.
 pub record IsKept (setup : Setup) (history : List Entry) (parts : PartsView) (branch : Files) (owed : List Owed) (told : Option Contents) : Type 0 where
   pub state : (s : SetUp) → Fits setup s → IsState s parts branch owed told (state_of s history)
   pub clock : (s : SetUp) → Fits setup s → (state_of s history).clock ≡ runs_on (record { at = 0; to = setup.offset })
   pub numbered : All (λ h. h.number < length history + 1) parts.table.holds
   pub place : parts.jobs.place ≡ record { number = setup.number; ids = setup.repos }
+  pub begun : parts.jobs.begun ≤ length history
 
 -- of that, what changes no content
 abbrev pub IsOfFiles : EntryKind → Type 0

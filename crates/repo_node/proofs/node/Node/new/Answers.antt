@@ -19,7 +19,7 @@ invariant_of-result g c =
     let known = g.K.Keeper.contents c.args.keeper in
     let stored = g.K.Keeper.parts c.args.keeper in
     let laws = laws_of c.parts_stay.ensures c.tables_fill_as_states.ensures c.direct_entries_leave_rows.ensures.holds c.direct_entries_leave_rows.ensures.bars parts c.table.ensures.sound in (
-      kept_new past.setup c.args.setup c.in_ok-ids.ids past.history.items parts branch (told_of known stored) c.new-5.result.items laws made.table (ap (λ j. j.place) made.jobs)
+      kept_new past.setup c.args.setup c.in_ok-ids.ids past.history.items parts branch (told_of known stored) c.new-5.result.items laws made.table (ap (λ j. j.place) made.jobs) (ap (λ j. j.begun) made.jobs)
           c.requires.own made.parts (c.in_ok-ids.ensures ∙ c.as_slice.ensures) c.new-3.ensures.setup c.new-3.ensures.history c.new-2.ensures c.new-5.ensures.items (λ x is. empty.contents x (told_some known stored x is)),
       λ x told path. ap (λ (o : Option (List ℕ)). unwrap_or o []) (empty.files x told path) ∙ sym (ap (λ (b : Files). text_of (lines_at b path)) c.new-2.ensures),
       λ x told. no_records parts.table.holds x (ap (λ (r : Rows). r.holds) made.table) (empty.records x told),
