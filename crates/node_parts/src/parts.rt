@@ -15,6 +15,7 @@ ghost use Rattle.node_ends.specs.Joined.{AreCarried, AreJoined, StayPaired};
 ghost use Rattle.node_sessions.specs.Sessions.{FedAll, IsSetUp};
 ghost use Rattle.node_jobs.specs.Acting.{with_job};
 ghost use Rattle.node_parts.specs.Parts.{AreParts};
+ghost use Rattle.node_parts.specs.Sound.{AreSound};
 ghost use Rattle.node_parts.specs.Steps.{LeavesSo, Serves, failed_by};
 
 use crate::done::Done;
@@ -93,7 +94,8 @@ impl Parts {
 
     /// Its rows.
     pub fn table(&self) -> &LockTable
-        ensures { result.now ≡ self.now.table }
+        ensures rows { result.now ≡ self.now.table }
+        ensures sound { AreSound self.now }
     {
         &self.table
     }

@@ -2,7 +2,7 @@
 pub mod Owing
 pub mod Nodes
 pub mod Stored
-pub mod Idle
+pub mod Kept
 pub mod Logs
 pub mod Walks
 pub mod Debts

@@ -1,8 +1,9 @@
 -- What a node is: a repository of a run that knows its own state and nothing else (own).
-use Rattle.std.specs.Prelude.{◌≡◌, ℕ, ◌+◌, Bool, false, ◌&&◌, List, [], ◌∷◌, ◌++◌, length, map, reverse, slice_get, bytes_eq, Option, Some, None, is_some}
-use Rattle.std.specs.Option.{ForSome, option_map, unwrap_or}
-use Rattle.object_store.specs.Stores.{Contents, Files as StoredFiles, bytes_of}
-use Rattle.content_lock.specs.Rows.{Rows, bar_at, is_filling}
+use Rattle.std.specs.Prelude.{◌≡◌, ℕ, ◌+◌, Bool, false, ◌&&◌, List, [], ◌∷◌, ◌++◌, map, reverse, slice_get, bytes_eq, Option, Some, None}
+use Rattle.std.specs.Option.{ForSome, unwrap_or}
+use Rattle.object_store.specs.Stores.{Contents, Files as StoredFiles, Parts, bytes_of}
+use Rattle.content_lock.specs.Rows.{bar_at, is_filling}
+use Rattle.node_parts.specs.Parts.{AreParts, HasContents, PartsView}
 use Rattle.union_merge.specs.Branch.{Files, lines_at}
 use Rattle.union_merge.specs.LineSet.{text_of}
 use Rattle.hash_dirs.specs.LogPath.{location_path}
@@ -26,7 +27,7 @@ use Rattle.repo_node.specs.Owing.{rest_if}
 pub record NodeView (K : Type 0) : Type 0 where
   pub setup : Setup
   pub keeper : K  -- its store, its rows and its branch
-  pub table : Rows
+  pub parts : PartsView  -- its rows, ends, sessions and jobs
   pub branch : Files
   pub time : ℕ  -- of the script, in milliseconds, and the count of its last entry, or a greater one
   pub count : ℕ
@@ -48,14 +49,24 @@ pub record Fits (setup : Setup) (s : SetUp) : Type 0 where
 abbrev pub state_of : SetUp → List Entry → State
 state_of s history = states s (reverse history)
 
--- Rows, a branch and contents, where the store tells them, are those of a state.
-pub record IsState (s : SetUp) (rows : Rows) (branch : Files) (contents : Option Contents) (st : State) : Type 0 where
-  pub holds : rows.holds ≡ st.holds
-  pub bars : (key : List ℕ) → bar_at rows key ≡ st.bar key
-  pub fills : (key : List ℕ) → is_filling rows key ≡ is_filled s st key
+-- what a store tells of its contents, where it tells its parts as well
+abbrev pub told_of : Option Contents → Option Parts → Option Contents
+told_of contents None = None
+told_of contents (Some parts) = contents
+
+-- a node's parts, the lines that it owes and these contents are those of a state, and so are the keys that its table fills
+pub record Stands (s : SetUp) (parts : PartsView) (owed : List Owed) (c : Contents) (st : State) : Type 0 where
+  pub parts_are : AreParts s st parts
+  pub fills : (key : List ℕ) → is_filling parts.table key ≡ is_filled s st key
+  pub stored : HasContents c st
+  pub owed_are : st.owed ≡ owed
+
+-- Rows and a branch are those of a state; and where the store tells, so is all that the node has.
+pub record IsState (s : SetUp) (parts : PartsView) (branch : Files) (owed : List Owed) (told : Option Contents) (st : State) : Type 0 where
+  pub holds : parts.table.holds ≡ st.holds
+  pub bars : (key : List ℕ) → bar_at parts.table key ≡ st.bar key
   pub lines : (path : List ℕ) → lines_at branch path ≡ st.lines path
-  pub sizes : ForSome contents (λ c. (key : List ℕ) → option_map length (c key) ≡ st.content key)
-  pub there : ForSome contents (λ c. (key : List ℕ) → is_some (c key) ≡ st.present key)
+  pub stands : ForSome told (λ c. Stands s parts owed c st)
 
 -- the store has the lines of each file as a text, where it tells
 abbrev pub HasFiles : Option StoredFiles → Files → Type 0
@@ -81,8 +92,7 @@ abbrev pub are_due : {K : Type 0} → NodeView K → LogFile → List (List ℕ)
 are_due n file lines [] = false
 are_due n file lines (o ∷ os) = is_due n (file_path file) lines o
 
--- The lines that it owes after its next entry. Who writes what the first is due pays it; a job or a peer that fails to write a file
--- leaves the first unpaid for good.
+-- the lines that it owes after its next entry: who writes what the first is due pays it, and a job or a peer that fails to leaves it
 abbrev pub owed_now : {K : Type 0} → NodeView K → EntryKind → List (List ℕ) → List Owed
 owed_now n (Log file) lines = rest_if (are_due n file lines n.owed) n.owed
 owed_now n (Fault call by) lines = owed_without call by n.owed

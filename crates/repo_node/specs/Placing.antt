@@ -24,6 +24,16 @@ pub record HasPart (key bytes : List ℕ) (known known' : Option Parts) : Type 0
   pub bytes_are : ForSome known' (λ now. now key ≡ bytes)
   pub others : ForSome known (λ was. ForSome known' (λ now. (k : List ℕ) → bytes_eq key k ≡ false → now k ≡ was k))
 
+-- the parts of other keys are as they were, as far as the store tells
+pub record LeavesOthers (key : List ℕ) (known known' : Option Parts) : Type 0 where
+  pub tells : is_some known' ≡ is_some known
+  pub others : ForSome known (λ was. ForSome known' (λ now. (k : List ℕ) → bytes_eq key k ≡ false → now k ≡ was k))
+
+-- the parts of the keys that are being filled are as they were, as far as the store tells
+pub record LeavesFilled (rows : Rows) (known known' : Option Parts) : Type 0 where
+  pub tells : is_some known' ≡ is_some known
+  pub filled : ForSome known (λ was. ForSome known' (λ now. (k : List ℕ) → is_filling rows k ≡ true → now k ≡ was k))
+
 -- the contents with these bytes as the key's, where the store tells contents and parts
 abbrev pub with_content : Option Contents → Option Parts → List ℕ → List ℕ → Option Contents
 with_content (Some contents) (Some parts) key bytes = Some (with_at contents key (Some bytes))
@@ -45,7 +55,7 @@ PartAfter taken key bytes known known' = MatchBool taken (known' ≡ known) (Has
 -- content has come, or where it was there or being filled, nothing is done.
 pub record IsPlaced {K : Type 0} (key bytes : List ℕ) (known : Option Contents) (parts : Option Parts) (known' : Option Contents) (was now : NodeView K) : Type 0 where
   pub taken : Bool
-  pub told : IsTaken taken known was.table key
+  pub told : IsTaken taken known was.parts.table key
   pub node : now ≡ (if taken then over now.keeper was else with_placed was now.keeper key (length bytes))
   pub contents : known' ≡ (if taken then known else with_content known parts key bytes)
 

@@ -8,16 +8,17 @@ ghost use Rattle.content_lock.specs.Stored.{Agrees};
 ghost use Rattle.link_ring.specs.Ends.{fresh};
 ghost use Rattle.object_store.specs.Calls.{one_more};
 ghost use Rattle.node_model.specs.SetUp.{SetUp};
-ghost use Rattle.repo_node.specs.Nodes.{Fits, HasFiles, IsState, state_of};
+ghost use Rattle.repo_node.specs.Nodes.{Fits, HasFiles, IsState, state_of, told_of};
 ghost use Rattle.repo_node.specs.Refusals.{most_entries};
 ghost use Rattle.repo_node.specs.Stored.{HasNothing};
 
 use crate::indexing::make_index;
 use crate::past::Past;
 use crate::setup::{Ended, Setup};
-use annex_base::{Call, NoMemory};
+use annex_base::{Call, Items, NoMemory, RepoId};
 use content_lock::LockTable;
 use link_ring::Links;
+use node_parts::{Parts, direct_entries_leave_rows, parts_stay, tables_fill_as_states};
 use object_store::{FailingKeeper, Keeper};
 use run_data::Entry;
 use std::alloc::Global;
@@ -29,28 +30,38 @@ use union_merge::Branch;
 /// it has is the state that its history leaves. It has tokens to spend, so it is dissolved and never dropped.
 pub struct Node<K: Keeper> {
     pub(crate) keeper: K,
-    pub(crate) table: LockTable,
     pub(crate) branch: Branch,
     pub(crate) past: Past,
     /// The index of the branch's settings; none after a line couldn't be added to it for want of memory.
     pub(crate) index: Option<Settings>,
     /// The places in the history of the entries whose lines are owed, the first to be paid first.
     pub(crate) debts: Vec<usize>,
-    links: Links,
+    /// Its lock table, its ends, its sessions and its running jobs.
+    pub(crate) parts: Parts,
 }
 
 impl<K: Keeper> Model for Node<K> {
-    ghost use Rattle.repo_node.specs.Nodes.{NodeView, HasFiles};
-    ghost use Rattle.repo_node.specs.Idle.{IsKept};
+    ghost use Rattle.repo_node.specs.Nodes.{NodeView, HasFiles, told_of};
+    ghost use Rattle.repo_node.specs.Kept.{IsFed, IsKept};
     ghost use Rattle.repo_node.specs.Indexed.{IsIndexed};
     ghost use Rattle.repo_node.specs.Owing.{AreDebts, owed_at};
     ghost use Rattle.content_lock.specs.Stored.{Agrees};
 
     ghost Value = { NodeView K };
 
-    ghost view = { λ n. record { setup = n.past.setup; keeper = n.keeper; table = n.table; branch = n.branch; time = n.past.time; count = n.past.count; history = n.past.history.items; outcomes = n.past.outcomes.items; owed = owed_at n.past.setup.number n.past.history.items n.debts.items } };
+    ghost view = { λ n. record { setup = n.past.setup; keeper = n.keeper; parts = n.parts; branch = n.branch; time = n.past.time; count = n.past.count; history = n.past.history.items; outcomes = n.past.outcomes.items; owed = owed_at n.past.setup.number n.past.history.items n.debts.items } };
 
-    ghost invariant = { λ n. IsKept n.past.setup n.past.history.items n.table n.branch (K.contents n.keeper) (owed_at n.past.setup.number n.past.history.items n.debts.items) × HasFiles (K.files n.keeper) n.branch × Agrees (K.records n.keeper) n.table.holds × IsIndexed n.index n.branch × AreDebts n.past.setup.number n.past.history.items n.debts.items };
+    ghost invariant = { λ n. IsKept n.past.setup n.past.history.items n.parts n.branch (owed_at n.past.setup.number n.past.history.items n.debts.items) (told_of (K.contents n.keeper) (K.parts n.keeper))
+        × HasFiles (K.files n.keeper) n.branch × Agrees (K.records n.keeper) n.parts.table.holds × IsIndexed n.index n.branch × AreDebts n.past.setup.number n.past.history.items n.debts.items × IsFed (K.parts n.keeper) n.parts };
+}
+
+/// Copies of identifiers.
+fn copies_of(alloc: Global, ids: &[RepoId]) -> Result<Items<RepoId>, NoMemory>
+    ensures { IfOk result (λ copies. copies ≡ ids.now) }
+{
+    let mut copies = Vec::new(alloc);
+    copies.extend_from_slice(ids)?;
+    Ok(Items::from_vec(copies))
 }
 
 impl<K: Keeper> Node<K> {
@@ -63,18 +74,35 @@ impl<K: Keeper> Node<K> {
         requires offset { setup.offset ≤ 100000000000 }
         requires oldest { 1 ≤ setup.version }
         requires newest { setup.version ≤ 3 }
+        requires few { length setup.repos < 2 ^ 32 }
         requires links { links.ends.items ≡ replicate (length setup.repos * 8) fresh }
-        ensures { IfOk result (λ n. n ≡ record { setup = setup; keeper = keeper; table = record { holds = []; bars = []; fills = [] }; branch = []; time = 0; count = 0; history = []; outcomes = []; owed = [] }) }
+        ensures node { IfOk result (λ n. n ≡ record { setup = setup; keeper = keeper; parts = n.parts; branch = []; time = 0; count = 0; history = []; outcomes = []; owed = [] }) }
+        ensures table { IfOk result (λ n. n.parts.table ≡ record { holds = []; bars = []; fills = [] }) }
+        ensures links { IfOk result (λ n. n.parts.links ≡ replicate (length setup.repos * 8) fresh) }
+        ensures jobs { IfOk result (λ n. n.parts.jobs ≡ record { place = record { number = setup.number; ids = setup.repos }; running = []; begun = 0 }) }
     {
-        let table = LockTable::new(alloc)?;
+        let ids = copies_of(alloc, setup.repos.as_slice())?;
+        let parts = Parts::new(
+            alloc,
+            setup.number,
+            setup.id,
+            ids,
+            setup.version,
+            setup.locks,
+            links,
+        )?;
+        // For the proof: a law, and that what the parts have of the table is sound.
+        parts_stay();
+        tables_fill_as_states();
+        direct_entries_leave_rows();
+        let _ = parts.table();
         Ok(Node {
             keeper,
-            table,
             branch: Branch::new(alloc),
             past: Past::new(alloc, setup),
             index: Some(Settings::new(alloc)),
             debts: Vec::new(alloc),
-            links,
+            parts,
         })
     }
 
@@ -91,10 +119,9 @@ impl<K: Keeper> Node<K> {
     pub fn history(&self) -> &[Entry]
         ensures value { result.now ≡ self.now.history }
         ensures few { length self.now.history ≤ most_entries }
-        ensures state { (s : SetUp) → Fits self.now.setup s → IsState s self.now.table self.now.branch (K.contents self.now.keeper) (state_of s self.now.history) }
+        ensures state { (s : SetUp) → Fits self.now.setup s → IsState s self.now.parts self.now.branch self.now.owed (told_of (K.contents self.now.keeper) (K.parts self.now.keeper)) (state_of s self.now.history) }
         ensures files { HasFiles (K.files self.now.keeper) self.now.branch }
-        ensures records { Agrees (K.records self.now.keeper) self.now.table.holds }
-        ensures owed { (s : SetUp) → Fits self.now.setup s → (state_of s self.now.history).owed ≡ self.now.owed }
+        ensures records { Agrees (K.records self.now.keeper) self.now.parts.table.holds }
     {
         &self.past.history
     }
@@ -135,9 +162,9 @@ impl<K: Keeper> Node<K> {
     }
 
     pub fn table(&self) -> &LockTable
-        ensures { result.now ≡ self.now.table }
+        ensures { result.now ≡ self.now.parts.table }
     {
-        &self.table
+        self.parts.table()
     }
 
     /// Spends what its jobs and sessions have of it, and hands its store back.
@@ -146,13 +173,13 @@ impl<K: Keeper> Node<K> {
     {
         let Node {
             keeper,
-            table: _,
             branch: _,
             past: _,
             index: _,
             debts: _,
-            links: _,
+            parts,
         } = self;
+        parts.dissolve();
         keeper
     }
 }
