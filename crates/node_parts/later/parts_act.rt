@@ -13,7 +13,10 @@
         // Over a store that tells: of each state that these and the store are, with these settings, this is the step of its jobs.
         ensures step { IfOk result (λ o. ForSome (K.contents keeper.old) (λ c. Acts self.old self.new c (K.contents keeper.new) moment.clock (settings_of settings.now) moment.time moment.number o)) }
         ensures leaves { IfOk result (LeavesSo moment.number self.old self.new) }
+        ensures kind { IfOk result (λ o. ForSome o (λ d. IsQuiet d.kind)) }
         ensures sessions { self.new.sessions ≡ self.old.sessions }
+        ensures place { self.new.jobs.place ≡ self.old.jobs.place }
+        ensures begun { self.new.jobs.begun ≡ self.old.jobs.begun }
         ensures told { is_some (K.contents keeper.new) ≡ is_some (K.contents keeper.old) }
         ensures parts { K.parts keeper.new ≡ K.parts keeper.old }
         ensures files { K.files keeper.new ≡ K.files keeper.old }

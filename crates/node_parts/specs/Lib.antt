@@ -1,5 +1,6 @@
 -- The definitions of this crate.
 pub mod Parts
 pub mod Sound
+pub mod Kinds
 pub mod Steps
 pub mod Direct

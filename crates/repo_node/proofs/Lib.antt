@@ -10,3 +10,7 @@ pub mod DebtLemmas
 pub mod SetLemmas
 pub mod GainLemmas
 pub mod IndexLemmas
+pub mod StepLemmas
+pub mod MoveLemmas
+pub mod TurnLemmas
+pub mod BeginLemmas

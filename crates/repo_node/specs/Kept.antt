@@ -1,5 +1,5 @@
 -- What a node keeps: it stands as its history leaves it; for private contracts.
-use Rattle.std.specs.Prelude.{◌≡◌, ◌<◌, ◌+◌, Bool, true, false, List, All, length, Option, Result, Ok, Err}
+use Rattle.std.specs.Prelude.{◌≡◌, ◌≤◌, ◌<◌, ◌+◌, Bool, true, false, List, All, length, Option, Result, Ok, Err}
 use Rattle.std.specs.Option.{ForSome}
 use Rattle.object_store.specs.Stores.{Contents, Parts}
 use Rattle.run_data.specs.declared.entry.Entry.{Entry}
@@ -31,6 +31,7 @@ pub record IsKept (setup : Setup) (history : List Entry) (parts : PartsView) (br
   pub clock : (s : SetUp) → Fits setup s → (state_of s history).clock ≡ runs_on (record { at = 0; to = setup.offset })
   pub numbered : All (λ h. h.number < length history + 1) parts.table.holds
   pub place : parts.jobs.place ≡ record { number = setup.number; ids = setup.repos }
+  pub begun : parts.jobs.begun ≤ length history
 
 -- of that, what changes no content
 abbrev pub IsOfFiles : EntryKind → Type 0
