@@ -16,6 +16,7 @@ ghost use Rattle.node_sessions.specs.Sessions.{FedAll, IsSetUp};
 ghost use Rattle.node_jobs.specs.Acting.{with_job};
 ghost use Rattle.node_parts.specs.Kinds.{IsQuiet};
 ghost use Rattle.node_parts.specs.Parts.{AreParts};
+ghost use Rattle.node_parts.specs.Sound.{AreSound};
 ghost use Rattle.node_parts.specs.Steps.{LeavesSo, Serves, failed_by};
 
 use crate::done::Done;
@@ -92,9 +93,10 @@ impl Parts {
         })
     }
 
-    /// Its rows.
+    /// Its rows. What the parts have of them and of the ends is theirs, whatever a store tells.
     pub fn table(&self) -> &LockTable
-        ensures { result.now ≡ self.now.table }
+        ensures rows { result.now ≡ self.now.table }
+        ensures sound { AreSound self.now }
     {
         &self.table
     }
