@@ -185,8 +185,8 @@ module _ (asked : NamelessAsked) (room_there : RoomThere) (own_entries : OwnEntr
     logs = logs;
     nameless = λ key. ap (λ (l : Settings). standing_by l key []) (sym logs ∙ sees.parts.logs) ∙ asked st.lines key;
     ticks = sees.ticks;
-    counts = sees.number;
-    at = sym sees.time;
+    counts = sees.counts;
+    at = sym sees.at;
   }
 
   keeps : Keeps was.table c st
@@ -365,6 +365,6 @@ module _ (p : PartsView) (c : Contents) (clock : ClockSet) (time number : ℕ) (
         logs = refl;
         nameless = λ key. ap (λ (l : Settings). standing_by l key []) sees.parts.logs ∙ asked st.lines key;
         ticks = sees.ticks;
-        counts = sees.number;
-        at = sym sees.time;
+        counts = sees.counts;
+        at = sym sees.at;
       }) (record { present = sees.stored.present; bar = sees.parts.bars; holds = sees.parts.holds })

@@ -85,8 +85,8 @@ sees_of law p known parts c clock time number o s st k sound told sees part fail
   sessions = sees.parts.sessions;
   keeps = record { contents = c; told = told; present = sees.stored.present; content = sees.stored.content; bar = sees.parts.bars; holds = sees.parts.holds };
   filled = λ key. sym (table_fills law s st p key sound sees.parts);
-  time = ap (λ (f : ℕ → ℕ). f k.time) sees.ticks ∙ ap (runs_on clock) sees.time;
-  made = sym sees.number;
+  time = ap (λ (f : ℕ → ℕ). f k.time) sees.ticks ∙ ap (runs_on clock) sees.at;
+  made = sym sees.counts;
   part = part;
   fails = fails;
 }

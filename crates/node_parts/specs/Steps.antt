@@ -37,13 +37,13 @@ failed_by (Some d) = failed_in d.kind
 
 -- The state is what these parts and a store with these contents are, before the entry of this number; and at this time the look
 -- finds what waits at the ends, and where they have room.
-pub record SeesParts (p : PartsView) (c : Contents) (clock : ClockSet) (at n : ℕ) (s : SetUp) (st : State) (k : Look) : Type 0 where
+pub record SeesParts (p : PartsView) (c : Contents) (clock : ClockSet) (time number : ℕ) (s : SetUp) (st : State) (k : Look) : Type 0 where
   pub parts : AreParts s st p
   pub stored : HasContents c st
   pub ticks : st.clock ≡ runs_on clock
-  pub number : n ≡ st.made + 1
+  pub counts : number ≡ st.made + 1
   pub ends : SeesEnds p.links s k
-  pub time : k.time ≡ at
+  pub at : k.time ≡ time
 
 -- where there is a step, the look finds its store call to fail that the entry tells
 abbrev pub Fails : Option Done → Look → Type 0
@@ -62,21 +62,29 @@ pub record Steps (step : SetUp → State → Look → Option Made) (now : PartsV
   pub parts : AreParts s (state_then s st k o) now
   pub stored : ForSome contents (λ c. HasContents c (state_then s st k o))
 
+-- where there is a step, the look finds a part of this size that matches its key, or doesn't
+abbrev pub FindsPart : Option Done → ℕ → Bool → Look → Type 0
+FindsPart o part right k = ForSome o (λ d. (k.part ≡ part) × (k.right ≡ right))
+
 -- There is a part, as the store has it, with which this is the step of the sessions: of each state that the parts and the store are,
 -- at a look that finds that part, and the step's store call to fail that its entry tells.
 pub record Serves (was now : PartsView) (c : Contents) (contents : Option Contents) (clock : ClockSet) (time number : ℕ) (o : Option Done) : Type 0 where
   pub part : ℕ
   pub right : Bool
-  pub steps : (s : SetUp) (st : State) (k : Look) → SeesParts was c clock time number s st k → Fails o k → k.part ≡ part → k.right ≡ right → Steps session_step now contents s st k o
+  pub steps : (s : SetUp) (st : State) (k : Look) → SeesParts was c clock time number s st k → Fails o k → FindsPart o part right k → Steps session_step now contents s st k o
 
 -- the words that the acting job heard beside its peers' answers
 abbrev pub words_heard : PartsView → Option Done → ℕ → Option Word
 words_heard p o = option_map_or (words_at p.jobs.running) (option_and_then (λ (d : Done). d.job) o) (λ c. None)
 
+-- where there is a step, the look finds those words
+abbrev pub Hears : PartsView → Option Done → Look → Type 0
+Hears p o k = ForSome o (λ d. k.words ≡ words_heard p (Some d))
+
 -- the step of the jobs, of each state that the parts and the store are, at a look that finds those words
 abbrev pub Acts : PartsView → PartsView → Contents → Option Contents → ClockSet → Settings → ℕ → ℕ → Option Done → Type 0
 Acts was now c contents clock settings time number o = (s : SetUp) (st : State) (k : Look)
-    → st.logs ≡ settings → SeesParts was c clock time number s st k → Fails o k → k.words ≡ words_heard was o → Steps job_step now contents s st k o
+    → st.logs ≡ settings → SeesParts was c clock time number s st k → Fails o k → Hears was o k → Steps job_step now contents s st k o
 
 -- the rows are those after the entry, and the ends took and sent its frames; also where the store doesn't tell its contents
 pub record Leaves (number : ℕ) (was now : PartsView) (d : Done) : Type 0 where

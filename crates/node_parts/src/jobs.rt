@@ -16,7 +16,7 @@ ghost use Rattle.node_parts.specs.Steps.{Acts, LeavesSo, SeesParts, failed_by};
 
 use crate::acting::act;
 use crate::done::Done;
-use crate::moment::Moment;
+use crate::moment::{Moment, stamp_at};
 use crate::parts::Parts;
 use annex_base::NoMemory;
 use node_ends::ends_go_on;
@@ -44,6 +44,8 @@ impl Parts {
         ensures leaves { IfOk result (LeavesSo moment.number self.old self.new) }
         ensures kind { IfOk result (λ o. ForSome o (λ d. IsQuiet d.kind)) }
         ensures sessions { self.new.sessions ≡ self.old.sessions }
+        ensures place { self.new.jobs.place ≡ self.old.jobs.place }
+        ensures begun { self.new.jobs.begun ≡ self.old.jobs.begun }
         ensures told { is_some (K.contents keeper.new) ≡ is_some (K.contents keeper.old) }
         ensures parts { K.parts keeper.new ≡ K.parts keeper.old }
         ensures files { K.files keeper.new ≡ K.files keeper.old }
@@ -60,17 +62,23 @@ impl Parts {
         local_drops_send_where_there_is_room();
         nameless_are_asked();
         sessions_stay();
-        let stamp = moment.stamp(self.jobs.number());
+        let Moment {
+            time,
+            clock,
+            count,
+            number,
+        } = moment;
+        let stamp = stamp_at(time, count, self.jobs.number());
         let repositories = self.jobs.repositories();
         let acted = self.jobs.step(
             alloc,
-            moment.clock,
+            clock,
             settings,
             &mut self.ends,
             &mut self.table,
             keeper,
-            moment.time,
-            moment.number,
+            time,
+            number,
         )?;
         match acted {
             None => Ok(None),

@@ -1,5 +1,5 @@
 //! The moving parts of a repository.
-ghost use Rattle.std.specs.Prelude.{◌≡◌, ℕ, ◌≤◌, ◌<◌, ◌+◌, ◌-◌, ◌*◌, ◌^◌, List, [], true, All, None, Some, IfOk, IfSome, IsErrOf, OnErr, OnOk, is_some, length, map, replicate, slice_get};
+ghost use Rattle.std.specs.Prelude.{◌≡◌, ℕ, ◌≤◌, ◌<◌, ◌+◌, ◌-◌, ◌*◌, ◌^◌, List, [], true, All, None, Some, IfOk, IfSome, IsErrOf, OnErr, OnOk, is_some, length, map, nat_lt, replicate, slice_get};
 ghost use Rattle.std.specs.Option.{ForSome};
 ghost use Rattle.annex_base.specs.Causes.{Rose};
 ghost use Rattle.run_data.specs.declared.entry.Entry.{Entry};
@@ -14,6 +14,7 @@ ghost use Rattle.node_model.specs.State.{State};
 ghost use Rattle.node_ends.specs.Joined.{AreCarried, AreJoined, StayPaired};
 ghost use Rattle.node_sessions.specs.Sessions.{FedAll, IsSetUp};
 ghost use Rattle.node_jobs.specs.Acting.{with_job};
+ghost use Rattle.node_parts.specs.Kinds.{IsQuiet};
 ghost use Rattle.node_parts.specs.Parts.{AreParts};
 ghost use Rattle.node_parts.specs.Sound.{AreSound};
 ghost use Rattle.node_parts.specs.Steps.{LeavesSo, Serves, failed_by};
@@ -92,7 +93,7 @@ impl Parts {
         })
     }
 
-    /// Its rows.
+    /// Its rows. What the parts have of them and of the ends is theirs, whatever a store tells.
     pub fn table(&self) -> &LockTable
         ensures rows { result.now ≡ self.now.table }
         ensures sound { AreSound self.now }
@@ -105,6 +106,13 @@ impl Parts {
         ensures { result ≡ self.now.jobs.begun }
     {
         self.jobs.begun()
+    }
+
+    /// Whether a job may begin: fewer than four run.
+    pub fn has_slot(&self) -> bool
+        ensures { result ≡ nat_lt (length self.now.jobs.running) 4 }
+    {
+        self.jobs.has_slot()
     }
 
     /// Begins a drop of the repository's own copy, and gives its number. After a refusal all is as before.
@@ -148,6 +156,7 @@ impl Parts {
         // Over a store that tells: of each state that these and the store are, this is the step of its sessions.
         ensures step { IfOk result (λ o. ForSome (K.contents keeper.old) (λ c. ForSome (K.parts keeper.old) (λ q. FedAll q self.old.sessions → Serves self.old self.new c (K.contents keeper.new) moment.clock moment.time moment.number o))) }
         ensures leaves { IfOk result (LeavesSo moment.number self.old self.new) }
+        ensures kind { IfOk result (λ o. ForSome o (λ d. IsQuiet d.kind)) }
         ensures fed { ForSome (K.parts keeper.old) (λ q. FedAll q self.old.sessions → ForSome (K.parts keeper.new) (λ q'. FedAll q' self.new.sessions)) }
         ensures told_contents { is_some (K.parts keeper.old) ≡ true → is_some (K.contents keeper.new) ≡ is_some (K.contents keeper.old) }
         ensures told_parts { is_some (K.parts keeper.new) ≡ is_some (K.parts keeper.old) }

@@ -10,3 +10,9 @@ pub mod DebtLemmas
 pub mod SetLemmas
 pub mod GainLemmas
 pub mod IndexLemmas
+pub mod StepLemmas
+pub mod MoveLemmas
+pub mod TurnLemmas
+pub mod BeginLemmas
+pub mod NoteLemmas
+pub mod PayLemmas

@@ -10,3 +10,6 @@ pub mod Placing
 pub mod Indexed
 pub mod Refusals
 pub mod Pasts
+pub mod Turning
+pub mod Stepping
+pub mod Turns

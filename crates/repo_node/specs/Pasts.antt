@@ -1,13 +1,15 @@
 -- The past of a node and its next entries; for private contracts.
-use Rattle.std.specs.Prelude.{◌≡◌, ℕ, ◌+◌, ◌<◌, ◌^◌, vec_len, vec_capacity, true, List, [], ◌∷◌, ◌++◌, Some, None}
+use Rattle.std.specs.Prelude.{◌≡◌, ℕ, ◌+◌, ◌<◌, ◌^◌, vec_len, vec_capacity, true, List, [], ◌∷◌, ◌++◌, Option, Some, None}
 use Rattle.annex_base.specs.declared.kinds.Call.{Call}
 use Rattle.run_data.specs.declared.entry.Entry.{Entry}
 use Rattle.run_data.specs.declared.entry.EntryKind.{EntryKind}
 use Rattle.run_data.specs.declared.entry.EntryKind.TheVariants.{Fault}
+use Rattle.run_data.specs.declared.entry.FrameView.{FrameView}
 use Rattle.run_data.specs.declared.entry.By.{By}
 use Rattle.run_data.specs.declared.entry.By.TheVariants.{Script}
 use Rattle.node_model.specs.AnyTime.{is_scripts}
 use Rattle.repo_node.specs.declared.past.Past.{Past}
+use Rattle.repo_node.specs.declared.setup.Ended.{Ended}
 use Rattle.repo_node.specs.declared.refused.NodeRefused.{NodeRefused}
 use Rattle.repo_node.specs.declared.refused.NodeRefused.TheVariants as refusals
 use Rattle.repo_node.specs.Refusals.{most_entries}
@@ -49,3 +51,16 @@ pub record FailsAtScripts (e : NodeRefused) (was now : Past) : Type 0 where
   pub call : Call
   pub scripts : is_scripts call ≡ true
   pub fails : FailsFor Script e call was now
+
+-- ---- an entry of a step
+
+abbrev pub frames_entry : Past → EntryKind → Option FrameView → List FrameView → Entry
+frames_entry p kind taken sent = record { time = p.time; count = p.count + 1; repo = Some p.setup.number; kind = kind; taken = taken; sent = sent; lines = [] }
+
+-- it has one more entry of this kind, which took this frame, if one, and sent these
+pub record Enters (kind : EntryKind) (taken : Option FrameView) (sent : List FrameView) (ended : List Ended) (was now : Past) : Type 0 where
+  pub setup : now.setup ≡ was.setup
+  pub time : now.time ≡ was.time
+  pub count : now.count ≡ was.count + 1
+  pub history : now.history.items ≡ was.history.items ++ frames_entry was kind taken sent ∷ []
+  pub outcomes : now.outcomes.items ≡ was.outcomes.items ++ ended

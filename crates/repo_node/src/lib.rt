@@ -1,7 +1,10 @@
 //! A repository that knows its own state and the frames that reach it, and nothing else: what a script does to it directly.
 #![tactic(auto)]
 
+mod beginning;
+mod carrying;
 mod compacting;
+mod entering;
 mod entries;
 mod indexing;
 mod logs;
@@ -13,8 +16,13 @@ mod placing;
 mod refused;
 mod setup;
 mod stamped;
+mod stepping;
+mod turn;
 mod writing;
 
+pub use beginning::BeginRefused;
+pub use carrying::carry_nodes;
 pub use node::Node;
 pub use refused::NodeRefused;
 pub use setup::{Ended, Setup};
+pub use turn::Turn;

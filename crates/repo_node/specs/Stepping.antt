@@ -1,0 +1,75 @@
+-- One step of a node, of one of the three kinds; for private contracts.
+use Rattle.std.specs.Prelude.{◌≡◌, ℕ, Bool, true, false, List, [], ◌∷◌, ◌++◌, Option, Some, None, is_some, vec_len}
+use Rattle.run_data.specs.declared.entry.EntryKind.{EntryKind}
+use Rattle.run_data.specs.declared.entry.EntryKind.TheVariants.{Gain, Gone}
+use Rattle.drop_worker.specs.Working.{failed_in}
+use Rattle.link_ring.specs.Ends.{EndView}
+use Rattle.node_model.specs.Look.{Look, Made, entry_of}
+use Rattle.node_model.specs.SetUp.{SetUp}
+use Rattle.node_model.specs.State.{State}
+use Rattle.node_parts.specs.declared.done.Done.{Done}
+use Rattle.repo_node.specs.declared.past.Past.{Past}
+use Rattle.repo_node.specs.Kept.{is_debtor}
+use Rattle.repo_node.specs.Nodes.{Fits, NodeView, state_of}
+use Rattle.repo_node.specs.Pasts.{Enters}
+use Rattle.repo_node.specs.Turning.{Adds, Looks, ended_by, words_by}
+
+-- steps of one of the three kinds: a line that is owed, a session's, a job's
+abbrev pub Stepper : Type 0
+Stepper = SetUp → State → Look → Option Made
+
+-- the entry is the step that these have of the state that the history leaves, at this look
+pub record MakesAt {K : Type 0} (step : Stepper) (kind : EntryKind) (was now : NodeView K) (s : SetUp) (k : Look) : Type 0 where
+  pub made : Made
+  pub same : made.kind ≡ kind
+  pub makes : step s (state_of s was.history) k ≡ Some made
+  pub adds : now.history ≡ was.history ++ entry_of s.number k made ∷ []
+
+-- it is so at each look of the node that finds this part, the words that the acting job heard, and the call to fail that the
+-- entry tells
+pub record StepsBy {K : Type 0} (step : Stepper) (was now : NodeView K) : Type 0 where
+  pub kind : EntryKind
+  pub acting : Option ℕ
+  pub part : ℕ
+  pub right : Bool
+  pub makes : (s : SetUp) (k : Look) → Fits was.setup s → Looks was s k → k.fails ≡ failed_in kind → k.part ≡ part → k.right ≡ right → k.words ≡ words_by was acting → MakesAt step kind was now s k
+
+-- these have no step, at any look of the node
+abbrev pub NoStep : {K : Type 0} → Stepper → NodeView K → Type 0
+NoStep step n = (s : SetUp) (k : Look) → Fits n.setup s → Looks n s k → step s (state_of s n.history) k ≡ None
+
+-- whether a step was made: where so, it was this one, and else there was none
+abbrev pub MovesSo : {K : Type 0} → Bool → Stepper → NodeView K → NodeView K → Type 0
+MovesSo true step was now = StepsBy step was now
+MovesSo false step was now = NoStep step was
+
+-- these have a step, at each look of the node, or none
+abbrev pub ReadySo : {K : Type 0} → Bool → Stepper → NodeView K → Type 0
+ReadySo b step n = (s : SetUp) (k : Look) → Fits n.setup s → Looks n s k → is_some (step s (state_of s n.history) k) ≡ b
+
+-- where a step was made, there is its entry; else the store was asked
+abbrev pub AddsIf : {K : Type 0} → Bool → List EndView → ℕ → ℕ → NodeView K → NodeView K → Type 0
+AddsIf true links faults faults' was now = Adds links faults faults' was now
+AddsIf false links faults faults' was now = now ≡ record was { keeper = now.keeper }
+
+-- ---- what is noted of its entry
+
+-- an entry of this kind owes a line
+abbrev pub owes_line : EntryKind → Bool
+owes_line (Gain by size key) = is_debtor by
+owes_line (Gone by key) = is_debtor by
+owes_line kind = false
+
+-- the place of an entry, where it owes a line
+abbrev pub place_if : Bool → ℕ → List ℕ
+place_if true place = place ∷ []
+place_if false place = []
+
+-- the past has the entry of this step
+abbrev pub EntersStep : Done → Past → Past → Type 0
+EntersStep d was now = Enters d.kind d.taken d.sent (ended_by d.kind (vec_len was.history)) was now
+
+-- the entry of a step, and the place of its debt, if a step was made
+abbrev pub EntersIf : Option Done → Past → Past → List ℕ → List ℕ → Type 0
+EntersIf None was now debts debts' = (now ≡ was) × (debts' ≡ debts)
+EntersIf (Some d) was now debts debts' = EntersStep d was now × (debts' ≡ debts ++ place_if (owes_line d.kind) (vec_len was.history))

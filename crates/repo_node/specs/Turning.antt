@@ -1,0 +1,72 @@
+-- What a turn of a node makes, and what it leaves (own).
+use Rattle.std.specs.Prelude.{◌≡◌, ℕ, ◌+◌, true, List, [], ◌∷◌, ◌++◌, length, Option, Some, None, is_some, IfSome}
+use Rattle.std.specs.Option.{option_map_or}
+use Rattle.annex_base.specs.Causes.{Rose}
+use Rattle.annex_base.specs.declared.kinds.Word.{Word}
+use Rattle.run_data.specs.declared.entry.Entry.{Entry}
+use Rattle.run_data.specs.declared.entry.EntryKind.{EntryKind}
+use Rattle.run_data.specs.declared.entry.EntryKind.TheVariants.{End}
+use Rattle.drop_worker.specs.Working.{failed_in}
+use Rattle.link_ring.specs.Ends.{EndView}
+use Rattle.node_ends.specs.Ends.{SeesEnds}
+use Rattle.node_ends.specs.Going.{AreAfter}
+use Rattle.node_jobs.specs.Running.{words_at}
+use Rattle.node_model.specs.Look.{Look, Made, entry_of}
+use Rattle.node_model.specs.SetUp.{SetUp}
+use Rattle.node_model.specs.Step.{step}
+use Rattle.repo_node.specs.declared.setup.Ended.{Ended}
+use Rattle.repo_node.specs.Nodes.{NodeView, state_of}
+
+-- ---- what a turn finds
+
+-- the look is the node's: it finds what waits at the node's ends and where they have room, at its time, for its next entry
+pub record Looks {K : Type 0} (n : NodeView K) (s : SetUp) (k : Look) : Type 0 where
+  pub ends : SeesEnds n.parts.links s k
+  pub time : k.time ≡ n.time
+  pub count : k.count ≡ n.count + 1
+
+-- the words that this job of the node heard beside its peers' answers; none where no job acts
+abbrev pub words_by : {K : Type 0} → NodeView K → Option ℕ → ℕ → Option Word
+words_by n job = option_map_or (words_at n.parts.jobs.running) job (λ c. None)
+
+-- ---- what it makes
+
+-- the job that an entry of this kind ends, with the entry's place in the history
+abbrev pub ended_by : EntryKind → ℕ → List Ended
+ended_by (End job outcome) place = record { number = job; place = place } ∷ []
+ended_by kind place = []
+
+-- The node has one entry more, of its own number, at its time, with the next count. Its ends, which were these, took and sent the
+-- entry's frames; the entry says that a call of the store failed only where the count of the store's faults rose.
+pub record Adds {K : Type 0} (links : List EndView) (faults faults' : ℕ) (was now : NodeView K) : Type 0 where
+  pub entry : Entry
+  pub history : now.history ≡ was.history ++ entry ∷ []
+  pub outcomes : now.outcomes ≡ was.outcomes ++ ended_by entry.kind (length was.history)
+  pub time : entry.time ≡ was.time
+  pub count : entry.count ≡ was.count + 1
+  pub repo : entry.repo ≡ Some was.setup.number
+  pub counted : now.count ≡ was.count + 1
+  pub at : now.time ≡ was.time
+  pub setup : now.setup ≡ was.setup
+  pub ends : AreAfter links now.parts.links entry.taken entry.sent
+  pub cause : IfSome (failed_in entry.kind) (λ call. Rose faults faults')
+
+-- the entry is the step that the definitions have of the state that the history leaves, at a look of the node that finds the
+-- store call to fail that the entry tells, and the words that the acting job heard
+pub record TurnsSo {K : Type 0} (was now : NodeView K) (s : SetUp) : Type 0 where
+  pub look : Look
+  pub made : Made
+  pub acting : Option ℕ
+  pub looks : Looks was s look
+  pub words : look.words ≡ words_by was acting
+  pub fails : look.fails ≡ failed_in made.kind
+  pub makes : step s (state_of s was.history) look ≡ Some made
+  pub adds : now.history ≡ was.history ++ entry_of s.number look made ∷ []
+
+-- no step is ready, whatever a look of the node finds beside
+abbrev pub IsIdle : {K : Type 0} → NodeView K → SetUp → Type 0
+IsIdle n s = (k : Look) → Looks n s k → step s (state_of s n.history) k ≡ None
+
+-- a step is ready, whatever a look of the node finds beside
+abbrev pub HasStep : {K : Type 0} → NodeView K → SetUp → Type 0
+HasStep n s = (k : Look) → Looks n s k → is_some (step s (state_of s n.history) k) ≡ true

@@ -1,0 +1,100 @@
+//! A job of a node begins.
+ghost use Rattle.std.specs.Prelude.{◌≡◌, ◌≤◌, ◌<◌, ◌+◌, ◌-◌, ◌^◌, Err, [], None, length, vec_len, IfOk, IsErrOf, OnErr, OnOk};
+ghost use Rattle.run_data.specs.declared.entry.Entry.{Entry};
+ghost use Rattle.run_data.specs.declared.entry.EntryKind.TheVariants.{Begin};
+ghost use Rattle.node_jobs.specs.Acting.{with_job};
+ghost use Rattle.node_model.specs.After.{state_after};
+ghost use Rattle.node_model.specs.SetUp.{SetUp};
+ghost use Rattle.node_model.specs.State.{State};
+ghost use Rattle.node_parts.specs.Parts.{AreParts};
+ghost use Rattle.repo_node.specs.Nodes.{with_entry};
+ghost use Rattle.repo_node.specs.Pasts.{IsReady, SamePast};
+ghost use Rattle.repo_node.specs.Refusals.{most_entries};
+
+use crate::node::Node;
+use crate::past::Past;
+use crate::refused::NodeRefused;
+use annex_base::Items;
+use node_parts::{Parts, tables_fill_as_states};
+use object_store::Keeper;
+use run_data::{EntryKind, Job, JobKind};
+
+/// Why a node doesn't begin a job (own).
+#[derive(Clone, Copy, Debug, PartialEq, Eq)]
+pub enum BeginRefused {
+    /// Four jobs run.
+    NoSlot,
+    /// Its history has 100,000 entries.
+    Full,
+    /// Memory ran out.
+    NoMemory,
+}
+
+/// Makes the past ready for one more entry.
+fn make_ready(past: &mut Past) -> Result<(), BeginRefused>
+    ensures ready { OnOk result (IsReady past.new) }
+    ensures same { SamePast past.old past.new }
+    ensures full { IsErrOf result BeginRefused.Full → vec_len past.old.history ≡ most_entries }
+    ensures slot { IsErrOf result BeginRefused.NoSlot → ⊥ }
+{
+    match past.ready() {
+        Ok(()) => Ok(()),
+        Err(NodeRefused::Full) => Err(BeginRefused::Full),
+        Err(NodeRefused::StoreFault | NodeRefused::BadBundle { .. } | NodeRefused::NoMemory) => Err(BeginRefused::NoMemory),
+    }
+}
+
+/// Begins the job, and gives its number.
+fn begin_parts(parts: &mut Parts, past: &mut Past, job: &Job) -> Result<u32, BeginRefused>
+    requires kind { job.now.kind ≡ JobKind.Drop }
+    requires peer { job.now.peer ≡ None }
+    requires few { parts.old.jobs.begun < 2 ^ 32 - 1 }
+    ensures number { IfOk result (λ n. n ≡ parts.old.jobs.begun + 1) }
+    ensures jobs { OnOk result (parts.new ≡ record parts.old { jobs = with_job parts.old.jobs job.now }) }
+    ensures parts { OnOk result ((s : SetUp) (st : State) (e : Entry) → AreParts s st parts.old → e.kind ≡ Begin (parts.old.jobs.begun + 1) job.now → e.taken ≡ None → e.sent ≡ [] → AreParts s (state_after s st e) parts.new) }
+    ensures slot { IsErrOf result BeginRefused.NoSlot → 4 ≤ length parts.old.jobs.running }
+    ensures full { IsErrOf result BeginRefused.Full → vec_len past.old.history ≡ most_entries }
+    ensures free { (result ≡ Err BeginRefused.NoSlot → ⊥) → length parts.old.jobs.running < 4 }
+    ensures ready { OnOk result (IsReady past.new) }
+    ensures same { SamePast past.old past.new }
+    ensures err { OnErr result (parts.new ≡ parts.old) }
+{
+    if !parts.has_slot() {
+        return Err(BeginRefused::NoSlot);
+    }
+    make_ready(past)?;
+    let Ok(copy) = job.clone() else {
+        return Err(BeginRefused::NoMemory);
+    };
+    match parts.begin(past.alloc, copy) {
+        Ok(number) => Ok(number),
+        Err(_) => Err(BeginRefused::NoMemory),
+    }
+}
+
+impl<K: Keeper> Node<K> {
+    /// Begins a drop of the repository's own copy, by one entry, and gives the job's number: one more than were begun. After a
+    /// refusal all is as before.
+    pub fn begin(&mut self, job: Job) -> Result<u32, BeginRefused>
+        requires kind { job.kind ≡ JobKind.Drop }
+        requires peer { job.peer ≡ None }
+        ensures number { IfOk result (λ n. n ≡ self.old.parts.jobs.begun + 1) }
+        ensures ok { IfOk result (λ n. self.new ≡ record (with_entry self.old self.old.keeper self.old.branch (Begin n job) []) { parts = record self.old.parts { jobs = with_job self.old.parts.jobs job } }) }
+        ensures slot { IsErrOf result BeginRefused.NoSlot → 4 ≤ length self.old.parts.jobs.running }
+        ensures free { (result ≡ Err BeginRefused.NoSlot → ⊥) → length self.old.parts.jobs.running < 4 }
+        ensures full { IsErrOf result BeginRefused.Full → length self.old.history ≡ most_entries }
+        ensures err { OnErr result (self.new ≡ self.old) }
+    {
+        // For the proof: a law, and what the parts have of the table.
+        tables_fill_as_states();
+        let number = begin_parts(&mut self.parts, &mut self.past, &job)?;
+        let _ = self.parts.table();
+        let lines = Items::new(self.past.alloc);
+        let kind = EntryKind::Begin {
+            job: number,
+            what: job,
+        };
+        self.past.add(kind, lines);
+        Ok(number)
+    }
+}

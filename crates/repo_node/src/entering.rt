@@ -1,0 +1,172 @@
+//! The entry of a step, and what is noted of it: the line that it owes, and the job that it ends.
+ghost use Rattle.std.specs.Prelude.{◌≡◌, ◌<◌, ◌+◌, ◌++◌, [], is_some, nat_le, option_to_list, vec_capacity, vec_len, OnOk};
+ghost use Rattle.repo_node.specs.Kept.{is_debtor};
+ghost use Rattle.repo_node.specs.Pasts.{Enters, IsReady, SamePast};
+ghost use Rattle.repo_node.specs.Refusals.{most_entries};
+ghost use Rattle.repo_node.specs.Stepping.{EntersIf, EntersStep, owes_line, place_if};
+ghost use Rattle.repo_node.specs.Turning.{ended_by};
+
+use crate::past::Past;
+use crate::setup::Ended;
+use annex_base::{Items, NoMemory};
+use drop_worker::Time;
+use node_jobs::Clock;
+use node_parts::{Done, Moment};
+use run_data::{By, Entry, EntryKind, FrameView};
+
+impl Past {
+    /// Whether it has as many entries as it may have.
+    pub(crate) fn is_full(&self) -> bool
+        ensures { result ≡ nat_le most_entries (vec_len self.now.history) }
+    {
+        self.history.len() >= 100_000
+    }
+
+    /// When its next entry is made.
+    pub(crate) fn moment(&self) -> Moment
+        ensures { result ≡ record { time = self.now.time; clock = record { at = 0; to = self.now.setup.offset }; count = self.now.count + 1; number = vec_len self.now.history + 1 } }
+    {
+        Moment {
+            time: Time::new(self.time),
+            clock: Clock::set(Time::new(0), self.setup.offset),
+            count: self.count + 1,
+            number: self.history.len() as u64 + 1,
+        }
+    }
+
+    /// Adds an entry that took this frame, if one, and sent these.
+    pub(crate) fn enter(
+        &mut self,
+        kind: EntryKind,
+        taken: Option<FrameView>,
+        sent: Items<FrameView>,
+    )
+        requires { IsReady self.old }
+        ensures entry { Enters kind taken sent [] self.old self.new }
+        ensures outcomes { self.new.outcomes ≡ self.old.outcomes }
+    {
+        let entry = Entry {
+            time: self.time,
+            count: self.count + 1,
+            repo: Some(self.setup.number),
+            kind,
+            taken,
+            sent,
+            lines: Items::new(self.alloc),
+        };
+        self.history.push(entry).unwrap();
+        self.count += 1;
+    }
+}
+
+/// Makes room for an entry, for the line that it owes, and for the job that it ends.
+pub(crate) fn make_room(past: &mut Past, debts: &mut Vec<usize>) -> Result<(), NoMemory>
+    ensures ready { OnOk result (IsReady past.new) }
+    ensures outcomes { OnOk result (vec_len past.new.outcomes < vec_capacity past.new.outcomes) }
+    ensures debts { OnOk result (vec_len debts.new < vec_capacity debts.new) }
+    ensures same { SamePast past.old past.new }
+    ensures same_debts { debts.new.items ≡ debts.old.items }
+{
+    if past.ready().is_err() {
+        return Err(NoMemory);
+    }
+    debts.reserve(1)?;
+    past.outcomes.reserve(1)?;
+    Ok(())
+}
+
+fn is_debtor(by: By) -> bool
+    ensures { result ≡ is_debtor by }
+{
+    match by {
+        By::Script => false,
+        By::Job(_) | By::Peer { .. } => true,
+    }
+}
+
+/// Whether an entry of this kind owes a line.
+fn owes_line(kind: &EntryKind) -> bool
+    ensures { result ≡ owes_line kind.now }
+{
+    match kind {
+        EntryKind::Gain {
+            by,
+            size: _,
+            key: _,
+        } => is_debtor(*by),
+        EntryKind::Gone { by, key: _ } => is_debtor(*by),
+        _ => false,
+    }
+}
+
+/// The job that an entry of this kind ends, with the entry's place.
+fn ended(kind: &EntryKind, place: usize) -> Option<Ended>
+    ensures { option_to_list result ≡ ended_by kind.now place }
+{
+    match kind {
+        EntryKind::End { job, outcome: _ } => Some(Ended {
+            number: *job,
+            place,
+        }),
+        _ => None,
+    }
+}
+
+/// Notes a job that has ended, if one has.
+fn note_ended(outcomes: &mut Vec<Ended>, ended: Option<Ended>)
+    requires room { vec_len outcomes.old < vec_capacity outcomes.old }
+    ensures { outcomes.new.items ≡ outcomes.old.items ++ option_to_list ended }
+{
+    if let Some(it) = ended {
+        outcomes.push_reserved(it);
+    }
+}
+
+/// Notes the place of an entry that owes a line.
+fn note_debt(debts: &mut Vec<usize>, owes: bool, place: usize)
+    requires room { vec_len debts.old < vec_capacity debts.old }
+    ensures { debts.new.items ≡ debts.old.items ++ place_if owes place }
+{
+    if owes {
+        debts.push_reserved(place);
+    }
+}
+
+/// Adds the entry of a step. It takes no memory.
+pub(crate) fn enter(past: &mut Past, debts: &mut Vec<usize>, done: Done)
+    requires ready { IsReady past.old }
+    requires outcomes { vec_len past.old.outcomes < vec_capacity past.old.outcomes }
+    requires debts { vec_len debts.old < vec_capacity debts.old }
+    ensures past { EntersStep done past.old past.new }
+    ensures debts { debts.new.items ≡ debts.old.items ++ place_if (owes_line done.kind) (vec_len past.old.history) }
+{
+    let Done {
+        job: _,
+        kind,
+        taken,
+        sent,
+    } = done;
+    let place = past.history.len();
+    let owes = owes_line(&kind);
+    let ended = ended(&kind, place);
+    past.enter(kind, taken, sent);
+    note_ended(&mut past.outcomes, ended);
+    note_debt(debts, owes, place);
+}
+
+/// Adds the entry of a step, if one was made, and tells whether it was.
+pub(crate) fn enter_if(past: &mut Past, debts: &mut Vec<usize>, done: Option<Done>) -> bool
+    requires ready { IsReady past.old }
+    requires outcomes { vec_len past.old.outcomes < vec_capacity past.old.outcomes }
+    requires debts { vec_len debts.old < vec_capacity debts.old }
+    ensures made { result ≡ is_some done }
+    ensures enters { EntersIf done past.old past.new debts.old.items debts.new.items }
+{
+    match done {
+        None => false,
+        Some(done) => {
+            enter(past, debts, done);
+            true
+        }
+    }
+}
