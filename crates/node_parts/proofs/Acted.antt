@@ -296,7 +296,7 @@ pub acts_some : NamelessAsked → RoomThere → OwnEntries → EndsGo → Sessio
     → now.jobs.place ≡ was.jobs.place → now.sessions ≡ was.sessions → ForSome known (λ c. Acts was now c contents clock view time number (Some d))
 acts_some asked room own go stay was now clock view time number None contents sound a d step acted kind leaves place still = tt
 acts_some asked room own go stay was now clock view time number (Some c) contents sound a d step acted kind leaves place still =
-    λ s st k logs sees fails words. steps_some asked room own go stay was now clock view time number c contents sound s st k logs sees a d step acted kind leaves place still fails words
+    λ s st k logs sees fails words. steps_some asked room own go stay was now clock view time number c contents sound s st k logs sees a d step acted kind leaves place still (fails d refl) (words d refl)
 
 -- ---- what is left
 

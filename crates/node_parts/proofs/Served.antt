@@ -23,12 +23,14 @@ use Rattle.node_model.specs.Rows.{bar_after, content_after, holds_after, present
 use Rattle.node_model.specs.Sessions.{new_session}
 use Rattle.node_model.specs.SessionStep.{is_filled, session_step}
 use Rattle.node_model.specs.SetUp.{SetUp}
-use Rattle.node_model.specs.Slots.{job_of}
+use Rattle.node_model.specs.Files.{lines_after}
+use Rattle.node_model.specs.Slots.{is_begin, job_of}
 use Rattle.node_model.specs.State.{State}
 use Rattle.node_ends.specs.Ends.{AreEnds, end_at}
 use Rattle.node_ends.specs.Going.{AreAfter}
 use Rattle.p2p_server.specs.declared.session.Session.{Session}
 use Rattle.p2p_server.specs.Answers.{failed_in as failed_here}
+use Rattle.p2p_server.specs.Bounds.{IsKind}
 use Rattle.p2p_server.specs.States.{Keeps, stand_after, stand_of}
 use Rattle.p2p_server.specs.Talking.{AreAfterStep}
 use Rattle.drop_worker.specs.Working.{failed_in}
@@ -39,6 +41,7 @@ use Rattle.node_sessions.specs.Serving.{AreAfterIf, FailsBy, HasPart, Sees, Sees
 use Rattle.node_jobs.specs.Places.{IsPlace}
 use Rattle.node_jobs.specs.Running.{AreWorks, DropJob, Jobs, OwnAll as JobsOwn, work_now}
 use Rattle.node_parts.specs.declared.done.Done.{Done}
+use Rattle.node_parts.specs.Kinds.{IsQuiet}
 use Rattle.node_parts.specs.Parts.{AreParts, HasContents, PartsView}
 use Rattle.node_parts.specs.Sound.{AreSound}
 use Rattle.node_parts.specs.Steps.{EndsAfter, Fails, LeavesSo, SeesParts, Serves, Steps, failed_by, made_of, state_then}
@@ -206,20 +209,27 @@ failed_same links (Some v) (Some d) same = same_failure d.kind ∙ ap failed_her
 pub cause_of : (links : List EndView) (o : Option Served) (d : Option Done) → option_map made_of d ≡ option_map (made_by links) o → (R : Type 0) → IfSome (failed_by_served o) (λ call. R) → IfSome (failed_by d) (λ call. R)
 cause_of links o d same R cause = subst (λ (f : Option Call). IfSome f (λ call. R)) (sym (failed_same links o d same)) cause
 
+-- where the sessions serve something, a step is made
+gives_done : (links : List EndView) (o : Option Served) (d : Option Done) → option_map made_of d ≡ option_map (made_by links) o → (v : Served) → o ≡ Some v → (x : Done) × (d ≡ Some x)
+gives_done links o None same v is = absurd (some_none (made_by links v) (sym (same ∙ ap (option_map (made_by links)) is)))
+gives_done links o (Some x) same v is = (x, refl)
+
 serves : FillsLaw → LooksSee → (was now : PartsView) (known contents : Option Contents) (parts : Option StoredParts) (clock : ClockSet) (time number : ℕ) (o : Option Served) (d : Option Done)
-    → AreSound was
+    → AreSound was → option_map made_of d ≡ option_map (made_by was.links) o
     → ((s : SetUp) (st : State) (k : Look) → Sees was.links was.table known parts (runs_on clock time) number was.sessions o s st k → StepsSo was.links o now.sessions now.table contents s st k)
     → Then was now contents o d → FailsSo o d
     → ForSome known (λ c. ForSome parts (λ q. FedAll q was.sessions → Serves was now c contents clock time number d))
-serves fills looks was now known contents parts clock time number o d sound step then_d fails = λ c told q told_parts fed.
+serves fills looks was now known contents parts clock time number o d sound same step then_d fails = λ c told q told_parts fed.
     let has = looks q was.sessions was.links o fed in
     record {
       part = has.part;
       right = has.right;
-      steps = λ s st k sees fail is_part is_right.
-          let part : SeesPartBy parts was.sessions was.links o k.part k.right =
-              subst (λ (x : Option StoredParts). SeesPartBy x was.sessions was.links o k.part k.right) (sym told_parts)
-              (subst (λ (n : ℕ). SeesPartBy (Some q) was.sessions was.links o n k.right) (sym is_part) (subst (λ (b : Bool). SeesPartBy (Some q) was.sessions was.links o has.part b) (sym is_right) has.sees)) in
+      steps = λ s st k sees fail finds.
+          let part : SeesPartBy parts was.sessions was.links o k.part k.right = λ v served.
+              let x = gives_done was.links o d same v served in
+              let found = finds x.0 x.1 in
+              subst (λ (ps : Option StoredParts). SeesPartBy ps was.sessions was.links o k.part k.right) (sym told_parts)
+              (subst (λ (n : ℕ). SeesPartBy (Some q) was.sessions was.links o n k.right) (sym found.0) (subst (λ (b : Bool). SeesPartBy (Some q) was.sessions was.links o has.part b) (sym found.1) has.sees)) v served in
           then_d s st k sees.parts (step s st k (sees_of fills was known parts c clock time number o s st k sound told sees part (fails k fail)));
     }
 
@@ -232,7 +242,7 @@ pub step_of : FillsLaw → LooksSee → EndsGo → ClosedLaw → JobsStay → Ow
 step_of fills looks go shuts stay own was now mid known contents parts clock time number shows o d sound jobs mid_is shows_is step serves_if made after ends idle =
     let same : option_map made_of d ≡ option_map (made_by was.links) o = made ∙ ap (λ (links : List EndView). option_map (made_by links) o) mid_is in
     let gone : EndsAfter was.links now.links d = subst (λ (links : List EndView). EndsAfter links now.links d) mid_is ends in
-    serves fills looks was now known contents parts clock time number o d sound
+    serves fills looks was now known contents parts clock time number o d sound same
     (λ s st k sees. step s st k (subst (λ (n : ℕ). Sees was.links was.table known parts n number was.sessions o s st k) (sym shows_is) sees))
     (then_of go shuts stay own was now contents o d sound jobs serves_if same after gone idle) (fails_of was.links o d same)
 
@@ -255,3 +265,19 @@ pub leaves_at : (number : ℕ) (was now : PartsView) (mid : List EndView) (o : O
     → All (λ h. h.number < number + 1) now.table.holds → EndsAfter mid now.links d → (o ≡ None → now.sessions ≡ was.sessions) → LeavesSo number was now d
 leaves_at number was now mid o d jobs mid_is made after numbers ends idle =
     leaves_of number was now o d jobs (made ∙ ap (λ (links : List EndView). option_map (made_by links) o) mid_is) after numbers (subst (λ (links : List EndView). EndsAfter links now.links d) mid_is ends) idle
+
+-- ---- of what kind its entry is
+
+abbrev pub KindLaw : Type 0
+KindLaw = (n : ℕ) (kind : EntryKind) → IsKind n kind → (job_of kind ≡ None) × ((clock : ℕ) → kind ≡ kinds.Crash clock → ⊥) × ((path : List ℕ) (was lines : List (List ℕ)) → lines_after path was kind lines ≡ was)
+
+no_begin : (kind : EntryKind) → job_of kind ≡ None → is_begin kind ≡ false
+no_begin (kinds.Begin job what) none = absurd (some_none job none)
+no_begin kind none = refl
+
+pub quiet_served : KindLaw → (number : ℕ) (links : List EndView) (o : Option Served) (d : Option Done) → option_map made_of d ≡ option_map (made_by links) o → ForSome o (λ v. IsKind number v.kind) → ForSome d (λ x. IsQuiet x.kind)
+quiet_served law number links None d same kinds_are x is = absurd (some_none (made_of x) (sym (ap (option_map made_of) is) ∙ same))
+quiet_served law number links (Some v) d same kinds_are x is =
+    let kind : v.kind ≡ x.kind = sym (kind_of links v x (sym (ap (option_map made_of) is) ∙ same)) in
+    let facts = law number x.kind (subst (IsKind number) kind (kinds_are v refl)) in
+    record { begins = no_begin x.kind facts.0; crashes = facts.1; lines = facts.2 }
