@@ -2,4 +2,6 @@
 pub mod Sounding
 pub mod Going
 pub mod Served
+pub mod Posting
+pub mod Acted
 pub mod Staying

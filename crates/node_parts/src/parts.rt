@@ -39,10 +39,10 @@ use std::marker::Model;
 /// The moving parts of a repository: its lock table, its ends, its sessions and its running jobs (own). They have tokens to
 /// spend, so they are dissolved and never dropped.
 pub struct Parts {
-    table: LockTable,
-    ends: Ends,
-    sessions: Sessions,
-    jobs: Jobs,
+    pub(crate) table: LockTable,
+    pub(crate) ends: Ends,
+    pub(crate) sessions: Sessions,
+    pub(crate) jobs: Jobs,
 }
 
 impl Model for Parts {
@@ -112,7 +112,7 @@ impl Parts {
     pub fn has_slot(&self) -> bool
         ensures { result ≡ nat_lt (length self.now.jobs.running) 4 }
     {
-        self.jobs.has_slot()
+        self.jobs.running() < 4
     }
 
     /// Begins a drop of the repository's own copy, and gives its number. After a refusal all is as before.
