@@ -69,7 +69,6 @@ no_work_fills : (key : List ℕ) (js : List DropJob) → list_any (λ (w : Work)
 no_work_fills key [] = refl
 no_work_fills key (j ∷ js) = no_work_fills key js
 
-
 -- the table fills what the state does
 pub table_fills : FillsLaw → (s : SetUp) (st : State) (p : PartsView) (key : List ℕ) → AreSound p → AreParts s st p → is_filling p.table key ≡ is_filled s st key
 table_fills law s st p key sound are =
@@ -218,8 +217,8 @@ serves fills looks was now known contents parts clock time number o d sound step
       right = has.right;
       steps = λ s st k sees fail is_part is_right.
           let part : SeesPartBy parts was.sessions was.links o k.part k.right =
-              subst (λ (x : Option StoredParts). SeesPartBy x was.sessions was.links o k.part k.right) (sym told_parts)
-              (subst (λ (n : ℕ). SeesPartBy (Some q) was.sessions was.links o n k.right) (sym is_part) (subst (λ (b : Bool). SeesPartBy (Some q) was.sessions was.links o has.part b) (sym is_right) has.sees)) in
+          subst (λ (x : Option StoredParts). SeesPartBy x was.sessions was.links o k.part k.right) (sym told_parts)
+          (subst (λ (n : ℕ). SeesPartBy (Some q) was.sessions was.links o n k.right) (sym is_part) (subst (λ (b : Bool). SeesPartBy (Some q) was.sessions was.links o has.part b) (sym is_right) has.sees)) in
           then_d s st k sees.parts (step s st k (sees_of fills was known parts c clock time number o s st k sound told sees part (fails k fail)));
     }
 
