@@ -1,5 +1,5 @@
 //! The running jobs: which begin, and which has the next step.
-ghost use Rattle.std.specs.Prelude.{◌≡◌, ℕ, is_some, ◌≤◌, ◌<◌, ◌+◌, ◌-◌, ◌*◌, ◌^◌, [], length, map, nat_lt, IfOk, IfSome, IsErrOf, OnErr, OnOk};
+ghost use Rattle.std.specs.Prelude.{◌≡◌, ℕ, is_some, ◌≤◌, ◌<◌, ◌+◌, ◌-◌, ◌*◌, ◌^◌, [], length, map, IfOk, IfSome, IsErrOf, OnErr, OnOk};
 ghost use Rattle.std.specs.Option.{ForSome};
 ghost use Rattle.annex_base.specs.Causes.{Rose};
 ghost use Rattle.annex_base.specs.Lists.{Each};
@@ -88,11 +88,11 @@ impl Jobs {
         self.begun
     }
 
-    /// Whether a job may begin: fewer than four run.
-    pub fn has_slot(&self) -> bool
-        ensures { result ≡ nat_lt (length self.now.running) 4 }
+    /// How many jobs run.
+    pub fn running(&self) -> usize
+        ensures { result ≡ length self.now.running }
     {
-        self.running.len() < 4
+        self.running.len()
     }
 
     /// Begins a drop of the repository's own copy, and gives its number. It makes no step yet.

@@ -185,8 +185,8 @@ module _ (asked : NamelessAsked) (room_there : RoomThere) (own_entries : OwnEntr
     logs = logs;
     nameless = λ key. ap (λ (l : Settings). standing_by l key []) (sym logs ∙ sees.parts.logs) ∙ asked st.lines key;
     ticks = sees.ticks;
-    counts = sees.counts;
-    at = sym sees.at;
+    counts = sees.number;
+    at = sym sees.time;
   }
 
   keeps : Keeps was.table c st
@@ -296,7 +296,7 @@ pub acts_some : NamelessAsked → RoomThere → OwnEntries → EndsGo → Sessio
     → now.jobs.place ≡ was.jobs.place → now.sessions ≡ was.sessions → ForSome known (λ c. Acts was now c contents clock view time number (Some d))
 acts_some asked room own go stay was now clock view time number None contents sound a d step acted kind leaves place still = tt
 acts_some asked room own go stay was now clock view time number (Some c) contents sound a d step acted kind leaves place still =
-    λ s st k logs sees fails words. steps_some asked room own go stay was now clock view time number c contents sound s st k logs sees a d step acted kind leaves place still (fails d refl) (words d refl)
+    λ s st k logs sees fails words. steps_some asked room own go stay was now clock view time number c contents sound s st k logs sees a d step acted kind leaves place still fails (words d refl)
 
 -- ---- what is left
 
@@ -365,6 +365,6 @@ module _ (p : PartsView) (c : Contents) (clock : ClockSet) (time number : ℕ) (
         logs = refl;
         nameless = λ key. ap (λ (l : Settings). standing_by l key []) sees.parts.logs ∙ asked st.lines key;
         ticks = sees.ticks;
-        counts = sees.counts;
-        at = sym sees.at;
+        counts = sees.number;
+        at = sym sees.time;
       }) (record { present = sees.stored.present; bar = sees.parts.bars; holds = sees.parts.holds })

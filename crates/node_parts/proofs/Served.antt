@@ -44,7 +44,7 @@ use Rattle.node_parts.specs.declared.done.Done.{Done}
 use Rattle.node_parts.specs.Kinds.{IsQuiet}
 use Rattle.node_parts.specs.Parts.{AreParts, HasContents, PartsView}
 use Rattle.node_parts.specs.Sound.{AreSound}
-use Rattle.node_parts.specs.Steps.{EndsAfter, Fails, LeavesSo, SeesParts, Serves, Steps, failed_by, made_of, state_then}
+use Rattle.node_parts.specs.Steps.{EndsAfter, Fails, FindsPart, LeavesSo, SeesParts, Serves, Steps, failed_by, made_of, state_then}
 use Rattle.node_parts.proofs.Going.{EndsGo}
 
 -- ---- what laws say
@@ -72,7 +72,6 @@ no_work_fills : (key : List ℕ) (js : List DropJob) → list_any (λ (w : Work)
 no_work_fills key [] = refl
 no_work_fills key (j ∷ js) = no_work_fills key js
 
-
 -- the table fills what the state does
 pub table_fills : FillsLaw → (s : SetUp) (st : State) (p : PartsView) (key : List ℕ) → AreSound p → AreParts s st p → is_filling p.table key ≡ is_filled s st key
 table_fills law s st p key sound are =
@@ -88,8 +87,8 @@ sees_of law p known parts c clock time number o s st k sound told sees part fail
   sessions = sees.parts.sessions;
   keeps = record { contents = c; told = told; present = sees.stored.present; content = sees.stored.content; bar = sees.parts.bars; holds = sees.parts.holds };
   filled = λ key. sym (table_fills law s st p key sound sees.parts);
-  time = ap (λ (f : ℕ → ℕ). f k.time) sees.ticks ∙ ap (runs_on clock) sees.at;
-  made = sym sees.counts;
+  time = ap (λ (f : ℕ → ℕ). f k.time) sees.ticks ∙ ap (runs_on clock) sees.time;
+  made = sym sees.number;
   part = part;
   fails = fails;
 }
@@ -200,6 +199,15 @@ fails_of links (Some v) None same k f = absurd (some_none (made_by links v) (sym
 fails_of links (Some v) (Some d) same k f = λ w is.
     f d refl ∙ (same_failure d.kind ∙ (ap failed_here (kind_of links v d same) ∙ ap (λ (x : Served). failed_here x.kind) (same_Some v w is)))
 
+-- the look finds the part of the step that the sessions have
+abbrev pub FindsSo : Option Served → Option Done → Type 0
+FindsSo o d = (part : ℕ) (right : Bool) (k : Look) → FindsPart d part right k → (v : Served) → o ≡ Some v → (k.part ≡ part) × (k.right ≡ right)
+
+finds_of : (links : List EndView) (o : Option Served) (d : Option Done) → option_map made_of d ≡ option_map (made_by links) o → FindsSo o d
+finds_of links None d same part right k finds = λ v is. absurd (some_none v (sym is))
+finds_of links (Some v) None same part right k finds = absurd (some_none (made_by links v) (sym same))
+finds_of links (Some v) (Some d) same part right k finds = λ w is. finds d refl
+
 failed_same : (links : List EndView) (o : Option Served) (d : Option Done) → option_map made_of d ≡ option_map (made_by links) o → failed_by d ≡ failed_by_served o
 failed_same links None None same = refl
 failed_same links None (Some d) same = absurd (some_none (made_of d) same)
@@ -209,27 +217,22 @@ failed_same links (Some v) (Some d) same = same_failure d.kind ∙ ap failed_her
 pub cause_of : (links : List EndView) (o : Option Served) (d : Option Done) → option_map made_of d ≡ option_map (made_by links) o → (R : Type 0) → IfSome (failed_by_served o) (λ call. R) → IfSome (failed_by d) (λ call. R)
 cause_of links o d same R cause = subst (λ (f : Option Call). IfSome f (λ call. R)) (sym (failed_same links o d same)) cause
 
--- where the sessions serve something, a step is made
-gives_done : (links : List EndView) (o : Option Served) (d : Option Done) → option_map made_of d ≡ option_map (made_by links) o → (v : Served) → o ≡ Some v → (x : Done) × (d ≡ Some x)
-gives_done links o None same v is = absurd (some_none (made_by links v) (sym (same ∙ ap (option_map (made_by links)) is)))
-gives_done links o (Some x) same v is = (x, refl)
-
 serves : FillsLaw → LooksSee → (was now : PartsView) (known contents : Option Contents) (parts : Option StoredParts) (clock : ClockSet) (time number : ℕ) (o : Option Served) (d : Option Done)
-    → AreSound was → option_map made_of d ≡ option_map (made_by was.links) o
+    → AreSound was
     → ((s : SetUp) (st : State) (k : Look) → Sees was.links was.table known parts (runs_on clock time) number was.sessions o s st k → StepsSo was.links o now.sessions now.table contents s st k)
-    → Then was now contents o d → FailsSo o d
+    → Then was now contents o d → FailsSo o d → FindsSo o d
     → ForSome known (λ c. ForSome parts (λ q. FedAll q was.sessions → Serves was now c contents clock time number d))
-serves fills looks was now known contents parts clock time number o d sound same step then_d fails = λ c told q told_parts fed.
+serves fills looks was now known contents parts clock time number o d sound step then_d fails finds_so = λ c told q told_parts fed.
     let has = looks q was.sessions was.links o fed in
     record {
       part = has.part;
       right = has.right;
       steps = λ s st k sees fail finds.
-          let part : SeesPartBy parts was.sessions was.links o k.part k.right = λ v served.
-              let x = gives_done was.links o d same v served in
-              let found = finds x.0 x.1 in
-              subst (λ (ps : Option StoredParts). SeesPartBy ps was.sessions was.links o k.part k.right) (sym told_parts)
-              (subst (λ (n : ℕ). SeesPartBy (Some q) was.sessions was.links o n k.right) (sym found.0) (subst (λ (b : Bool). SeesPartBy (Some q) was.sessions was.links o has.part b) (sym found.1) has.sees)) v served in
+          let part : SeesPartBy parts was.sessions was.links o k.part k.right = (λ v is.
+          let found = finds_so has.part has.right k finds v is in
+          let there : SeesPartBy (Some q) was.sessions was.links (Some v) has.part has.right = subst (λ (y : Option Served). SeesPartBy (Some q) was.sessions was.links y has.part has.right) is has.sees in
+          subst (λ (x : Option StoredParts). SeesPartBy x was.sessions was.links (Some v) k.part k.right) (sym told_parts)
+          (subst (λ (n : ℕ). SeesPartBy (Some q) was.sessions was.links (Some v) n k.right) (sym found.0) (subst (λ (b : Bool). SeesPartBy (Some q) was.sessions was.links (Some v) has.part b) (sym found.1) there)) v refl) in
           then_d s st k sees.parts (step s st k (sees_of fills was known parts c clock time number o s st k sound told sees part (fails k fail)));
     }
 
@@ -242,9 +245,9 @@ pub step_of : FillsLaw → LooksSee → EndsGo → ClosedLaw → JobsStay → Ow
 step_of fills looks go shuts stay own was now mid known contents parts clock time number shows o d sound jobs mid_is shows_is step serves_if made after ends idle =
     let same : option_map made_of d ≡ option_map (made_by was.links) o = made ∙ ap (λ (links : List EndView). option_map (made_by links) o) mid_is in
     let gone : EndsAfter was.links now.links d = subst (λ (links : List EndView). EndsAfter links now.links d) mid_is ends in
-    serves fills looks was now known contents parts clock time number o d sound same
+    serves fills looks was now known contents parts clock time number o d sound
     (λ s st k sees. step s st k (subst (λ (n : ℕ). Sees was.links was.table known parts n number was.sessions o s st k) (sym shows_is) sees))
-    (then_of go shuts stay own was now contents o d sound jobs serves_if same after gone idle) (fails_of was.links o d same)
+    (then_of go shuts stay own was now contents o d sound jobs serves_if same after gone idle) (fails_of was.links o d same) (finds_of was.links o d same)
 
 -- ---- what is left
 

@@ -37,13 +37,13 @@ failed_by (Some d) = failed_in d.kind
 
 -- The state is what these parts and a store with these contents are, before the entry of this number; and at this time the look
 -- finds what waits at the ends, and where they have room.
-pub record SeesParts (p : PartsView) (c : Contents) (clock : ClockSet) (time number : ℕ) (s : SetUp) (st : State) (k : Look) : Type 0 where
+pub record SeesParts (p : PartsView) (c : Contents) (clock : ClockSet) (at n : ℕ) (s : SetUp) (st : State) (k : Look) : Type 0 where
   pub parts : AreParts s st p
   pub stored : HasContents c st
   pub ticks : st.clock ≡ runs_on clock
-  pub counts : number ≡ st.made + 1
+  pub number : n ≡ st.made + 1
   pub ends : SeesEnds p.links s k
-  pub at : k.time ≡ time
+  pub time : k.time ≡ at
 
 -- where there is a step, the look finds its store call to fail that the entry tells
 abbrev pub Fails : Option Done → Look → Type 0

@@ -1,5 +1,6 @@
 //! When an entry is made.
 ghost use Rattle.std.specs.Prelude.{◌≡◌};
+
 use annex_base::EntryStamp;
 use drop_worker::Time;
 use node_jobs::Clock;

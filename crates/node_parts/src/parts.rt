@@ -28,7 +28,8 @@ use link_ring::Links;
 use node_ends::{Ends, carry_ends, ends_begin_closed, ends_go_on};
 use node_jobs::{BeginRefused, Jobs, Place, jobs_stay};
 use node_sessions::{
-    Sessions, looks_see_parts, sessions_and_jobs_fill, sessions_entries_are_no_jobs, sessions_make_their_own_entries, sessions_of_closed_ends_are_new, sessions_stay,
+    Sessions, looks_see_parts, sessions_and_jobs_fill, sessions_entries_are_no_jobs, sessions_make_their_own_entries,
+    sessions_of_closed_ends_are_new, sessions_stay,
 };
 use object_store::Keeper;
 use run_data::{Job, JobKind};
@@ -111,7 +112,7 @@ impl Parts {
     pub fn has_slot(&self) -> bool
         ensures { result ≡ nat_lt (length self.now.jobs.running) 4 }
     {
-        self.jobs.has_slot()
+        self.jobs.running() < 4
     }
 
     /// Begins a drop of the repository's own copy, and gives its number. After a refusal all is as before.

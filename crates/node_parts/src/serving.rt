@@ -105,12 +105,7 @@ fn close_if(
 }
 
 /// Takes and sends what a session serves.
-fn serve(
-    ends: &mut Ends,
-    stamp: EntryStamp,
-    served: Served,
-    listing: Vec<FrameView>,
-) -> Done
+fn serve(ends: &mut Ends, stamp: EntryStamp, served: Served, listing: Vec<FrameView>) -> Done
     requires serves { ServesAt ends.old served }
     requires empty { listing.items ≡ [] }
     requires room { 2 ≤ vec_capacity listing }

@@ -161,9 +161,9 @@ sees_parts law setup h parts branch owed told c time number s k kept is count fi
   parts = ((kept.state s fits).stands c is).parts_are;
   stored = ((kept.state s fits).stands c is).stored;
   ticks = kept.clock s fits;
-  counts = count ∙ sym (ap (λ (n : ℕ). n + 1) (law s (reverse h) ∙ length-reverse h));
+  number = count ∙ sym (ap (λ (n : ℕ). n + 1) (law s (reverse h) ∙ length-reverse h));
   ends = ends;
-  at = at;
+  time = at;
 }
 
 -- ---- a step of these

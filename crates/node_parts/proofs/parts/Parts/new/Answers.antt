@@ -1,5 +1,5 @@
 -- What the proof of `parts::Parts::new` needs beside the tactics.
-use Rattle.std.proofs.Common.{rules, ◌≡◌, ℕ, ◌*◌, length, sym, ap, ◌∙◌}
+use Rattle.std.proofs.Common.{rules, ◌≡◌, ◌*◌, length, ◌∙◌}
 use Rattle.std.specs.Prelude.{replicate}
 use Rattle.link_ring.specs.Ends.{fresh}
 use Rattle.node_parts.proofs.Going.{first_sound, no_jobs, no_rows}

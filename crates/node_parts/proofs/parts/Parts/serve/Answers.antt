@@ -41,7 +41,7 @@ returns-clause-step g c =
     let now : PartsView = record { table = c.step.new.table; links = c.serve_if.new.ends; sessions = c.step.new.self; jobs = i.jobs } in
     let e = c.in_ok-served.ensures in
     subst (λ (p : PartsView). ForSome (g.K.Keeper.contents c.args.keeper.now) (λ x. ForSome (g.K.Keeper.parts c.args.keeper.now) (λ q. FedAll q p.sessions
-        → Serves p now x (g.K.Keeper.contents c.step.new.keeper) c.args.moment.clock c.args.moment.time c.args.moment.number c.serve_if.result))) c.self.view_is
+    → Serves p now x (g.K.Keeper.contents c.step.new.keeper) c.args.moment.clock c.args.moment.time c.args.moment.number c.serve_if.result))) c.self.view_is
     (step_of c.sessions_and_jobs_fill.ensures c.looks_see_parts.ensures c.ends_go_on.ensures.ends c.sessions_of_closed_ends_are_new.ensures c.jobs_stay.ensures c.sessions_make_their_own_entries.ensures
     was now c.step.new.ends (g.K.Keeper.contents c.args.keeper.now) (g.K.Keeper.contents c.step.new.keeper) (g.K.Keeper.parts c.args.keeper.now) c.args.moment.clock c.args.moment.time c.args.moment.number c.read-shows.result
     c.in_ok-served.served c.serve_if.result c.self.invariant refl e.same c.read-shows.ensures.same e.step e.serves c.serve_if.ensures.made e.after c.serve_if.ensures.after e.idle)
