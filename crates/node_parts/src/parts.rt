@@ -18,16 +18,16 @@ ghost use Rattle.node_parts.specs.Parts.{AreParts};
 ghost use Rattle.node_parts.specs.Steps.{LeavesSo, Serves, failed_by};
 
 use crate::done::Done;
-use crate::moment::Moment;
-use crate::serving::{listing, serve};
+use crate::moment::{Moment, stamp_at};
+use crate::serving::{listing, serve_if};
 use annex_base::{Items, NoMemory, RepoId};
 use content_lock::LockTable;
 use link_ring::Links;
 use node_ends::{Ends, carry_ends, ends_begin_closed, ends_go_on};
 use node_jobs::{BeginRefused, Jobs, Place, jobs_stay};
 use node_sessions::{
-    Sessions, looks_see_parts, sessions_and_jobs_fill, sessions_make_their_own_entries, sessions_of_closed_ends_are_new,
-    sessions_stay,
+    Sessions, looks_see_parts, sessions_and_jobs_fill, sessions_make_their_own_entries,
+    sessions_of_closed_ends_are_new, sessions_stay,
 };
 use object_store::Keeper;
 use run_data::{Job, JobKind};
@@ -160,6 +160,12 @@ impl Parts {
         ensures err_parts { OnErr result (K.parts keeper.new ≡ K.parts keeper.old) }
         ensures err_records { OnErr result (K.records keeper.new ≡ K.records keeper.old) }
     {
+        let Moment {
+            time,
+            clock,
+            count,
+            number,
+        } = moment;
         // Laws, for the proof.
         ends_go_on();
         jobs_stay();
@@ -167,13 +173,7 @@ impl Parts {
         sessions_and_jobs_fill();
         sessions_make_their_own_entries();
         sessions_of_closed_ends_are_new();
-        let stamp = moment.stamp(self.jobs.number());
-        let Moment {
-            time,
-            clock,
-            count: _,
-            number,
-        } = moment;
+        let stamp = stamp_at(time, count, self.jobs.number());
         let shows = clock.read(time);
         let room = listing(alloc)?;
         let served = self.sessions.step(
@@ -184,10 +184,7 @@ impl Parts {
             shows,
             number,
         )?;
-        match served {
-            None => Ok(None),
-            Some(served) => Ok(Some(serve(&mut self.ends, stamp, served, room))),
-        }
+        Ok(serve_if(&mut self.ends, stamp, served, room))
     }
 
     /// Carries the frames of all connections with another repository to the ends that take them.
