@@ -235,7 +235,7 @@ module _ (asked : NamelessAsked) (room_there : RoomThere) (own_entries : OwnEntr
     made : job_step s st k ≡ Some (made_of d)
     made = steps.made ∙ ap (λ (m : Made). Some m) (sym same)
 
-    e : Entry
+    abbrev e : Entry
     e = entry_of s.number k (made_of d)
 
     of_job : IsOfJob a.job d.kind
