@@ -93,10 +93,15 @@ impl Parts {
     {
         // A law, for the proof.
         nameless_are_asked();
+        let Moment {
+            time,
+            clock,
+            count: _,
+            number: _,
+        } = moment;
         if self.sessions.is_ready(&mut self.ends) {
             return Ok(true);
         }
-        self.jobs
-            .is_ready(alloc, moment.clock, &mut self.ends, moment.time)
+        self.jobs.is_ready(alloc, clock, &mut self.ends, time)
     }
 }
