@@ -170,7 +170,7 @@ history_is : {K : Type 0} (n m : NodeView K) (k : Look) (kind : EntryKind) (line
 history_is n m k kind lines others time count same adds = adds ∙ ap (λ (e : Entry). n.history ++ e ∷ []) (entry_is n k kind lines others time count same)
 
 pub step_made : {K : Type 0} (r : Result (Unit {0}) NodeRefused) (n m : NodeView K) (s : SetUp) (k : Look) (known : Option Contents) (o : Owed) (os : List Owed)
-    → Fits n.setup s → IsState s n.table n.branch known (state_of s n.history) → k.time ≡ n.time → k.count ≡ n.count + 1 → failing k.fails (PutFile ∷ []) ≡ failed_put r
+    → Fits n.setup s → IsState s n.parts n.branch n.owed known (state_of s n.history) → k.time ≡ n.time → k.count ≡ n.count + 1 → failing k.fails (PutFile ∷ []) ≡ failed_put r
     → OnOk r (m ≡ with_status n m.keeper o.key o.repo o.there) → IfErr r (λ e. RefusesFor o.by e PutFile n m)
     → WhereMade r (AddsStep (pays_first s (state_of s n.history) k (o ∷ os)) n.setup.number k n.history m.history)
 step_made {K} (Ok x) n m s k known o os fits is time count fails ok err = record {
@@ -211,7 +211,7 @@ step_made (Err refusals.NoMemory) n m s k known o os fits is time count fails ok
 -- the same, of the step of the state
 pub step_paid : {K : Type 0} (r : Result (Unit {0}) NodeRefused) (n m : NodeView K) (d : Draft) (s : SetUp) (k : Look) (known : Option Contents)
     → IsFirstDraft n d → (state_of s n.history).owed ≡ n.owed
-    → Fits n.setup s → IsState s n.table n.branch known (state_of s n.history) → k.time ≡ n.time → k.count ≡ n.count + 1 → failing k.fails (PutFile ∷ []) ≡ failed_put r
+    → Fits n.setup s → IsState s n.parts n.branch n.owed known (state_of s n.history) → k.time ≡ n.time → k.count ≡ n.count + 1 → failing k.fails (PutFile ∷ []) ≡ failed_put r
     → OnOk r (m ≡ with_entry n m.keeper (merged_file n.branch (file_path d.file) d.new) (Log d.file) d.new) → IfErr r (λ e. RefusesFor d.by e PutFile n m)
     → WhereMade r (AddsStep (owed_step s (state_of s n.history) k) n.setup.number k n.history m.history)
 step_paid {K} r n m d s k known f owes fits is time count fails ok err =

@@ -1,7 +1,8 @@
 -- A node after a content came, or a part.
-use Rattle.std.proofs.Common.{◌≡◌, ℕ, ◌+◌, inl, inr, Bool, true, false, if◌then◌else◌, ◌||◌, List, [], ◌++◌, length, Option, Some, None, Result, Ok, Err, OnOk, OnErr, IfErr, option_map, is_some, bytes_eq, refl, sym, ap, subst, ◌∙◌}
+use Rattle.std.proofs.Common.{◌≡◌, ℕ, inl, inr, Bool, true, false, if◌then◌else◌, ◌||◌, List, [], ◌++◌, length, Option, Some, None, Result, Ok, Err, OnOk, OnErr, IfErr, option_map, is_some, bytes_eq, refl, sym, ap, subst, ◌∙◌}
 use Rattle.std.specs.Option.{ForSome}
-use Rattle.annex_base.proofs.Conditions.{by_test, bytes_eq-refl}
+use Rattle.std.proofs.lemmas.Bool.{false≢true}
+use Rattle.annex_base.proofs.Conditions.{by_test, bytes_eq-refl, bytes_eq-true}
 use Rattle.object_store.specs.Stores.{Contents, Parts, contents_after_commit, with_at}
 use Rattle.run_data.specs.declared.entry.EntryKind.TheVariants.{Gain}
 use Rattle.run_data.specs.declared.entry.By.{By}
@@ -10,21 +11,26 @@ use Rattle.node_model.specs.Owed.{Owed}
 use Rattle.node_model.specs.Rows.{content_after, present_after}
 use Rattle.annex_base.specs.declared.kinds.Call.{Call}
 use Rattle.annex_base.specs.declared.kinds.Call.TheVariants.{Commit, PutFile}
-use Rattle.content_lock.specs.Rows.{Rows}
+use Rattle.content_lock.specs.Rows.{Rows, is_filling}
 use Rattle.union_merge.specs.Branch.{Files}
 use Rattle.repo_node.specs.declared.past.Past.{Past}
 use Rattle.repo_node.specs.declared.refused.NodeRefused.{NodeRefused}
 use Rattle.repo_node.specs.declared.refused.NodeRefused.TheVariants as refusals
 use Rattle.repo_node.specs.Debts.{with_status}
-use Rattle.repo_node.specs.Kept.{IsKept, owed_refused}
-use Rattle.repo_node.specs.Nodes.{NodeView}
+use Rattle.node_model.specs.Sessions as sessions
+use Rattle.p2p_server.specs.declared.session.Session.{Session}
+use Rattle.p2p_server.specs.Talking.{IsFedOf, session_of}
+use Rattle.node_parts.specs.Parts.{PartsView}
+use Rattle.node_parts.specs.Sound.{AreSound}
+use Rattle.repo_node.specs.Kept.{IsFed, IsKept, owed_refused}
+use Rattle.repo_node.specs.Nodes.{NodeView, told_of}
 use Rattle.repo_node.specs.Pasts.{AddsTo, FailsAtScripts, FailsFor, SamePast}
-use Rattle.repo_node.specs.Placing.{HasPart, IsPlaced, IsTaken, StopsBefore, StopsPlacing, with_content, with_gain, with_placed}
+use Rattle.repo_node.specs.Placing.{HasPart, IsPlaced, IsTaken, LeavesFilled, LeavesOthers, StopsBefore, StopsPlacing, with_content, with_gain, with_placed}
 use Rattle.repo_node.specs.Refusals.{RefusesFor}
 use Rattle.repo_node.specs.Walks.{over}
 use Rattle.repo_node.proofs.OwedLemmas.{Grows, grows_failed, grows_same, refused_stay}
 use Rattle.repo_node.proofs.PastLemmas.{fails_after, same_after}
-use Rattle.repo_node.proofs.StateLemmas.{Moves, kept_more}
+use Rattle.repo_node.proofs.StateLemmas.{Laws, Moves, kept_more, told_some}
 use Rattle.repo_node.proofs.WriteLemmas.{kept_equal, kept_failed, kept_past, node_adds, node_failed, node_of, node_same, storeless}
 
 or_true : (b : Bool) → true ≡ (b || true)
@@ -52,23 +58,20 @@ none_some x is = absurd cc
 some_is : {X : Type 0} (x y : X) → Some x ≡ Some y → x ≡ y
 some_is x y is = cc
 
--- the contents after a commit are those that the entry of a gain leaves
-pub gain_moves : (known known' : Option Contents) (parts : Option Parts) (key : List ℕ) (size : ℕ) → ForSome parts (λ p. length (p key) ≡ size) → known' ≡ contents_after_commit known parts key → Moves (Gain Script size key) known known'
-gain_moves None known' parts key size long is = record {
-  sizes = λ content was c told. absurd (none_some c (sym is ∙ told));
-  there = λ present was c told. absurd (none_some c (sym is ∙ told));
-}
-gain_moves (Some c) known' None key size long is = record {
-  sizes = λ content was c' told. absurd (none_some c' (sym is ∙ told));
-  there = λ present was c' told. absurd (none_some c' (sym is ∙ told));
-}
-gain_moves (Some c) known' (Some p) key size long is = record {
-  sizes = λ content was c' told k.
-      subst (λ (x : Contents). option_map length (x k) ≡ content_after k (content k) (Gain Script size key)) (some_is _ c' (sym is ∙ told))
-      (size_at c key k (p key) size (content k) (long p refl) (was c refl k));
-  there = λ present was c' told k.
-      subst (λ (x : Contents). is_some (x k) ≡ present_after k (present k) (Gain Script size key)) (some_is _ c' (sym is ∙ told))
-      (there_at c key k (p key) (present k) (was c refl k));
+-- the contents after a commit are those that the entry of a gain leaves, where the store tells
+pub gain_moves : (known known' : Option Contents) (parts parts' : Option Parts) (key : List ℕ) (size : ℕ) → ForSome parts (λ p. length (p key) ≡ size)
+    → known' ≡ contents_after_commit known parts key → parts' ≡ option_map (λ (p : Parts). with_at p key []) parts → Moves (Gain Script size key) (told_of known parts) (told_of known' parts')
+gain_moves known known' None parts' key size long is emptied = λ c told. absurd (none_some c (sym (ap (told_of known') emptied) ∙ told))
+gain_moves None known' (Some p) parts' key size long is emptied = λ c told. absurd (none_some c (sym is ∙ told_some known' parts' c told))
+gain_moves (Some c) known' (Some p) parts' key size long is emptied = λ c' told. record {
+  was = c;
+  told_so = refl;
+  content = λ k had h.
+      subst (λ (x : Contents). option_map length (x k) ≡ content_after k had (Gain Script size key)) (some_is _ c' (sym is ∙ told_some known' parts' c' told))
+      (size_at c key k (p key) size had (long p refl) h);
+  present = λ k had h.
+      subst (λ (x : Contents). is_some (x k) ≡ present_after k had (Gain Script size key)) (some_is _ c' (sym is ∙ told_some known' parts' c' told))
+      (there_at c key k (p key) had h);
 }
 
 -- ---- the key's part
@@ -98,37 +101,100 @@ committed None known' parts key bytes has is = is
 committed (Some c) known' None key bytes has is = is
 committed (Some c) known' (Some p) key bytes has is = is ∙ ap (λ (b : List ℕ). Some (with_at c key (Some b))) (has p refl)
 
+-- ---- the parts of other keys
+
+pub others_same : (key : List ℕ) (p q : Option Parts) → q ≡ p → LeavesOthers key p q
+others_same key p q same = record { tells = ap is_some same; others = λ f known g told k other. ap (λ (x : Parts). x k) (some_is g f (sym told ∙ same ∙ known)) }
+
+pub others_at : (key : List ℕ) (new : Parts → List ℕ) (p q : Option Parts) → q ≡ option_map (λ (f : Parts). with_at f key (new f)) p → LeavesOthers key p q
+others_at key new None q is = record { tells = ap is_some is; others = λ f known. absurd (none_some f known) }
+others_at key new (Some f) q is = record {
+  tells = ap is_some is;
+  others = λ f' known g told k other.
+      ap (λ (x : Parts). x k) (sym (some_is _ g (sym is ∙ told))) ∙ ap (λ (t : Bool). if t then new f else f k) other ∙ ap (λ (x : Parts). x k) (some_is f f' known);
+}
+
+pub others_changed : {X E : Type 0} (r : Result X E) (key : List ℕ) (new : Parts → List ℕ) (p q : Option Parts) → OnOk r (q ≡ option_map (λ (f : Parts). with_at f key (new f)) p) → OnErr r (q ≡ p) → LeavesOthers key p q
+others_changed (Ok x) key new p q ok err = others_at key new p q ok
+others_changed (Err e) key new p q ok err = others_same key p q err
+
+some_there : (p : Option Parts) → is_some p ≡ true → (f : Parts) × (p ≡ Some f)
+some_there None there = absurd cc
+some_there (Some f) there = (f, refl)
+
+told_there : (g : Parts) (p q : Option Parts) → is_some q ≡ is_some p → q ≡ Some g → (f : Parts) × (p ≡ Some f)
+told_there g p q same told = some_there p (sym same ∙ ap is_some told)
+
+pub others_later : (key : List ℕ) (p q r : Option Parts) → LeavesOthers key p q → LeavesOthers key q r → LeavesOthers key p r
+others_later key p q r first second = record {
+  tells = second.tells ∙ first.tells;
+  others = λ f known h told k other.
+      let mid = told_there h q r second.tells told in second.others mid.0 mid.1 h told k other ∙ first.others f known mid.0 mid.1 k other;
+}
+
+-- a key that isn't filled is none of those that are
+pub filled_left : (rows : Rows) (key : List ℕ) (p q : Option Parts) → is_filling rows key ≡ false → LeavesOthers key p q → LeavesFilled rows p q
+filled_left rows key p q free leaves = record {
+  tells = leaves.tells;
+  filled = λ f known g told k fills. by_test (bytes_eq key k)
+      (λ b. absurd (false≢true (sym free ∙ ap (is_filling rows) (bytes_eq-true key k b) ∙ fills)))
+      (λ b. leaves.others f known g told k b);
+}
+
+pub filled_brought : (rows : Rows) (key : List ℕ) (p p' q : Option Parts) → p' ≡ p → is_filling rows key ≡ false → LeavesOthers key p' q → LeavesFilled rows p q
+filled_brought rows key p p' q same free leaves = subst (λ (x : Option Parts). LeavesFilled rows x q) same (filled_left rows key p' q free leaves)
+
+pub filled_same : (rows : Rows) (p q : Option Parts) → q ≡ p → LeavesFilled rows p q
+filled_same rows p q same = record { tells = ap is_some same; filled = λ f known g told k fills. ap (λ (x : Parts). x k) (some_is g f (sym told ∙ same ∙ known)) }
+
+-- a session whose key's part stays goes on to be fed
+abbrev FedStays : Type 0
+FedStays = (s : Session) (was now : Parts) → ((key : List ℕ) → sessions.is_filling key (session_of s).doing ≡ true → now key ≡ was key) → IsFedOf was s → IsFedOf now s
+
+pub fed_left : FedStays → (p : PartsView) (known known' : Option Parts) → AreSound p → LeavesFilled p.table known known' → IsFed known p → IsFed known' p
+fed_left stays p known known' sound leaves fed = λ g told i x at.
+    let was = told_there g known known' leaves.tells told in
+    stays x was.0 g (λ key fills. leaves.filled was.0 was.1 g told key (sound.serving.fills i x at key fills)) (fed was.0 was.1 i x at)
+
+-- what the store tells stays
+pub told_same : (known known' : Option Contents) (parts parts' : Option Parts) → known' ≡ known → is_some parts' ≡ is_some parts → told_of known' parts' ≡ told_of known parts
+told_same known known' None None same tells = refl
+told_same known known' (Some f) (Some g) same tells = same
+told_same known known' None (Some g) same tells = absurd cc
+told_same known known' (Some f) None same tells = absurd cc
+
 -- ---- a node is kept
 
 pub on_err : {X E : Type 0} {P : Type 0} (r : Result X E) → P → OnErr r P
 on_err (Ok x) p = tt
 on_err (Err e) p = p
 
-pub kept_brought : {X : Type 0} (r : Result X NodeRefused) (was now : Past) (rows : Rows) (branch : Files) (known known' : Option Contents) (owed owed' : List Owed)
-    → OnOk r (SamePast was now) → IfErr r (λ e. FailsAtScripts e was now) → known' ≡ known → owed' ≡ owed
-    → IsKept was.setup was.history.items rows branch known owed → IsKept now.setup now.history.items rows branch known' owed'
-kept_brought (Ok x) was now rows branch known known' owed owed' same fails is owes kept = kept_past was now rows branch branch known known' owed owed' same refl is owes kept
-kept_brought (Err e) was now rows branch known known' owed owed' same fails is owes kept =
-    kept_failed Script e fails.call was now rows branch branch known known' owed owed' fails.scripts fails.fails refl is (owes ∙ sym (refused_stay e fails.call owed)) kept
+pub kept_brought : {X : Type 0} (r : Result X NodeRefused) (was now : Past) (parts : PartsView) (branch : Files) (told told' : Option Contents) (owed owed' : List Owed)
+    → OnOk r (SamePast was now) → IfErr r (λ e. FailsAtScripts e was now) → told' ≡ told → owed' ≡ owed
+    → Laws parts → IsKept was.setup was.history.items parts branch owed told → IsKept now.setup now.history.items parts branch owed' told'
+kept_brought (Ok x) was now parts branch told told' owed owed' same fails is owes laws kept = kept_past was now parts branch branch told told' owed owed' same refl is owes kept
+kept_brought (Err e) was now parts branch told told' owed owed' same fails is owes laws kept =
+    kept_failed Script e fails.call was now parts branch branch told told' owed owed' fails.scripts fails.fails refl is (owes ∙ sym (refused_stay e fails.call owed)) laws kept
 
-pub kept_gained : (r : Result (Unit {0}) NodeRefused) (was now : Past) (rows : Rows) (branch : Files) (known known' : Option Contents) (parts : Option Parts) (key : List ℕ) (size : ℕ) (owed owed' : List Owed)
+pub kept_gained : (r : Result (Unit {0}) NodeRefused) (was now : Past) (parts : PartsView) (branch : Files) (known known' : Option Contents) (stored stored' : Option Parts) (key : List ℕ) (size : ℕ) (owed owed' : List Owed)
     → OnOk r (AddsTo (Gain Script size key) [] was now) → IfErr r (λ e. FailsFor Script e Commit was now)
-    → OnOk r (known' ≡ contents_after_commit known parts key) → OnErr r (known' ≡ known) → ForSome parts (λ p. length (p key) ≡ size) → owed' ≡ owed
-    → IsKept was.setup was.history.items rows branch known owed → IsKept now.setup now.history.items rows branch known' owed'
-kept_gained (Ok x) was now rows branch known known' parts key size owed owed' adds fails is stays long owes kept =
-    kept_equal was.setup now.setup _ now.history.items rows branch branch known' owed' adds.setup adds.history refl
-    (kept_more (storeless rows branch was owed) branch known known' owed' (Gain Script size key) [] tt kept (λ p. refl) (gain_moves known known' parts key size long is) owes)
-kept_gained (Err e) was now rows branch known known' parts key size owed owed' adds fails is stays long owes kept =
-    kept_failed Script e Commit was now rows branch branch known known' owed owed' refl fails refl stays (owes ∙ sym (refused_stay e Commit owed)) kept
+    → OnOk r (known' ≡ contents_after_commit known stored key) → OnErr r (known' ≡ known)
+    → OnOk r (stored' ≡ option_map (λ (p : Parts). with_at p key []) stored) → OnErr r (stored' ≡ stored) → ForSome stored (λ p. length (p key) ≡ size) → owed' ≡ owed
+    → Laws parts → IsKept was.setup was.history.items parts branch owed (told_of known stored) → IsKept now.setup now.history.items parts branch owed' (told_of known' stored')
+kept_gained (Ok x) was now parts branch known known' stored stored' key size owed owed' adds fails is stays emptied left long owes laws kept =
+    kept_equal was.setup now.setup _ now.history.items parts branch branch (told_of known' stored') owed' adds.setup adds.history refl
+    (kept_more (storeless parts branch was owed) branch (told_of known stored) (told_of known' stored') owed' (Gain Script size key) [] laws tt kept (λ p. refl) (gain_moves known known' stored stored' key size long is emptied) owes)
+kept_gained (Err e) was now parts branch known known' stored stored' key size owed owed' adds fails is stays emptied left long owes laws kept =
+    kept_failed Script e Commit was now parts branch branch (told_of known stored) (told_of known' stored') owed owed' refl fails refl (told_same known known' stored stored' stays (ap is_some left)) (owes ∙ sym (refused_stay e Commit owed)) laws kept
 
 -- ---- what clauses see
 
-pub seen_same : {K X : Type 0} (r : Result X NodeRefused) (k k' : K) (t : Rows) (b : Files) (was now : Past) (owed owed' : List Owed) (n : NodeView K) → node_of k t b was owed ≡ n → OnOk r (SamePast was now) → owed' ≡ owed
+pub seen_same : {K X : Type 0} (r : Result X NodeRefused) (k k' : K) (t : PartsView) (b : Files) (was now : Past) (owed owed' : List Owed) (n : NodeView K) → node_of k t b was owed ≡ n → OnOk r (SamePast was now) → owed' ≡ owed
     → OnOk r (node_of k' t b now owed' ≡ over k' n)
 seen_same {K} (Ok x) k k' t b was now owed owed' n view same owes = node_same k k' t b b was now owed owed' refl same owes ∙ ap (λ (m : NodeView K). over k' m) view
 seen_same (Err e) k k' t b was now owed owed' n view same owes = tt
 
-pub seen_stops : {K X : Type 0} (r : Result X NodeRefused) (k k' : K) (t : Rows) (b : Files) (was now : Past) (owed owed' : List Owed) (n : NodeView K) → node_of k t b was owed ≡ n → IfErr r (λ e. FailsAtScripts e was now) → owed' ≡ owed
+pub seen_stops : {K X : Type 0} (r : Result X NodeRefused) (k k' : K) (t : PartsView) (b : Files) (was now : Past) (owed owed' : List Owed) (n : NodeView K) → node_of k t b was owed ≡ n → IfErr r (λ e. FailsAtScripts e was now) → owed' ≡ owed
     → IfErr r (λ e. StopsBefore e n (node_of k' t b now owed'))
 seen_stops (Ok x) k k' t b was now owed owed' n view fails owes = tt
 seen_stops {K} (Err e) k k' t b was now owed owed' n view fails owes = record {
@@ -138,7 +204,7 @@ seen_stops {K} (Err e) k k' t b was now owed owed' n view fails owes = record {
       (node_failed Script e fails.call k k' t b b was now owed owed' refl fails.fails (owes ∙ sym (refused_stay e fails.call owed)));
 }
 
-pub seen_gained : {K : Type 0} (r : Result (Unit {0}) NodeRefused) (k k' : K) (t : Rows) (b : Files) (was now : Past) (owed owed' : List Owed) (n : NodeView K) (key : List ℕ) (size : ℕ) → node_of k t b was owed ≡ n → OnOk r (AddsTo (Gain Script size key) [] was now) → owed' ≡ owed
+pub seen_gained : {K : Type 0} (r : Result (Unit {0}) NodeRefused) (k k' : K) (t : PartsView) (b : Files) (was now : Past) (owed owed' : List Owed) (n : NodeView K) (key : List ℕ) (size : ℕ) → node_of k t b was owed ≡ n → OnOk r (AddsTo (Gain Script size key) [] was now) → owed' ≡ owed
     → OnOk r (node_of k' t b now owed' ≡ with_gain n k' key size)
 seen_gained {K} (Ok x) k k' t b was now owed owed' n key size view adds owes = node_adds k k' t b b b was now owed owed' (Gain Script size key) [] refl adds owes ∙ ap (λ (m : NodeView K). with_gain m k' key size) view
 seen_gained (Err e) k k' t b was now owed owed' n key size view adds owes = tt
@@ -194,7 +260,7 @@ stops_behind {K} (Err e) key bytes known after last parts n b g m is gained refu
 )
 
 pub is_placed : {K : Type 0} (r : Result (Unit {0}) NodeRefused) (key bytes : List ℕ) (known after last : Option Contents) (parts : Option Parts) (taken : Bool) (number : ℕ) (n b g m : NodeView K)
-    → taken ≡ false → IsTaken taken known n.table key → number ≡ n.setup.number
+    → taken ≡ false → IsTaken taken known n.parts.table key → number ≡ n.setup.number
     → b ≡ over b.keeper n → g ≡ with_gain b g.keeper key (length bytes) → OnOk r (m ≡ with_status g m.keeper key number true) → after ≡ with_content known parts key bytes → last ≡ after
     → OnOk r (IsPlaced key bytes known parts last n m)
 is_placed {K} (Ok x) key bytes known after last parts taken number n b g m free told own is gained ok content same = record {

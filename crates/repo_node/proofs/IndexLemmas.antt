@@ -1,5 +1,5 @@
 -- The index of settings is that of the branch's lines, after a file was written too.
-use Rattle.std.proofs.Common.{◌≡◌, ◌≢◌, ◌↔◌, ◌⊎◌, inl, inr, ℕ, ◌+◌, ◌<◌, Bool, true, false, if◌then◌else◌, List, [], ◌∷◌, ◌++◌, take, length, get_or, Option, Some, None, Result, Ok, Err, OnOk, OnErr, refl, sym, ap, subst, ◌∙◌}
+use Rattle.std.proofs.Common.{◌≡◌, ◌↔◌, ◌⊎◌, inl, inr, ℕ, ◌+◌, ◌<◌, Bool, true, false, if◌then◌else◌, List, [], ◌∷◌, ◌++◌, take, length, get_or, Option, Some, None, Result, Ok, Err, OnOk, OnErr, refl, sym, ap, subst, ◌∙◌}
 use Rattle.std.specs.Prelude.{bytes_eq}
 use Rattle.std.specs.Option.{ForSome, unwrap_or}
 use Rattle.std.proofs.lemmas.List.{append-nil, append_assoc, take_more}
@@ -9,7 +9,7 @@ use Rattle.annex_base.proofs.Lists.{Member-append_cases, Member-append_left, Mem
 use Rattle.log_lines.specs.declared.entry.Entry.{Entry}
 use Rattle.log_lines.specs.declared.entry.LogKind.{LogKind}
 use Rattle.log_lines.specs.declared.entry.LogKind.TheVariants as kinds
-use Rattle.log_lines.specs.Index.{Index, index_of}
+use Rattle.log_lines.specs.Index.{Index}
 use Rattle.log_lines.specs.Keeping.{SameLines}
 use Rattle.log_lines.specs.Newest.{ReadAlike, current_lines, newest}
 use Rattle.log_lines.specs.Files.{kind_named}

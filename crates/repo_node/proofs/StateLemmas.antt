@@ -1,12 +1,12 @@
 -- What stands beside a history stays so with one more entry.
-use Rattle.std.proofs.Common.{◌≡◌, ℕ, Bool, true, false, ◌||◌, ◌&&◌, List, [], ◌∷◌, ◌++◌, ◌+◌, length, Option, Some, None, option_map, is_some, bytes_eq, refl, sym, ap, subst, ◌∙◌}
-use Rattle.std.proofs.lemmas.List.{reverse-append}
-use Rattle.std.specs.List.{list_any}
-use Rattle.std.specs.Option.{ForSome}
-use Rattle.annex_base.specs.declared.kinds.Call.{Call}
-use Rattle.annex_base.specs.declared.kinds.Call.TheVariants.{PutFile, Unhold}
-use Rattle.object_store.specs.Stores.{Contents}
-use Rattle.content_lock.specs.Rows.{Rows}
+use Rattle.std.proofs.Common.{◌≡◌, ℕ, Bool, true, List, [], ◌∷◌, ◌++◌, ◌+◌, ◌<◌, ◌≤◌, arith, length, map, Option, Some, None, option_map, is_some, refl, sym, ap, subst, ◌∙◌, All}
+use Rattle.std.specs.Prelude.{slice_get}
+use Rattle.std.specs.Option.{ForSome, unwrap_or}
+use Rattle.std.proofs.lemmas.List.{length-append, length-map, reverse-append}
+use Rattle.std.proofs.lemmas.List.Elements.{All-weaker}
+use Rattle.annex_base.specs.declared.kinds.Call.TheVariants.{PutFile}
+use Rattle.object_store.specs.Stores.{Contents, Parts}
+use Rattle.content_lock.specs.Rows.{Rows, bar_at, is_filling}
 use Rattle.content_lock.specs.Stored.{AreRecordsOf}
 use Rattle.object_store.specs.declared.keeper.HoldRecord.{HoldRecord}
 use Rattle.union_merge.specs.Branch.{Files, lines_at}
@@ -16,21 +16,25 @@ use Rattle.run_data.specs.declared.entry.EntryKind.{EntryKind}
 use Rattle.run_data.specs.declared.entry.EntryKind.TheVariants.{Gain, Log, Compact, Fault}
 use Rattle.run_data.specs.declared.entry.By.{By}
 use Rattle.run_data.specs.declared.entry.By.TheVariants.{Script, Job as by_job, Peer}
-use Rattle.node_model.specs.After.{state_after, states}
-use Rattle.node_model.specs.Ends.{End, server_end}
+use Rattle.run_data.specs.declared.run.RepoView.{RepoView}
+use Rattle.node_model.specs.After.{clock_after, first_state, state_after, states}
+use Rattle.node_model.specs.Clocks.{runs_on}
 use Rattle.node_model.specs.Files.{lines_after}
-use Rattle.node_model.specs.Jobs.{Work, works_after}
-use Rattle.node_model.specs.Owed.{Owed, owed_after}
+use Rattle.node_model.specs.Owed.{Owed}
 use Rattle.node_model.specs.Rows.{bar_after, content_after, holds_after, present_after}
-use Rattle.node_model.specs.SessionStep.{is_filled, session_fills}
-use Rattle.node_model.specs.Sessions.{is_filling as fills_key}
-use Rattle.node_model.specs.SetUp.{SetUp, served_connections}
+use Rattle.node_model.specs.SessionStep.{is_filled}
+use Rattle.node_model.specs.SetUp.{SetUp}
 use Rattle.node_model.specs.State.{State}
+use Rattle.node_jobs.specs.Places.{PlaceView}
+use Rattle.node_sessions.specs.Sessions.{IsSetUp}
+use Rattle.node_parts.specs.Direct.{IsDirect, MovesNothing, may_fail}
+use Rattle.node_parts.specs.Parts.{AreParts, PartsView}
+use Rattle.node_parts.specs.Sound.{AreSound}
 use Rattle.repo_node.specs.declared.setup.Setup.{Setup}
-use Rattle.repo_node.specs.Nodes.{Fits, IsState, NodeView, owed_now, state_of}
-use Rattle.repo_node.specs.Kept.{IsDirect, IsIdle, IsKept, IsOfFiles, may_fail}
+use Rattle.repo_node.specs.Nodes.{Fits, IsState, NodeView, Stands, owed_now, state_of, told_of}
+use Rattle.repo_node.specs.Kept.{IsKept, IsOfFiles}
 use Rattle.repo_node.specs.Owing.{AreDebts, owed_at}
-use Rattle.repo_node.proofs.OwedLemmas.{owed_is}
+use Rattle.repo_node.proofs.OwedLemmas.{id_is, owed_is}
 
 -- the state after one more entry
 pub state_more : (s : SetUp) (h : List Entry) (e : Entry) → state_of s (h ++ e ∷ []) ≡ state_after s (state_of s h) e
@@ -39,56 +43,38 @@ state_more s h e = ap (states s) (reverse-append h (e ∷ []))
 abbrev pub made : ℕ → ℕ → ℕ → EntryKind → List (List ℕ) → Entry
 made time count r kind lines = record { time = time; count = count; repo = Some r; kind = kind; taken = None; sent = []; lines = lines }
 
--- ---- an idle repository stays so
+-- ---- the laws of a node's parts
 
-abbrev works_then : (s : SetUp) → State → Entry → List Work → List Work
-works_then s st e ws = works_after (record { present = st.present; bar = st.bar; ends = st.ends }) s.number ws e e.kind
+-- what laws say of parts that are sound
+pub record Laws (p : PartsView) : Type 0 where
+  pub stay : (s : SetUp) (st : State) (e : Entry) → MovesNothing e → AreParts s st p → AreParts s (state_after s st e) p
+  pub fills : (s : SetUp) (st : State) (key : List ℕ) → AreParts s st p → is_filling p.table key ≡ is_filled s st key
+  pub holds : (was : List Hold) (kind : EntryKind) → IsDirect kind → holds_after was kind ≡ was
+  pub bars : (key : List ℕ) (was : Option ℕ) (kind : EntryKind) → IsDirect kind → bar_after key was kind ≡ was
 
-abbrev owed_then : (s : SetUp) → State → Entry → List Owed → List Owed
-owed_then s st e os = owed_after s.repos st.lines (st.wall e.time) st.works s.number os e e.kind
+pub laws_of : ((s : SetUp) (st : State) (e : Entry) (p : PartsView) → AreSound p → MovesNothing e → AreParts s st p → AreParts s (state_after s st e) p)
+    → ((s : SetUp) (st : State) (p : PartsView) (key : List ℕ) → AreSound p → AreParts s st p → is_filling p.table key ≡ is_filled s st key)
+    → ((was : List Hold) (kind : EntryKind) → IsDirect kind → holds_after was kind ≡ was)
+    → ((key : List ℕ) (was : Option ℕ) (kind : EntryKind) → IsDirect kind → bar_after key was kind ≡ was)
+    → (p : PartsView) → AreSound p → Laws p
+laws_of stay fills holds bars p sound = record { stay = λ s st e. stay s st e p sound; fills = λ s st key. fills s st p key sound; holds = holds; bars = bars }
 
-pub idle_after : (s : SetUp) (st : State) (time count r : ℕ) (kind : EntryKind) (lines : List (List ℕ)) (owed owed' : List Owed) → IsDirect kind → IsIdle st owed
-    → owed_then s st (made time count r kind lines) st.owed ≡ owed' → IsIdle (state_after s st (made time count r kind lines)) owed'
-idle_after s st time count r (Gain Script size key) lines owed owed' direct i owes = record { begun = i.begun; works = ap (works_then s st (made time count r (Gain Script size key) lines)) i.works; owed = owes; sessions = i.sessions; ends = i.ends }
-idle_after s st time count r (Log file) lines owed owed' direct i owes = record { begun = i.begun; works = ap (works_then s st (made time count r (Log file) lines)) i.works; owed = owes; sessions = i.sessions; ends = i.ends }
-idle_after s st time count r (Compact file) lines owed owed' direct i owes = record { begun = i.begun; works = ap (works_then s st (made time count r (Compact file) lines)) i.works; owed = owes; sessions = i.sessions; ends = i.ends }
-idle_after s st time count r (Fault call by) lines owed owed' direct i owes = record { begun = i.begun; works = ap (works_then s st (made time count r (Fault call by) lines)) i.works; owed = owes; sessions = i.sessions; ends = i.ends }
-idle_after s st time count r _ lines owed owed' direct i owes = absurd direct
+-- ---- clocks and numbers
 
--- ---- an idle repository fills no key
+clock_same : (was : ℕ → ℕ) (time : ℕ) (kind : EntryKind) → IsDirect kind → clock_after was time kind ≡ was
+clock_same was time (Gain Script size key) direct = refl
+clock_same was time (Log file) direct = refl
+clock_same was time (Compact file) direct = refl
+clock_same was time (Fault call by) direct = refl
+clock_same was time _ direct = absurd direct
 
-none_fills : (st : State) (key : List ℕ) (owed : List Owed) → IsIdle st owed → (cs : List (ℕ × ℕ)) → list_any (λ c. session_fills st key (server_end c.0 c.1)) cs ≡ false
-none_fills st key owed i [] = refl
-none_fills st key owed i (c ∷ cs) =
-    ap (λ b. b || list_any (λ d. session_fills st key (server_end d.0 d.1)) cs) (ap (λ (x : End). x.opened && fills_key key (st.sessions (server_end c.0 c.1)).doing) (i.ends (server_end c.0 c.1)))
-    ∙ none_fills st key owed i cs
+longer : (h : List Entry) (e : Entry) → length h + 1 ≤ length (h ++ e ∷ []) + 1
+longer h e = let more : length (h ++ e ∷ []) ≡ length h + 1 = length-append h (e ∷ []) in omega (arith, more)
 
-pub unfilled : (s : SetUp) (st : State) (key : List ℕ) (owed : List Owed) → IsIdle st owed → is_filled s st key ≡ false
-unfilled s st key owed i =
-    ap (λ b. b || list_any (λ w. w.fills && bytes_eq w.what.key key) st.works) (none_fills st key owed i (served_connections s))
-    ∙ ap (λ (ws : List Work). list_any (λ w. w.fills && bytes_eq w.what.key key) ws) i.works
+numbers_more : (h : List Entry) (e : Entry) (hs : List Hold) → All (λ x. x.number < length h + 1) hs → All (λ x. x.number < length (h ++ e ∷ []) + 1) hs
+numbers_more h e hs less = All-weaker (λ (x : Hold). x.number < length h + 1) (λ (x : Hold). x.number < length (h ++ e ∷ []) + 1) (λ x l. omega (arith, l, longer h e)) hs less
 
--- ---- rows
-
-holds_same : (was : List Hold) (kind : EntryKind) → IsDirect kind → holds_after was kind ≡ was
-holds_same was (Gain Script size key) direct = refl
-holds_same was (Log file) direct = refl
-holds_same was (Compact file) direct = refl
-holds_same was (Fault call by) direct = of_call call by direct
-  where
-    of_call : (c : Call) (b : By) → may_fail b c ≡ true → holds_after was (Fault c b) ≡ was
-    of_call Unhold Script fits = absurd cc
-    of_call Unhold (by_job job) fits = absurd cc
-    of_call Unhold (Peer peer slot) fits = absurd cc
-    of_call _ b fits = refl
-holds_same was _ direct = absurd direct
-
-bar_same : (key : List ℕ) (was : Option ℕ) (kind : EntryKind) → IsDirect kind → bar_after key was kind ≡ was
-bar_same key was (Gain Script size k) direct = refl
-bar_same key was (Log file) direct = refl
-bar_same key was (Compact file) direct = refl
-bar_same key was (Fault call by) direct = refl
-bar_same key was _ direct = absurd direct
+-- ---- contents
 
 pub direct : (kind : EntryKind) → IsOfFiles kind → IsDirect kind
 direct (Log file) h = tt
@@ -110,46 +96,66 @@ present_same key was _ h = absurd h
 
 -- ---- the state with one more entry
 
--- what the store has of contents is what an entry of this kind leaves
-pub record Moves (kind : EntryKind) (known known' : Option Contents) : Type 0 where
-  pub sizes : (content : List ℕ → Option ℕ) → ForSome known (λ c. (key : List ℕ) → option_map length (c key) ≡ content key) → ForSome known' (λ c. (key : List ℕ) → option_map length (c key) ≡ content_after key (content key) kind)
-  pub there : (present : List ℕ → Bool) → ForSome known (λ c. (key : List ℕ) → is_some (c key) ≡ present key) → ForSome known' (λ c. (key : List ℕ) → is_some (c key) ≡ present_after key (present key) kind)
+-- a store that tells these contents told others before, and an entry of this kind leaves these
+pub record MovesTo (kind : EntryKind) (told : Option Contents) (now : Contents) : Type 0 where
+  pub was : Contents
+  pub told_so : told ≡ Some was
+  pub content : (key : List ℕ) (had : Option ℕ) → option_map length (was key) ≡ had → option_map length (now key) ≡ content_after key had kind
+  pub present : (key : List ℕ) (had : Bool) → is_some (was key) ≡ had → is_some (now key) ≡ present_after key had kind
 
-pub files_move : (kind : EntryKind) (known known' : Option Contents) → IsOfFiles kind → known' ≡ known → Moves kind known known'
-files_move kind known known' of_files same = record {
-  sizes = λ content was c is key. was c (sym same ∙ is) key ∙ sym (content_same key (content key) kind of_files);
-  there = λ present was c is key. was c (sym same ∙ is) key ∙ sym (present_same key (present key) kind of_files);
+-- what the store tells of contents is what an entry of this kind leaves
+abbrev pub Moves : EntryKind → Option Contents → Option Contents → Type 0
+Moves kind told told' = ForSome told' (MovesTo kind told)
+
+pub files_move : (kind : EntryKind) (told told' : Option Contents) → IsOfFiles kind → told' ≡ told → Moves kind told told'
+files_move kind told told' of_files same = λ c is. record {
+  was = c;
+  told_so = sym same ∙ is;
+  content = λ key had h. h ∙ sym (content_same key had kind of_files);
+  present = λ key had h. h ∙ sym (present_same key had kind of_files);
 }
 
-state_kept : (s : SetUp) (st : State) (rows : Rows) (branch branch' : Files) (known known' : Option Contents) (time count r : ℕ) (kind : EntryKind) (lines : List (List ℕ)) (owed owed' : List Owed)
-    → IsDirect kind → IsIdle st owed → IsIdle (state_after s st (made time count r kind lines)) owed' → IsState s rows branch known st
-    → ((p : List ℕ) → lines_at branch' p ≡ lines_after p (lines_at branch p) kind lines)
-    → Moves kind known known'
-    → IsState s rows branch' known' (state_after s st (made time count r kind lines))
-state_kept s st rows branch branch' known known' time count r kind lines owed owed' d i then was here moves = record {
-  holds = was.holds ∙ sym (holds_same st.holds kind d);
-  bars = λ key. was.bars key ∙ sym (bar_same key (st.bar key) kind d);
-  fills = λ key. was.fills key ∙ unfilled s st key owed i ∙ sym (unfilled s (state_after s st (made time count r kind lines)) key owed' then);
-  lines = λ p. here p ∙ ap (λ (w : List (List ℕ)). lines_after p w kind lines) (was.lines p);
-  sizes = moves.sizes st.content was.sizes;
-  there = moves.there st.present was.there;
-}
+stands_more : {K : Type 0} (n : NodeView K) (s : SetUp) (told : Option Contents) (owed' : List Owed) (kind : EntryKind) (lines : List (List ℕ)) (now : Contents)
+    → Laws n.parts → IsDirect kind → Fits n.setup s → IsState s n.parts n.branch n.owed told (state_of s n.history) → owed' ≡ owed_now n kind lines
+    → (m : MovesTo kind told now) → Stands s n.parts n.owed m.was (state_of s n.history)
+    → Stands s n.parts owed' now (state_after s (state_of s n.history) (made n.time (n.count + 1) n.setup.number kind lines))
+stands_more n s told owed' kind lines now laws d fits is owes m stood =
+    let st : State = state_of s n.history in
+    let e : Entry = made n.time (n.count + 1) n.setup.number kind lines in
+    let are : AreParts s (state_after s st e) n.parts = laws.stay s st e (record { kind = d; takes = refl; sends = refl }) stood.parts_are in record {
+      parts_are = are;
+      fills = λ key. laws.fills s (state_after s st e) key are;
+      stored = record { present = λ key. m.present key (st.present key) (stood.stored.present key); content = λ key. m.content key (st.content key) (stood.stored.content key) };
+      owed_are = owed_is n s told kind lines d fits is stood.owed_are ∙ sym owes;
+    }
+
+state_kept : {K : Type 0} (n : NodeView K) (s : SetUp) (branch' : Files) (told told' : Option Contents) (owed' : List Owed) (kind : EntryKind) (lines : List (List ℕ))
+    → Laws n.parts → IsDirect kind → Fits n.setup s → IsState s n.parts n.branch n.owed told (state_of s n.history)
+    → ((p : List ℕ) → lines_at branch' p ≡ lines_after p (lines_at n.branch p) kind lines)
+    → Moves kind told told' → owed' ≡ owed_now n kind lines
+    → IsState s n.parts branch' owed' told' (state_after s (state_of s n.history) (made n.time (n.count + 1) n.setup.number kind lines))
+state_kept n s branch' told told' owed' kind lines laws d fits was here moves owes =
+    let st : State = state_of s n.history in record {
+      holds = was.holds ∙ sym (laws.holds st.holds kind d);
+      bars = λ key. was.bars key ∙ sym (laws.bars key (st.bar key) kind d);
+      lines = λ p. here p ∙ ap (λ (w : List (List ℕ)). lines_after p w kind lines) (was.lines p);
+      stands = λ c is. let m : MovesTo kind told c = moves c is in stands_more n s told owed' kind lines c laws d fits was owes m (was.stands m.was m.told_so);
+    }
 
 -- a node with one more entry is kept
-pub kept_more : {K : Type 0} (n : NodeView K) (branch' : Files) (known known' : Option Contents) (owed' : List Owed) (kind : EntryKind) (lines : List (List ℕ))
-    → IsDirect kind → IsKept n.setup n.history n.table n.branch known n.owed
+pub kept_more : {K : Type 0} (n : NodeView K) (branch' : Files) (told told' : Option Contents) (owed' : List Owed) (kind : EntryKind) (lines : List (List ℕ))
+    → Laws n.parts → IsDirect kind → IsKept n.setup n.history n.parts n.branch n.owed told
     → ((p : List ℕ) → lines_at branch' p ≡ lines_after p (lines_at n.branch p) kind lines)
-    → Moves kind known known' → owed' ≡ owed_now n kind lines
-    → IsKept n.setup (n.history ++ made n.time (n.count + 1) n.setup.number kind lines ∷ []) n.table branch' known' owed'
-kept_more n branch' known known' owed' kind lines d kept here moves owes = record {
-  state = λ s fits. subst (IsState s n.table branch' known') (sym (state_more s n.history (made n.time (n.count + 1) n.setup.number kind lines)))
-      (state_kept s (state_of s n.history) n.table n.branch branch' known known' n.time (n.count + 1) n.setup.number kind lines n.owed owed' d (kept.idle s fits) (next s fits) (kept.state s fits) here moves);
-  idle = λ s fits. subst (λ (st : State). IsIdle st owed') (sym (state_more s n.history (made n.time (n.count + 1) n.setup.number kind lines))) (next s fits);
-}
-  where
-    next : (s : SetUp) → Fits n.setup s → IsIdle (state_after s (state_of s n.history) (made n.time (n.count + 1) n.setup.number kind lines)) owed'
-    next s fits = idle_after s (state_of s n.history) n.time (n.count + 1) n.setup.number kind lines n.owed owed' d (kept.idle s fits)
-        (owed_is n s known kind lines d fits (kept.state s fits) (kept.idle s fits).owed ∙ sym owes)
+    → Moves kind told told' → owed' ≡ owed_now n kind lines
+    → IsKept n.setup (n.history ++ made n.time (n.count + 1) n.setup.number kind lines ∷ []) n.parts branch' owed' told'
+kept_more n branch' told told' owed' kind lines laws d kept here moves owes =
+    let e : Entry = made n.time (n.count + 1) n.setup.number kind lines in record {
+      state = λ s fits. subst (IsState s n.parts branch' owed' told') (sym (state_more s n.history e)) (state_kept n s branch' told told' owed' kind lines laws d fits (kept.state s fits) here moves owes);
+      clock = λ s fits. ap (λ (st : State). st.clock) (state_more s n.history e) ∙ clock_same (state_of s n.history).clock n.time kind d ∙ kept.clock s fits;
+      numbered = numbers_more n.history e n.parts.table.holds kept.numbered;
+      place = kept.place;
+      begun = omega (arith, kept.begun, longer n.history e);
+    }
 
 -- the call that writes a file may fail for whomever it is made
 pub put_may_fail : (by : By) → may_fail by PutFile ≡ true
@@ -157,34 +163,64 @@ put_may_fail Script = refl
 put_may_fail (by_job job) = refl
 put_may_fail (Peer peer slot) = refl
 
--- what is kept of one store is kept of one with the same contents
-pub kept_same : (setup : Setup) (h : List Entry) (rows : Rows) (branch : Files) (known known' : Option Contents) (owed : List Owed) → known' ≡ known → IsKept setup h rows branch known owed → IsKept setup h rows branch known' owed
-kept_same setup h rows branch known known' owed same kept = subst (λ (k : Option Contents). IsKept setup h rows branch k owed) (sym same) kept
+-- ---- before the first entry
 
--- before the first entry
-first_idle : (s : SetUp) → IsIdle (state_of s []) []
-first_idle s = record { begun = refl; works = refl; owed = refl; sessions = λ a. refl; ends = λ a. refl }
+pub told_some : (contents : Option Contents) (parts : Option Parts) (c : Contents) → told_of contents parts ≡ Some c → contents ≡ Some c
+told_some contents None c told = absurd cc
+told_some contents (Some p) c told = told
 
-pub kept_first : (setup : Setup) (known : Option Contents) → ForSome known (λ c. (key : List ℕ) → c key ≡ None) → IsKept setup [] (record { holds = []; bars = []; fills = [] }) [] known []
-kept_first setup known empty = record {
-  state = λ s fits. record {
-    holds = refl;
-    bars = λ key. refl;
-    fills = λ key. sym (unfilled s (state_of s []) key [] (first_idle s));
-    lines = λ path. refl;
-    sizes = λ c is key. ap (option_map length) (empty c is key);
-    there = λ c is key. ap is_some (empty c is key);
-  };
-  idle = λ s fits. first_idle s;
+-- the parts before the first entry are those of a set-up that fits
+abbrev pub FitSo : Setup → List (List ℕ) → PartsView → Type 0
+FitSo setup ids p = (s : SetUp) → IsSetUp s setup.id setup.version setup.locks setup.number (length ids) → map (λ (repo : RepoView). repo.id) s.repos ≡ ids → AreParts s (first_state s) p
+
+set_up : (setup : Setup) (s : SetUp) → slice_get setup.repos setup.number ≡ Some setup.id → Fits setup s → IsSetUp s setup.id setup.version setup.locks setup.number (length setup.repos)
+set_up setup s own fits = record {
+  number_is = fits.number;
+  count_is = sym (length-map s.repos (λ (repo : RepoView). repo.id)) ∙ ap (λ (ids : List (List ℕ)). length ids) fits.ids;
+  id_is = id_is s.repos s.number ∙ ap (λ (ids : List (List ℕ)). unwrap_or (slice_get ids s.number) []) fits.ids ∙ ap (λ (r : ℕ). unwrap_or (slice_get setup.repos r) []) fits.number ∙ ap (λ (o : Option (List ℕ)). unwrap_or o []) own;
+  version_is = fits.version;
+  locks_are = fits.locks;
 }
 
-pub kept_new : (setup : Setup) (history : List Entry) (rows : Rows) (branch : Files) (known : Option Contents) (debts : List ℕ)
-    → history ≡ [] → rows ≡ record { holds = []; bars = []; fills = [] } → branch ≡ [] → debts ≡ [] → ForSome known (λ c. (key : List ℕ) → c key ≡ None) → IsKept setup history rows branch known (owed_at setup.number history debts)
-kept_new setup history rows branch known debts first empty none free content =
-    subst (λ (ds : List ℕ). IsKept setup history rows branch known (owed_at setup.number history ds)) (sym free)
-    (subst (λ (h : List Entry). IsKept setup h rows branch known []) (sym first)
-    (subst (λ (x : Rows). IsKept setup [] x branch known []) (sym empty)
-    (subst (λ (x : Files). IsKept setup [] (record { holds = []; bars = []; fills = [] }) x known []) (sym none) (kept_first setup known content))))
+-- no hold, no bar and no fill
+abbrev pub no_rows : Rows
+no_rows = record { holds = []; bars = []; fills = [] }
+
+first_numbered : (rows : Rows) → rows ≡ no_rows → All (λ h. h.number < 1) rows.holds
+first_numbered rows none = subst (λ (r : Rows). All (λ h. h.number < 1) r.holds) (sym none) (λ k d less. absurd (omega (arith, less)))
+
+pub kept_first : (setup : Setup) (p : PartsView) (told : Option Contents) → Laws p → p.table ≡ no_rows → p.jobs.place ≡ record { number = setup.number; ids = setup.repos } → p.jobs.begun ≡ 0
+    → slice_get setup.repos setup.number ≡ Some setup.id → FitSo setup setup.repos p → ForSome told (λ c. (key : List ℕ) → c key ≡ None) → IsKept setup [] p [] [] told
+kept_first setup p told laws none place begun own fit empty = record {
+  state = λ s fits. record {
+    holds = ap (λ (r : Rows). r.holds) none;
+    bars = λ key. ap (λ (r : Rows). bar_at r key) none;
+    lines = λ path. refl;
+    stands = λ c is. let are : AreParts s (first_state s) p = fit s (set_up setup s own fits) fits.ids in record {
+      parts_are = are;
+      fills = λ key. laws.fills s (first_state s) key are;
+      stored = record { present = λ key. ap is_some (empty c is key); content = λ key. ap (option_map length) (empty c is key) };
+      owed_are = refl;
+    };
+  };
+  clock = λ s fits. ap (λ (offset : ℕ). runs_on (record { at = 0; to = offset })) fits.offset;
+  numbered = first_numbered p.table none;
+  place = place;
+  begun = omega (arith, begun);
+}
+
+pub kept_new : (setup was : Setup) (ids : List (List ℕ)) (history : List Entry) (p : PartsView) (branch : Files) (told : Option Contents) (debts : List ℕ) → Laws p → p.table ≡ no_rows → p.jobs.place ≡ record { number = was.number; ids = ids } → p.jobs.begun ≡ 0
+    → slice_get was.repos was.number ≡ Some was.id → FitSo was ids p → ids ≡ was.repos → setup ≡ was
+    → history ≡ [] → branch ≡ [] → debts ≡ [] → ForSome told (λ c. (key : List ℕ) → c key ≡ None) → IsKept setup history p branch (owed_at setup.number history debts) told
+kept_new setup was ids history p branch told debts laws none place begun own fit same is first bare free empty =
+    subst (λ (x : Setup). IsKept x history p branch (owed_at x.number history debts) told) (sym is)
+    (subst (λ (ds : List ℕ). IsKept was history p branch (owed_at was.number history ds) told) (sym free)
+    (subst (λ (h : List Entry). IsKept was h p branch [] told) (sym first)
+    (subst (λ (b : Files). IsKept was [] p b [] told) (sym bare)
+    (kept_first was p told laws none (place ∙ ap (λ (xs : List (List ℕ)). seat was.number xs) same) begun own (subst (λ (xs : List (List ℕ)). FitSo was xs p) same fit) empty))))
+  where
+    seat : ℕ → List (List ℕ) → PlaceView
+    seat number ids = record { number = number; ids = ids }
 
 pub no_debts : (r : ℕ) (history : List Entry) (debts : List ℕ) → debts ≡ [] → AreDebts r history debts
 no_debts r history debts free = subst (AreDebts r history) (sym free) tt

@@ -25,7 +25,8 @@ abbrev pub IsFed : Option Parts → PartsView → Type 0
 IsFed stored parts = ForSome stored (λ q. FedAll q parts.sessions)
 
 -- Its rows, its branch and, where its store tells, all that it has are those of the state that its history leaves. Its clock was
--- never set, each hold has the number of one of its entries, and its jobs know where it stands among the repositories.
+-- never set, each hold has the number of one of its entries, its jobs know where it stands among the repositories, and each that
+-- was begun has its entry.
 pub record IsKept (setup : Setup) (history : List Entry) (parts : PartsView) (branch : Files) (owed : List Owed) (told : Option Contents) : Type 0 where
   pub state : (s : SetUp) → Fits setup s → IsState s parts branch owed told (state_of s history)
   pub clock : (s : SetUp) → Fits setup s → (state_of s history).clock ≡ runs_on (record { at = 0; to = setup.offset })

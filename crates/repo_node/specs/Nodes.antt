@@ -1,6 +1,6 @@
 -- What a node is: a repository of a run that knows its own state and nothing else (own).
-use Rattle.std.specs.Prelude.{◌≡◌, ℕ, ◌+◌, Bool, true, false, ◌&&◌, List, [], ◌∷◌, ◌++◌, length, map, reverse, slice_get, bytes_eq, Option, Some, None, is_some}
-use Rattle.std.specs.Option.{ForSome, option_map, unwrap_or}
+use Rattle.std.specs.Prelude.{◌≡◌, ℕ, ◌+◌, Bool, false, ◌&&◌, List, [], ◌∷◌, ◌++◌, map, reverse, slice_get, bytes_eq, Option, Some, None}
+use Rattle.std.specs.Option.{ForSome, unwrap_or}
 use Rattle.object_store.specs.Stores.{Contents, Files as StoredFiles, Parts, bytes_of}
 use Rattle.content_lock.specs.Rows.{bar_at, is_filling}
 use Rattle.node_parts.specs.Parts.{AreParts, HasContents, PartsView}

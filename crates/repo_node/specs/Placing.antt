@@ -24,6 +24,16 @@ pub record HasPart (key bytes : List ℕ) (known known' : Option Parts) : Type 0
   pub bytes_are : ForSome known' (λ now. now key ≡ bytes)
   pub others : ForSome known (λ was. ForSome known' (λ now. (k : List ℕ) → bytes_eq key k ≡ false → now k ≡ was k))
 
+-- the parts of other keys are as they were, as far as the store tells
+pub record LeavesOthers (key : List ℕ) (known known' : Option Parts) : Type 0 where
+  pub tells : is_some known' ≡ is_some known
+  pub others : ForSome known (λ was. ForSome known' (λ now. (k : List ℕ) → bytes_eq key k ≡ false → now k ≡ was k))
+
+-- the parts of the keys that are being filled are as they were, as far as the store tells
+pub record LeavesFilled (rows : Rows) (known known' : Option Parts) : Type 0 where
+  pub tells : is_some known' ≡ is_some known
+  pub filled : ForSome known (λ was. ForSome known' (λ now. (k : List ℕ) → is_filling rows k ≡ true → now k ≡ was k))
+
 -- the contents with these bytes as the key's, where the store tells contents and parts
 abbrev pub with_content : Option Contents → Option Parts → List ℕ → List ℕ → Option Contents
 with_content (Some contents) (Some parts) key bytes = Some (with_at contents key (Some bytes))

@@ -18,7 +18,7 @@ use crate::setup::{Ended, Setup};
 use annex_base::{Call, Items, NoMemory, RepoId};
 use content_lock::LockTable;
 use link_ring::Links;
-use node_parts::Parts;
+use node_parts::{Parts, direct_entries_leave_rows, parts_stay, tables_fill_as_states};
 use object_store::{FailingKeeper, Keeper};
 use run_data::Entry;
 use std::alloc::Global;
@@ -91,6 +91,11 @@ impl<K: Keeper> Node<K> {
             setup.locks,
             links,
         )?;
+        // For the proof: a law, and that what the parts have of the table is sound.
+        parts_stay();
+        tables_fill_as_states();
+        direct_entries_leave_rows();
+        let _ = parts.table();
         Ok(Node {
             keeper,
             branch: Branch::new(alloc),

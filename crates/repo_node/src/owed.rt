@@ -1,6 +1,7 @@
 //! The lines that a node owes its branch: whether it has a content.
 ghost use Rattle.std.specs.Prelude.{◌≡◌, ◌≤◌, ◌<◌, ◌+◌, ℕ, true, List, [], ◌∷◌, length, bytes_eq, IfOk, IfErr, IsErrOf, OnOk, option_map, option_to_list, slice_get};
 ghost use Rattle.std.specs.List.{list_any};
+ghost use Rattle.std.specs.Option.{ForSome};
 ghost use Rattle.annex_base.specs.Causes.{Rose};
 ghost use Rattle.annex_base.specs.declared.kinds.Call.TheVariants as calls;
 ghost use Rattle.node_model.specs.Look.{Look, failing};
@@ -14,7 +15,7 @@ ghost use Rattle.run_data.specs.Files.{file_path};
 ghost use Rattle.run_data.specs.declared.entry.Entry.{Entry};
 ghost use Rattle.run_data.specs.declared.entry.LogFile.{LogFile};
 ghost use Rattle.repo_node.specs.Debts.{AddsStep, IsDraftOf, IsFirstDraft, WhereMade, failed_put, owed_line_of, with_status};
-ghost use Rattle.repo_node.specs.Nodes.{Fits, are_due, due_by, id_known, is_due, state_of};
+ghost use Rattle.repo_node.specs.Nodes.{Fits, are_due, due_by, id_known, is_due, state_of, told_of};
 ghost use Rattle.repo_node.specs.Owing.{AreDebts, IsFirstOf, is_owing, owed_at, owed_by, owed_of};
 ghost use Rattle.repo_node.specs.Refusals.{RefusesFor};
 
@@ -277,13 +278,13 @@ impl<K: Keeper> Node<K> {
         self.log(draft.file, draft.path.bytes(), &draft.new, by)
     }
 
-    /// Pays the first line that it owes, by the entry of that step.
+    /// Pays the first line that it owes, by the entry of that step. Over a store that tells, it is the step of the state.
     pub(crate) fn pay(&mut self) -> Result<(), NodeRefused>
         requires { is_owing self.old.owed ≡ true }
         ensures ok { (o : Owed) (os : List Owed) → self.old.owed ≡ o ∷ os → OnOk result (self.new ≡ with_status self.old self.new.keeper o.key o.repo o.there) }
         ensures paid { (o : Owed) (os : List Owed) → self.old.owed ≡ o ∷ os → OnOk result (self.new.owed ≡ os) }
         ensures err { (o : Owed) (os : List Owed) → self.old.owed ≡ o ∷ os → IfErr result (λ e. RefusesFor o.by e calls.PutFile self.old self.new) }
-        ensures pays { (s : SetUp) (k : Look) → Fits self.old.setup s → k.time ≡ self.old.time → k.count ≡ self.old.count + 1 → failing k.fails (calls.PutFile ∷ []) ≡ failed_put result → WhereMade result (AddsStep (owed_step s (state_of s self.old.history) k) self.old.setup.number k self.old.history self.new.history) }
+        ensures pays { ForSome (told_of (K.contents self.old.keeper) (K.parts self.old.keeper)) (λ c. (s : SetUp) (k : Look) → Fits self.old.setup s → k.time ≡ self.old.time → k.count ≡ self.old.count + 1 → failing k.fails (calls.PutFile ∷ []) ≡ failed_put result → WhereMade result (AddsStep (owed_step s (state_of s self.old.history) k) self.old.setup.number k self.old.history self.new.history)) }
         ensures contents { K.contents self.new.keeper ≡ K.contents self.old.keeper }
         ensures parts { K.parts self.new.keeper ≡ K.parts self.old.keeper }
         ensures later { K.faults self.old.keeper ≤ K.faults self.new.keeper }

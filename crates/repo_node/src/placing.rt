@@ -4,11 +4,12 @@ ghost use Rattle.std.specs.Option.{ForSome};
 ghost use Rattle.annex_base.specs.Causes.{Rose};
 ghost use Rattle.annex_base.specs.declared.kinds.Call.TheVariants as calls;
 ghost use Rattle.key_verify.specs.Matching.{MatchesKey};
+ghost use Rattle.content_lock.specs.Rows.{is_filling};
 ghost use Rattle.object_store.specs.Stores.{contents_after_commit, with_at};
 ghost use Rattle.run_data.specs.declared.entry.By.TheVariants as bys;
 ghost use Rattle.run_data.specs.declared.entry.EntryKind.TheVariants as kinds;
 ghost use Rattle.repo_node.specs.Pasts.{AddsTo, FailsAtScripts, FailsFor, IsReady, SamePast};
-ghost use Rattle.repo_node.specs.Placing.{HasPart, IsPlaced, IsTaken, PartAfter, StopsBefore, StopsPlacing, with_gain};
+ghost use Rattle.repo_node.specs.Placing.{HasPart, IsPlaced, IsTaken, LeavesFilled, LeavesOthers, PartAfter, StopsBefore, StopsPlacing, with_gain};
 ghost use Rattle.repo_node.specs.Refusals.{RefusesSo};
 ghost use Rattle.repo_node.specs.Walks.{over};
 
@@ -18,7 +19,9 @@ use crate::refused::NodeRefused;
 use annex_base::{Call, Items};
 use annex_key::Key;
 use content_lock::LockTable;
+use node_parts::{direct_entries_leave_rows, parts_stay, tables_fill_as_states};
 use object_store::{Keeper, KeeperFault};
+use p2p_server::others_leave_it;
 use run_data::{By, EntryKind};
 
 /// Whether the content is there or being filled.
@@ -30,6 +33,7 @@ fn is_taken<K: Keeper>(
 ) -> Result<bool, NodeRefused>
     requires { IsReady past.old }
     ensures value { IfOk result (λ taken. IsTaken taken (K.contents keeper.old) table.now key.now) }
+    ensures free { IfOk result (λ taken. taken ≡ false → is_filling table.now key.now ≡ false) }
     ensures same { OnOk result (SamePast past.old past.new) }
     ensures ready { OnOk result (IsReady past.new) }
     ensures err { IfErr result (λ e. FailsAtScripts e past.old past.new) }
@@ -50,6 +54,7 @@ fn is_taken<K: Keeper>(
 fn drop_part<K: Keeper>(keeper: &mut K, past: &mut Past, key: &Key) -> Result<(), NodeRefused>
     requires { IsReady past.old }
     ensures part { OnOk result (K.parts keeper.new ≡ option_map (λ p. with_at p key.now []) (K.parts keeper.old)) }
+    ensures others { LeavesOthers key.now (K.parts keeper.old) (K.parts keeper.new) }
     ensures same { OnOk result (SamePast past.old past.new) }
     ensures ready { OnOk result (IsReady past.new) }
     ensures err { IfErr result (λ e. FailsAtScripts e past.old past.new) }
@@ -74,6 +79,7 @@ fn append_part<K: Keeper>(
 ) -> Result<(), NodeRefused>
     requires { IsReady past.old }
     ensures part { OnOk result (K.parts keeper.new ≡ option_map (λ p. with_at p key.now (p key.now ++ bytes.now)) (K.parts keeper.old)) }
+    ensures others { LeavesOthers key.now (K.parts keeper.old) (K.parts keeper.new) }
     ensures same { OnOk result (SamePast past.old past.new) }
     ensures err { IfErr result (λ e. FailsAtScripts e past.old past.new) }
     ensures contents { K.contents keeper.new ≡ K.contents keeper.old }
@@ -107,6 +113,7 @@ fn replace_part<K: Keeper>(
 ) -> Result<(), NodeRefused>
     requires { IsReady past.old }
     ensures part { OnOk result (HasPart key.now bytes.now (K.parts keeper.old) (K.parts keeper.new)) }
+    ensures others { LeavesOthers key.now (K.parts keeper.old) (K.parts keeper.new) }
     ensures same { OnOk result (SamePast past.old past.new) }
     ensures err { IfErr result (λ e. FailsAtScripts e past.old past.new) }
     ensures contents { K.contents keeper.new ≡ K.contents keeper.old }
@@ -129,8 +136,10 @@ fn bring_ready<K: Keeper>(
 ) -> Result<bool, NodeRefused>
     requires { IsReady past.old }
     ensures taken { IfOk result (λ taken. IsTaken taken (K.contents keeper.old) table.now key.now) }
+    ensures free { IfOk result (λ taken. taken ≡ false → is_filling table.now key.now ≡ false) }
     ensures part { IfOk result (λ taken. taken ≡ false → HasPart key.now bytes.now (K.parts keeper.old) (K.parts keeper.new)) }
     ensures left { IfOk result (λ taken. taken ≡ true → K.parts keeper.new ≡ K.parts keeper.old) }
+    ensures filled { LeavesFilled table.now (K.parts keeper.old) (K.parts keeper.new) }
     ensures same { OnOk result (SamePast past.old past.new) }
     ensures err { IfErr result (λ e. FailsAtScripts e past.old past.new) }
     ensures contents { K.contents keeper.new ≡ K.contents keeper.old }
@@ -159,8 +168,10 @@ fn bring<K: Keeper>(
     bytes: &[u8],
 ) -> Result<bool, NodeRefused>
     ensures taken { IfOk result (λ taken. IsTaken taken (K.contents keeper.old) table.now key.now) }
+    ensures free { IfOk result (λ taken. taken ≡ false → is_filling table.now key.now ≡ false) }
     ensures part { IfOk result (λ taken. taken ≡ false → HasPart key.now bytes.now (K.parts keeper.old) (K.parts keeper.new)) }
     ensures left { IfOk result (λ taken. taken ≡ true → K.parts keeper.new ≡ K.parts keeper.old) }
+    ensures filled { LeavesFilled table.now (K.parts keeper.old) (K.parts keeper.new) }
     ensures same { OnOk result (SamePast past.old past.new) }
     ensures err { IfErr result (λ e. FailsAtScripts e past.old past.new) }
     ensures contents { K.contents keeper.new ≡ K.contents keeper.old }
@@ -185,6 +196,7 @@ fn commit<K: Keeper>(
     ensures part { OnOk result (K.parts keeper.new ≡ option_map (λ p. with_at p key.now []) (K.parts keeper.old)) }
     ensures err { IfErr result (λ e. FailsFor bys.Script e calls.Commit past.old past.new) }
     ensures err_contents { OnErr result (K.contents keeper.new ≡ K.contents keeper.old) }
+    ensures err_parts { OnErr result (K.parts keeper.new ≡ K.parts keeper.old) }
     ensures records { K.records keeper.new ≡ K.records keeper.old }
     ensures files { K.files keeper.new ≡ K.files keeper.old }
     ensures later { K.faults keeper.old ≤ K.faults keeper.new }
@@ -214,6 +226,7 @@ impl<K: Keeper> Node<K> {
     fn bring(&mut self, key: &Key, bytes: &[u8]) -> Result<bool, NodeRefused>
         ensures ok { OnOk result (self.new ≡ over self.new.keeper self.old) }
         ensures taken { IfOk result (λ taken. IsTaken taken (K.contents self.old.keeper) self.old.parts.table key.now) }
+        ensures free { IfOk result (λ taken. taken ≡ false → is_filling self.old.parts.table key.now ≡ false) }
         ensures part { IfOk result (λ taken. taken ≡ false → HasPart key.now bytes.now (K.parts self.old.keeper) (K.parts self.new.keeper)) }
         ensures left { IfOk result (λ taken. taken ≡ true → K.parts self.new.keeper ≡ K.parts self.old.keeper) }
         ensures err { IfErr result (λ e. StopsBefore e self.old self.new) }
@@ -221,12 +234,24 @@ impl<K: Keeper> Node<K> {
         ensures later { K.faults self.old.keeper ≤ K.faults self.new.keeper }
         ensures cause { IsErrOf result NodeRefused.StoreFault → Rose (K.faults self.old.keeper) (K.faults self.new.keeper) }
     {
-        bring(&mut self.keeper, self.parts.table(), &mut self.past, key, bytes)
+        // Laws, for the proof.
+        parts_stay();
+        tables_fill_as_states();
+        direct_entries_leave_rows();
+        others_leave_it();
+        bring(
+            &mut self.keeper,
+            self.parts.table(),
+            &mut self.past,
+            key,
+            bytes,
+        )
     }
 
     /// Makes the key's part its content, by one entry.
     fn gain(&mut self, key: &Key, size: u64) -> Result<(), NodeRefused>
         requires part { ForSome (K.parts self.old.keeper) (λ p. length (p key.now) ≡ size) }
+        requires free { is_filling self.old.parts.table key.now ≡ false }
         ensures ok { OnOk result (self.new ≡ with_gain self.old self.new.keeper key.now size) }
         ensures content { OnOk result (K.contents self.new.keeper ≡ contents_after_commit (K.contents self.old.keeper) (K.parts self.old.keeper) key.now) }
         ensures err { IfErr result (λ e. RefusesSo e calls.Commit self.old self.new) }
@@ -234,6 +259,13 @@ impl<K: Keeper> Node<K> {
         ensures later { K.faults self.old.keeper ≤ K.faults self.new.keeper }
         ensures cause { IsErrOf result NodeRefused.StoreFault → Rose (K.faults self.old.keeper) (K.faults self.new.keeper) }
     {
+        // Laws, for the proof.
+        parts_stay();
+        tables_fill_as_states();
+        direct_entries_leave_rows();
+        others_leave_it();
+        // For the proof: what its parts have of the table is sound.
+        let _ = self.parts.table();
         commit(&mut self.keeper, &mut self.past, key, size)
     }
 

@@ -24,6 +24,7 @@ use crate::node::Node;
 use crate::past::Past;
 use crate::refused::NodeRefused;
 use annex_base::{Call, Items, Line, NoMemory};
+use node_parts::{direct_entries_leave_rows, parts_stay, tables_fill_as_states};
 use object_store::Keeper;
 use run_data::{By, EntryKind};
 use trust_groups::Settings;
@@ -265,8 +266,13 @@ impl<K: Keeper> Node<K> {
         ensures later { K.faults self.old.keeper ≤ K.faults self.new.keeper }
         ensures cause { IsErrOf result NodeRefused.StoreFault → Rose (K.faults self.old.keeper) (K.faults self.new.keeper) }
     {
-        // A law, for the proof: only the file of this path changes.
+        // Laws, for the proof. The first: only the file of this path changes.
         files_are_changed_alone();
+        parts_stay();
+        tables_fill_as_states();
+        direct_entries_leave_rows();
+        // For the proof: what its parts have of the table is sound.
+        let _ = self.parts.table();
         write_beside(
             &mut self.keeper,
             &mut self.branch,

@@ -1,5 +1,5 @@
 -- What the proof of `node::Node::pay` needs beside the tactics.
-use Rattle.std.proofs.Common.{List, ℕ, ◌∙◌}
+use Rattle.repo_node.specs.Nodes.{told_of}
 use Rattle.repo_node.proofs.DebtLemmas.{err_paid, ok_paid, pays_due, rest_paid, step_paid}
 use Rattle.repo_node.proofs.node.Node.pay.Goals as goal
 
@@ -22,6 +22,8 @@ returns-clause-err g c o os is =
     err_paid c.log_paid.result c.args.self.now c.log_paid.new.self c.in_ok-draft.draft o os c.in_ok-draft.ensures is c.log_paid.ensures.err
 
 pub returns-clause-pays : goal.returns-clause-pays
-returns-clause-pays g c s k fits time count fails =
-    step_paid c.log_paid.result c.args.self.now c.log_paid.new.self c.in_ok-draft.draft s k (g.K.Keeper.contents c.args.self.now.keeper) c.in_ok-draft.ensures
-    (c.history.ensures.owed s fits) fits (c.history.ensures.state s fits) time count fails c.log_paid.ensures.ok c.log_paid.ensures.err
+returns-clause-pays g c x told s k fits time count fails =
+    let n = c.args.self.now in
+    let is = c.history.ensures.state s fits in
+    step_paid c.log_paid.result n c.log_paid.new.self c.in_ok-draft.draft s k (told_of (g.K.Keeper.contents n.keeper) (g.K.Keeper.parts n.keeper)) c.in_ok-draft.ensures
+    (is.stands x told).owed_are fits is time count fails c.log_paid.ensures.ok c.log_paid.ensures.err

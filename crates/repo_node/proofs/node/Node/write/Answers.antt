@@ -1,13 +1,16 @@
 -- What the proof of `node::Node::write` needs beside the tactics.
-use Rattle.std.proofs.Common.{◌≡◌, ℕ, List, sym, ap, subst, ◌∙◌}
+use Rattle.std.proofs.Common.{◌≡◌, ℕ, List, is_some, sym, ap, subst, ◌∙◌}
 use Rattle.annex_base.specs.declared.kinds.Call.TheVariants.{PutFile}
 use Rattle.node_model.specs.Files.{lines_after}
 use Rattle.union_merge.specs.Branch.{Files, lines_at, with_file}
 use Rattle.trust_groups.specs.Adding.{lines_and}
 use Rattle.repo_node.specs.Indexed.{ReadsAlike}
 use Rattle.repo_node.specs.Kept.{first_goes}
+use Rattle.repo_node.specs.Nodes.{told_of}
+use Rattle.repo_node.proofs.GainLemmas.{told_same}
 use Rattle.repo_node.proofs.IndexLemmas.{indexed_written}
 use Rattle.repo_node.proofs.OwedLemmas.{debts_left, owed_in, owed_unwritten, owed_written, write_grows}
+use Rattle.repo_node.proofs.StateLemmas.{laws_of}
 use Rattle.repo_node.proofs.WriteLemmas.{seen_owed, seen_written, seen_refused, kept_written, files_written}
 use Rattle.repo_node.proofs.node.Node.write.Goals as goal
 
@@ -18,9 +21,9 @@ returns-clause-ok g c =
     let owed = owed_in i.past i.debts.items in
     let owed' = owed_in w.new.past w.new.debts.items in
     let grows = write_grows c.args.by w.result PutFile c.args.kind c.args.lines i.past w.new.past w.ensures.past w.ensures.err in
-    seen_written w.result i.keeper w.new.keeper i.table i.branch w.new.branch i.past w.new.past owed owed' c.args.self.now c.args.path.now c.args.all c.args.kind c.args.lines
+    seen_written w.result i.keeper w.new.keeper i.parts i.branch w.new.branch i.past w.new.past owed owed' c.args.self.now c.args.path.now c.args.all c.args.kind c.args.lines
     c.self.view_is w.ensures.branch w.ensures.past
-    (seen_owed w.result i.keeper i.table i.branch i.past owed owed' c.args.self.now c.args.kind c.args.lines c.args.paid c.self.view_is c.requires.owed
+    (seen_owed w.result i.keeper i.parts i.branch i.past owed owed' c.args.self.now c.args.kind c.args.lines c.args.paid c.self.view_is c.requires.owed
     (owed_written c.args.paid c.args.by w.result i.past w.new.past i.debts.items w.new.debts.items grows w.ensures.debts c.self.invariant.4))
 
 pub returns-clause-err : goal.returns-clause-err
@@ -30,7 +33,7 @@ returns-clause-err g c =
     let owed = owed_in i.past i.debts.items in
     let owed' = owed_in w.new.past w.new.debts.items in
     let grows = write_grows c.args.by w.result PutFile c.args.kind c.args.lines i.past w.new.past w.ensures.past w.ensures.err in
-    seen_refused c.args.by w.result PutFile i.keeper w.new.keeper i.table i.branch w.new.branch i.past w.new.past owed owed' c.args.self.now c.self.view_is w.ensures.err_branch w.ensures.err
+    seen_refused c.args.by w.result PutFile i.keeper w.new.keeper i.parts i.branch w.new.branch i.past w.new.past owed owed' c.args.self.now c.self.view_is w.ensures.err_branch w.ensures.err
     (owed_unwritten c.args.paid c.args.by w.result i.past w.new.past i.debts.items w.new.debts.items grows w.ensures.debts c.self.invariant.4)
 
 pub invariant_of-self : goal.invariant_of-self
@@ -42,19 +45,24 @@ invariant_of-self g c =
     let all = c.args.all in
     let owed = owed_in i.past i.debts.items in
     let owed' = owed_in w.new.past w.new.debts.items in
+    let rest = w.ensures.rest in
+    let told = told_of (g.K.Keeper.contents i.keeper) (g.K.Keeper.parts i.keeper) in
+    let told' = told_of (g.K.Keeper.contents w.new.keeper) (g.K.Keeper.parts w.new.keeper) in
+    let laws = laws_of c.parts_stay.ensures c.tables_fill_as_states.ensures c.direct_entries_leave_rows.ensures.holds c.direct_entries_leave_rows.ensures.bars i.parts c.table.ensures.sound in
     let grows = write_grows c.args.by w.result PutFile c.args.kind c.args.lines i.past w.new.past w.ensures.past w.ensures.err in
     let branch : i.branch ≡ c.args.self.now.branch = ap (λ n. n.branch) c.self.view_is in
     let here : (p : List ℕ) → lines_at (with_file i.branch path all) p ≡ lines_after p (lines_at i.branch p) c.args.kind c.args.lines =
     subst (λ (b : Files). (p : List ℕ) → lines_at (with_file b path all) p ≡ lines_after p (lines_at b p) c.args.kind c.args.lines) (sym branch) c.requires.lines in (
-      kept_written c.args.by w.result i.past w.new.past i.table i.branch w.new.branch (with_file i.branch path all) (g.K.Keeper.contents i.keeper) (g.K.Keeper.contents w.new.keeper) c.args.kind c.args.lines owed owed'
-          c.requires.kind here w.ensures.branch w.ensures.past w.ensures.err w.ensures.err_branch w.ensures.rest.contents
-          (seen_owed w.result i.keeper i.table i.branch i.past owed owed' c.args.self.now c.args.kind c.args.lines c.args.paid c.self.view_is c.requires.owed
+      kept_written c.args.by w.result i.past w.new.past i.parts i.branch w.new.branch (with_file i.branch path all) told told' c.args.kind c.args.lines owed owed'
+          c.requires.kind here w.ensures.branch w.ensures.past w.ensures.err w.ensures.err_branch (told_same (g.K.Keeper.contents i.keeper) (g.K.Keeper.contents w.new.keeper) (g.K.Keeper.parts i.keeper) (g.K.Keeper.parts w.new.keeper) rest.contents (ap is_some rest.parts))
+          (seen_owed w.result i.keeper i.parts i.branch i.past owed owed' c.args.self.now c.args.kind c.args.lines c.args.paid c.self.view_is c.requires.owed
           (owed_written c.args.paid c.args.by w.result i.past w.new.past i.debts.items w.new.debts.items grows w.ensures.debts c.self.invariant.4))
-          (owed_unwritten c.args.paid c.args.by w.result i.past w.new.past i.debts.items w.new.debts.items grows w.ensures.debts c.self.invariant.4) c.self.invariant.0,
+          (owed_unwritten c.args.paid c.args.by w.result i.past w.new.past i.debts.items w.new.debts.items grows w.ensures.debts c.self.invariant.4) laws c.self.invariant.0,
       files_written w.result i.branch w.new.branch (g.K.Keeper.files i.keeper) (g.K.Keeper.files w.new.keeper) path all
           (law.there i.branch path all) (λ p differ. law.other i.branch path p all differ) w.ensures.branch w.ensures.err_branch w.ensures.files w.ensures.err_files c.self.invariant.1,
       λ x told. c.self.invariant.2 x (sym w.ensures.rest.records ∙ told),
       indexed_written w.result i.index w.new.index i.branch w.new.branch path all c.args.new.now w.ensures.branch w.ensures.err_branch w.ensures.index w.ensures.err_index
           (subst (λ (b : Files). ReadsAlike (lines_and (lines_at b) path c.args.new.now) (lines_at (with_file b path all))) (sym branch) c.requires.reads) c.self.invariant.3,
       debts_left i.past w.new.past (first_goes c.args.paid c.args.by w.result) i.debts.items w.new.debts.items grows w.ensures.debts c.self.invariant.4,
+      λ q is. c.self.invariant.5 q (sym rest.parts ∙ is),
     )
