@@ -19,7 +19,7 @@ invariant_of-self-2 g c =
     let e = c.enter_if in
     let at = c.moment-moment in
     let law = c.settings_are_those_of_the_lines_read.ensures in
-    let settings = c.in-Some.settings.now in
+    let settings = c.in-Some.settings in
     let reads = c.make_index.ensures.reads c.self.invariant.3 settings c.in-Some.is in
     let none = none_owing (owed_in i.past i.debts.items) (ap (λ v. is_owing v.owed) c.self.view_is ∙ c.requires.paid) in (
       kept_if job_step c.tables_fill_as_states.ensures c.states_have_their_settings.ensures.made it.done i.past room.new.past e.new.past i.parts w.new.self i.branch i.debts.items room.new.debts.items e.new.debts.items
@@ -54,7 +54,7 @@ returns-clause-step g c =
     let e = c.enter_if in
     let at = c.moment-moment in
     let law = c.settings_are_those_of_the_lines_read.ensures in
-    let settings = c.in-Some.settings.now in
+    let settings = c.in-Some.settings in
     let reads = c.make_index.ensures.reads c.self.invariant.3 settings c.in-Some.is in
     λ x told.
     steps_if job_step c.states_have_their_settings.ensures.made it.done e.result i.keeper w.new.keeper i.parts w.new.self i.branch i.past room.new.past e.new.past room.new.debts.items e.new.debts.items (owed_in i.past i.debts.items) (owed_in e.new.past e.new.debts.items)

@@ -1,7 +1,5 @@
 -- What the proof of `node::Node::pay_first` needs beside the tactics.
-use Rattle.std.proofs.Common.{◌≡◌, drop, refl, sym, ap, ◌∙◌}
-use Rattle.repo_node.specs.declared.refused.NodeRefused.{NodeRefused}
-use Rattle.repo_node.specs.declared.refused.NodeRefused.TheVariants as refusals
+use Rattle.std.proofs.Common.{Err, drop, ap}
 use Rattle.repo_node.proofs.PayLemmas.{adds_paid, fault_adds, fault_parts, fault_steps, full_fault, memory_fault, no_bundle, owing_first, refused_same, steps_paid}
 use Rattle.repo_node.proofs.node.Node.pay_first.Goals as goal
 
@@ -15,7 +13,7 @@ pub returns-in-Ok-clause-step : goal.returns-in-Ok-clause-step
 returns-in-Ok-clause-step g c =
     let n = c.args.self.now in
     let first = owing_first n.owed c.requires.owes in
-    steps_paid tt n c.pay.new.self first.0 (c.in-Ok.ensures.ok first.0 (drop 1 n.owed) first.1) c.in-Ok.ensures.pays
+    λ x told. steps_paid tt n c.pay.new.self first.0 (c.in-Ok.ensures.ok first.0 (drop 1 n.owed) first.1) (c.in-Ok.ensures.pays x told)
 
 pub returns-in-Ok-clause-links : goal.returns-in-Ok-clause-links
 returns-in-Ok-clause-links g c =
@@ -28,14 +26,14 @@ returns-in-Err-StoreFault-clause-adds g c =
     let n = c.args.self.now in
     let first = owing_first n.owed c.requires.owes in
     let it = c.in-Err-StoreFault in
-    fault_adds c.ends_go_on.ensures.begin it.field-0 n c.pay.new.self first.0 (g.K.Keeper.faults n.keeper) (g.K.Keeper.faults c.pay.new.self.keeper) it.field-0-is (it.ensures.err first.0 (drop 1 n.owed) first.1) (it.ensures.cause it.field-0-is)
+    fault_adds c.ends_go_on.ensures.begin it.field-0 n c.pay.new.self first.0 (g.K.Keeper.faults n.keeper) (g.K.Keeper.faults c.pay.new.self.keeper) it.field-0-is (it.ensures.err first.0 (drop 1 n.owed) first.1) (it.ensures.cause (λ j. Err (it.field-0-is j)))
 
 pub returns-in-Err-StoreFault-clause-step : goal.returns-in-Err-StoreFault-clause-step
 returns-in-Err-StoreFault-clause-step g c =
     let n = c.args.self.now in
     let first = owing_first n.owed c.requires.owes in
     let it = c.in-Err-StoreFault in
-    fault_steps it.field-0 n c.pay.new.self first.0 it.field-0-is (it.ensures.err first.0 (drop 1 n.owed) first.1) it.ensures.pays
+    λ x told. fault_steps it.field-0 n c.pay.new.self first.0 it.field-0-is (it.ensures.err first.0 (drop 1 n.owed) first.1) (it.ensures.pays x told)
 
 pub returns-in-Err-StoreFault-clause-links : goal.returns-in-Err-StoreFault-clause-links
 returns-in-Err-StoreFault-clause-links g c =
