@@ -135,7 +135,9 @@ impl<K: Keeper> Node<K> {
         let Some(settings) = &self.index else {
             unreachable!()
         };
-        let done = self.parts.act(self.past.alloc, settings, &mut self.keeper, moment)?;
+        let done = self
+            .parts
+            .act(self.past.alloc, settings, &mut self.keeper, moment)?;
         let _ = self.parts.table();
         Ok(enter_if(&mut self.past, &mut self.debts, done))
     }
