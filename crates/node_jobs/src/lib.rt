@@ -19,8 +19,8 @@ mod turning;
 pub use acted::Acted;
 pub use jobs::Jobs;
 pub use laws::{
-    jobs_make_their_own_entries, jobs_stay, jobs_stay_where_lines_fail, local_drops_send_where_there_is_room,
-    nameless_are_asked,
+    jobs_make_their_own_entries, jobs_stay, jobs_stay_where_lines_fail,
+    local_drops_send_where_there_is_room, nameless_are_asked,
 };
 pub use place::{Clock, Place};
 pub use refused::BeginRefused;

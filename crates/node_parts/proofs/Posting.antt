@@ -304,8 +304,8 @@ module _ (was mid : List EndView) (taken : Option FrameView) (slot : ℕ) (listi
       → TakesNoOpening taken → ArePlaced was taken [] (frames_of (end_at was) slot all) → sent ≡ frames_of (end_at was) slot all
   sent_well sent ps all same step quiet placed =
       let here : ArePlaced was taken listing (frames_of (end_at was) slot ps) =
-          subst (λ (l : List FrameView). ArePlaced was taken l (frames_of (end_at was) slot ps)) (sym empty)
-          (subst (λ (xs : List Parcel). ArePlaced was taken [] (frames_of (end_at was) slot xs)) (sym same) placed) in
+      subst (λ (l : List FrameView). ArePlaced was taken l (frames_of (end_at was) slot ps)) (sym empty)
+      (subst (λ (xs : List Parcel). ArePlaced was taken [] (frames_of (end_at was) slot xs)) (sym same) placed) in
       step posted_first quiet here
       ∙ (ap (λ (l : List FrameView). l ++ frames_of (end_at was) slot ps) empty
       ∙ ap (λ (xs : List Parcel). frames_of (end_at was) slot xs) same)

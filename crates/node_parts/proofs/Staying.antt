@@ -86,7 +86,7 @@ parts_stay_so go still sessions_law jobs_law lines_law s st e p sound moves are 
   sessions = sessions_law s st e p.sessions are.sessions (λ a server. none_moves s st e moves.takes moves.sends a);
   closed = closed_stays s st e moves.takes moves.sends are.closed;
   works = elim (direct_job e.kind moves.kind) [
-    inl none ↦ jobs_law s st e p.jobs p.table are.works sound.acting none (no_crash e.kind moves.kind)
+    | inl none ↦ jobs_law s st e p.jobs p.table are.works sound.acting none (no_crash e.kind moves.kind)
     | inr fault ↦ lines_law s st e p.jobs p.table fault.0 are.works sound.acting fault.1
   ];
   logs = refl;

@@ -20,7 +20,9 @@ use crate::moment::{Moment, stamp_at};
 use crate::parts::Parts;
 use annex_base::NoMemory;
 use node_ends::ends_go_on;
-use node_jobs::{jobs_make_their_own_entries, local_drops_send_where_there_is_room, nameless_are_asked};
+use node_jobs::{
+    jobs_make_their_own_entries, local_drops_send_where_there_is_room, nameless_are_asked,
+};
 use node_sessions::sessions_stay;
 use object_store::Keeper;
 use std::alloc::Global;

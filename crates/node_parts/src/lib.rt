@@ -11,6 +11,8 @@ mod serving;
 mod taking;
 
 pub use done::Done;
-pub use laws::{direct_entries_leave_rows, parts_stay, states_have_their_settings, tables_fill_as_states};
+pub use laws::{
+    direct_entries_leave_rows, parts_stay, states_have_their_settings, tables_fill_as_states,
+};
 pub use moment::Moment;
 pub use parts::Parts;

@@ -105,3 +105,43 @@ pub steps_failed : {K : Type 0} (n m : NodeView K) (o : Owed) → m ≡ with_ent
     → ((s : SetUp) (k : Look) → Fits n.setup s → k.time ≡ n.time → k.count ≡ n.count + 1 → failing k.fails (PutFile ∷ []) ≡ failed_put (Err refusals.StoreFault) → AddsStep (owed_step s (state_of s n.history) k) n.setup.number k n.history m.history)
     → StepsBy owed_step n m
 steps_failed {K} n m o is pays = steps_by (Err refusals.StoreFault) n m (Fault PutFile o.by) [] (ap (λ (v : NodeView K). v.history) is) refl pays
+
+-- ---- by the refusal
+
+pub refused_same : {K : Type 0} (e : NodeRefused) (n m : NodeView K) (o : Owed) → (e ≡ refusals.StoreFault → ⊥) → RefusesFor o.by e PutFile n m → m ≡ record n { keeper = m.keeper }
+refused_same refusals.Full n m o other refuses = refuses.0
+refused_same refusals.StoreFault n m o other refuses = absurd (other refl)
+refused_same (refusals.BadBundle at) n m o other refuses = absurd refuses
+refused_same refusals.NoMemory n m o other refuses = refuses
+
+pub no_bundle : {K : Type 0} (e : NodeRefused) (at : ℕ) (n m : NodeView K) (o : Owed) → e ≡ refusals.BadBundle at → RefusesFor o.by e PutFile n m → ⊥
+no_bundle refusals.Full at n m o is refuses = absurd cc
+no_bundle refusals.StoreFault at n m o is refuses = absurd cc
+no_bundle (refusals.BadBundle place) at n m o is refuses = refuses
+no_bundle refusals.NoMemory at n m o is refuses = absurd cc
+
+fault_is : {K : Type 0} (e : NodeRefused) (n m : NodeView K) (o : Owed) → e ≡ refusals.StoreFault → RefusesFor o.by e PutFile n m → m ≡ with_entry n m.keeper n.branch (Fault PutFile o.by) []
+fault_is refusals.Full n m o is refuses = absurd cc
+fault_is refusals.StoreFault n m o is refuses = refuses
+fault_is (refusals.BadBundle at) n m o is refuses = absurd cc
+fault_is refusals.NoMemory n m o is refuses = absurd cc
+
+pub fault_parts : {K : Type 0} (e : NodeRefused) (n m : NodeView K) (o : Owed) → e ≡ refusals.StoreFault → RefusesFor o.by e PutFile n m → m.parts ≡ n.parts
+fault_parts {K} e n m o is refuses = ap (λ (v : NodeView K). v.parts) (fault_is e n m o is refuses)
+
+pub fault_adds : {K : Type 0} (law : StayLaw) (e : NodeRefused) (n m : NodeView K) (o : Owed) (f f' : ℕ) → e ≡ refusals.StoreFault → RefusesFor o.by e PutFile n m → Rose f f' → Adds n.parts.links f f' n m
+fault_adds law e n m o f f' is refuses rose = adds_failed law n m o f f' (fault_is e n m o is refuses) rose
+
+pub fault_steps : {K : Type 0} (e : NodeRefused) (n m : NodeView K) (o : Owed) → e ≡ refusals.StoreFault → RefusesFor o.by e PutFile n m
+    → ((s : SetUp) (k : Look) → Fits n.setup s → k.time ≡ n.time → k.count ≡ n.count + 1 → failing k.fails (PutFile ∷ []) ≡ failed_put (Err e) → WhereMade (Err e) (AddsStep (owed_step s (state_of s n.history) k) n.setup.number k n.history m.history))
+    → StepsBy owed_step n m
+fault_steps refusals.Full n m o is refuses pays = absurd cc
+fault_steps refusals.StoreFault n m o is refuses pays = steps_failed n m o refuses pays
+fault_steps (refusals.BadBundle at) n m o is refuses pays = absurd cc
+fault_steps refusals.NoMemory n m o is refuses pays = absurd cc
+
+pub full_fault : (e : NodeRefused) → e ≡ refusals.Full → e ≡ refusals.StoreFault → ⊥
+full_fault e is other = absurd cc
+
+pub memory_fault : (e : NodeRefused) → e ≡ refusals.NoMemory → e ≡ refusals.StoreFault → ⊥
+memory_fault e is other = absurd cc

@@ -77,10 +77,11 @@ steps_first first n m is by = record {
       record { made = it.made; same = it.same; makes = is s k it.made fits looks it.makes; adds = it.adds };
 }
 
-pub owed_first : {K : Type 0} (r : Result Bool NoMemory) (n m : NodeView K) → IfOk r (λ b. b ≡ true) → IfOk r (λ b. MovesSo b owed_step n m) → IfOk r (λ b. MovesSo b step n m)
-owed_first (Ok true) n m made moves = steps_first owed_step n m (λ s k it fits looks is. ap (λ (o : Option Made). first_of o (first_of (session_step s (state_of s n.history) k) (job_step s (state_of s n.history) k))) is) moves
-owed_first (Ok false) n m made moves = absurd cc
-owed_first (Err e) n m made moves = tt
+pub owed_first : {K : Type 0} (r : Result Bool NoMemory) (n m : NodeView K) (told : Option Contents) → IfOk r (λ b. b ≡ true) → IfOk r (λ b. ForSome told (λ c. MovesSo b owed_step n m)) → IfOk r (λ b. ForSome told (λ c. MovesSo b step n m))
+owed_first (Ok true) n m told made moves = λ c known.
+    steps_first owed_step n m (λ s k it fits looks is. ap (λ (o : Option Made). first_of o (first_of (session_step s (state_of s n.history) k) (job_step s (state_of s n.history) k))) is) (moves c known)
+owed_first (Ok false) n m told made moves = absurd cc
+owed_first (Err e) n m told made moves = tt
 
 -- no line is owed, and a session has a step
 pub served_first : {K : Type 0} (n m : NodeView K) → Owes n → is_owing n.owed ≡ false → StepsBy session_step n m → StepsBy step n m
@@ -301,7 +302,3 @@ then_acted (Err e) b n n' m cs cs' qs qs' links f f' is none made idle adds part
 pub then_adds : {K : Type 0} (r : Result Bool NoMemory) (b : Bool) (n n' m : NodeView K) (f f' f'' : ℕ) → b ≡ false → AddsIf b n.parts.links f f' n n' → f ≤ f' → IfOk r (λ x. AddsIf x n'.parts.links f' f'' n' m) → IfOk r (λ x. AddsIf x n.parts.links f f'' n m)
 then_adds {K} (Ok x) b n n' m f f' f'' made first later adds = adds_acted x f f' f'' n n' m (subst (λ (y : Bool). AddsIf y n.parts.links f f' n n') made first) later adds
 then_adds (Err e) b n n' m f f' f'' made first later adds = tt
-
-pub owed_steps : {K : Type 0} (r : Result Bool NoMemory) (n m : NodeView K) (told : Option Contents) → IfOk r (λ b. MovesSo b step n m) → IfOk r (λ b. ForSome told (λ c. MovesSo b step n m))
-owed_steps (Ok b) n m told moves = λ c known. moves
-owed_steps (Err e) n m told moves = tt

@@ -40,7 +40,9 @@ fn make_ready(past: &mut Past) -> Result<(), BeginRefused>
     match past.ready() {
         Ok(()) => Ok(()),
         Err(NodeRefused::Full) => Err(BeginRefused::Full),
-        Err(NodeRefused::StoreFault | NodeRefused::BadBundle { .. } | NodeRefused::NoMemory) => Err(BeginRefused::NoMemory),
+        Err(NodeRefused::StoreFault | NodeRefused::BadBundle { .. } | NodeRefused::NoMemory) => Err(
+            BeginRefused::NoMemory,
+        ),
     }
 }
 

@@ -72,7 +72,7 @@ impl<K: Keeper> Node<K> {
         requires owes { is_owing self.old.owed ≡ true }
         ensures made { IfOk result (λ b. b ≡ true) }
         ensures adds { IfOk result (λ b. AddsIf b self.old.parts.links (K.faults self.old.keeper) (K.faults self.new.keeper) self.old self.new) }
-        ensures step { IfOk result (λ b. MovesSo b owed_step self.old self.new) }
+        ensures step { IfOk result (λ b. ForSome (told_of (K.contents self.old.keeper) (K.parts self.old.keeper)) (λ c. MovesSo b owed_step self.old self.new)) }
         ensures contents { K.contents self.new.keeper ≡ K.contents self.old.keeper }
         ensures parts { K.parts self.new.keeper ≡ K.parts self.old.keeper }
         ensures links { self.new.parts ≡ self.old.parts }
@@ -135,7 +135,9 @@ impl<K: Keeper> Node<K> {
         let Some(settings) = &self.index else {
             unreachable!()
         };
-        let done = self.parts.act(self.past.alloc, settings, &mut self.keeper, moment)?;
+        let done = self
+            .parts
+            .act(self.past.alloc, settings, &mut self.keeper, moment)?;
         let _ = self.parts.table();
         Ok(enter_if(&mut self.past, &mut self.debts, done))
     }

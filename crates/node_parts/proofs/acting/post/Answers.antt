@@ -15,7 +15,7 @@ returns-clause-well c = λ was taken f before quiet of place.
     let e = c.room_permits_frames.ensures in
     c.list.ensures.items
     ∙ listed_by was c.args.ends.now taken c.args.sent.now.items before c.post-frame.new.self (name_of c.args.id) c.args.stamp c.args.said c.post-frame.result c.post-frame.ensures.gives c.post-frame.ensures.sent
-      (record { opening = e.opening; line = e.line; bytes = e.bytes; closing = e.closing }) quiet f of place
+    (record { opening = e.opening; line = e.line; bytes = e.bytes; closing = e.closing }) quiet f of place
 
 pub returns-clause-there : goal.returns-clause-there
 returns-clause-there c = c.post-frame.ensures.there (name_of c.args.id) ∙ c.requires.there

@@ -1,18 +1,17 @@
 -- What the proof of `node::Node::act` needs beside the tactics.
-use Rattle.std.proofs.Common.{[], sym, ap, ◌∙◌}
+use Rattle.std.proofs.Common.{[], is_some, sym, ap, ◌∙◌}
 use Rattle.node_model.specs.Turns.{job_step}
-use Rattle.node_jobs.specs.Running.{Jobs}
 use Rattle.repo_node.specs.Nodes.{told_of}
 use Rattle.repo_node.specs.Owing.{is_owing}
-use Rattle.repo_node.proofs.BeginLemmas.{fed_after}
-use Rattle.repo_node.proofs.MoveLemmas.{adds_if, leaves_at, acted_does, steps_if}
+use Rattle.repo_node.proofs.BeginLemmas.{fed_links}
+use Rattle.repo_node.proofs.MoveLemmas.{acted_does, adds_if, leaves_at, steps_if}
 use Rattle.repo_node.proofs.NoteLemmas.{debts_if, kept_if, owed_if_none}
 use Rattle.repo_node.proofs.OwedLemmas.{owed_in}
 use Rattle.repo_node.proofs.TurnLemmas.{none_owing}
 use Rattle.repo_node.proofs.node.Node.act.Goals as goal
 
-pub invariant_of-self-3 : goal.invariant_of-self-3
-invariant_of-self-3 g c =
+pub invariant_of-self-2 : goal.invariant_of-self-2
+invariant_of-self-2 g c =
     let i = c.self.inside in
     let room = c.make_room in
     let w = c.act in
@@ -20,8 +19,8 @@ invariant_of-self-3 g c =
     let e = c.enter_if in
     let at = c.moment-moment in
     let law = c.settings_are_those_of_the_lines_read.ensures in
-    let settings = c.some-settings.settings.now in
-    let reads = ? in
+    let settings = c.in-Some.settings in
+    let reads = c.make_index.ensures.reads c.self.invariant.3 settings c.in-Some.is in
     let none = none_owing (owed_in i.past i.debts.items) (ap (λ v. is_owing v.owed) c.self.view_is ∙ c.requires.paid) in (
       kept_if job_step c.tables_fill_as_states.ensures c.states_have_their_settings.ensures.made it.done i.past room.new.past e.new.past i.parts w.new.self i.branch i.debts.items room.new.debts.items e.new.debts.items
           (g.K.Keeper.contents i.keeper) (g.K.Keeper.contents w.new.keeper) (g.K.Keeper.parts i.keeper) (g.K.Keeper.parts w.new.keeper) c.table.ensures.sound c.table-2.ensures.sound room.ensures.same room.ensures.same_debts e.ensures.enters c.self.invariant.4 none
@@ -30,9 +29,9 @@ invariant_of-self-3 g c =
           (ap (λ o. is_some o) w.ensures.parts) (λ there. w.ensures.told) w.ensures.place w.ensures.begun c.self.invariant.0,
       λ f told. c.self.invariant.1 f (sym w.ensures.files ∙ told),
       w.ensures.agrees,
-      c.self.invariant.3,
+      c.make_index.ensures.reads c.self.invariant.3,
       debts_if it.done i.past room.new.past e.new.past i.debts.items room.new.debts.items e.new.debts.items room.ensures.same room.ensures.same_debts e.ensures.enters c.self.invariant.4 none,
-      fed_after (g.K.Keeper.parts i.keeper) (g.K.Keeper.parts w.new.keeper) i.parts w.new.self (ap (λ o. is_some o) w.ensures.parts) w.ensures.fed c.self.invariant.5,
+      λ q told. fed_links (g.K.Keeper.parts i.keeper) i.parts w.new.self w.ensures.sessions c.self.invariant.5 q (sym w.ensures.parts ∙ told),
     )
 
 pub returns-clause-adds : goal.returns-clause-adds
@@ -55,8 +54,8 @@ returns-clause-step g c =
     let e = c.enter_if in
     let at = c.moment-moment in
     let law = c.settings_are_those_of_the_lines_read.ensures in
-    let settings = c.some-settings.settings.now in
-    let reads = ? in
+    let settings = c.in-Some.settings in
+    let reads = c.make_index.ensures.reads c.self.invariant.3 settings c.in-Some.is in
     λ x told.
     steps_if job_step c.states_have_their_settings.ensures.made it.done e.result i.keeper w.new.keeper i.parts w.new.self i.branch i.past room.new.past e.new.past room.new.debts.items e.new.debts.items (owed_in i.past i.debts.items) (owed_in e.new.past e.new.debts.items)
     (g.K.Keeper.contents i.keeper) (g.K.Keeper.contents w.new.keeper) (g.K.Keeper.parts i.keeper) c.args.self.now c.self.view_is e.ensures.made room.ensures.same e.ensures.enters c.self.invariant.0

@@ -1,35 +1,78 @@
 -- What the proof of `node::Node::pay_first` needs beside the tactics.
-use Rattle.std.proofs.Common.{drop, refl, sym, ap, ◌∙◌}
-use Rattle.repo_node.proofs.PayLemmas.{adds_failed, adds_paid, owing_first, steps_failed, steps_paid}
+use Rattle.std.proofs.Common.{Err, drop, ap}
+use Rattle.repo_node.proofs.PayLemmas.{adds_paid, fault_adds, fault_parts, fault_steps, full_fault, memory_fault, no_bundle, owing_first, refused_same, steps_paid}
 use Rattle.repo_node.proofs.node.Node.pay_first.Goals as goal
 
-pub returns-in-Err-Full : goal.returns-in-Err-Full
-returns-in-Err-Full g c =
-    let n = c.args.self.now in
-    let first = owing_first n.owed c.requires.owes in
-    let same = (c.in-Err-Full.ensures.err first.0 (drop 1 n.owed) first.1).0 in
-    record { made = tt; adds = tt; step = tt; contents = c.pay.ensures.contents; parts = c.pay.ensures.parts; links = ap (λ v. v.parts) same; later = c.pay.ensures.later; err = same }
-
 pub returns-in-Ok-clause-adds : goal.returns-in-Ok-clause-adds
-returns-in-Ok-clause-adds g c = ?
-
-pub returns-in-Ok-clause-step : goal.returns-in-Ok-clause-step
-returns-in-Ok-clause-step g c = ?
-
-pub returns-in-Ok-2-clause-adds : goal.returns-in-Ok-2-clause-adds
-returns-in-Ok-2-clause-adds g c =
+returns-in-Ok-clause-adds g c =
     let n = c.args.self.now in
     let first = owing_first n.owed c.requires.owes in
     adds_paid c.ends_go_on.ensures.begin n c.pay.new.self first.0 (g.K.Keeper.faults n.keeper) (g.K.Keeper.faults c.pay.new.self.keeper) (c.in-Ok.ensures.ok first.0 (drop 1 n.owed) first.1)
 
-pub returns-in-Ok-2-clause-step : goal.returns-in-Ok-2-clause-step
-returns-in-Ok-2-clause-step g c =
+pub returns-in-Ok-clause-step : goal.returns-in-Ok-clause-step
+returns-in-Ok-clause-step g c =
     let n = c.args.self.now in
     let first = owing_first n.owed c.requires.owes in
-    steps_paid tt n c.pay.new.self first.0 (c.in-Ok.ensures.ok first.0 (drop 1 n.owed) first.1) c.in-Ok.ensures.pays
+    λ x told. steps_paid tt n c.pay.new.self first.0 (c.in-Ok.ensures.ok first.0 (drop 1 n.owed) first.1) (c.in-Ok.ensures.pays x told)
 
-pub returns-in-Ok-2-clause-links : goal.returns-in-Ok-2-clause-links
-returns-in-Ok-2-clause-links g c =
+pub returns-in-Ok-clause-links : goal.returns-in-Ok-clause-links
+returns-in-Ok-clause-links g c =
     let n = c.args.self.now in
     let first = owing_first n.owed c.requires.owes in
     ap (λ v. v.parts) (c.in-Ok.ensures.ok first.0 (drop 1 n.owed) first.1)
+
+pub returns-in-Err-StoreFault-clause-adds : goal.returns-in-Err-StoreFault-clause-adds
+returns-in-Err-StoreFault-clause-adds g c =
+    let n = c.args.self.now in
+    let first = owing_first n.owed c.requires.owes in
+    let it = c.in-Err-StoreFault in
+    fault_adds c.ends_go_on.ensures.begin it.field-0 n c.pay.new.self first.0 (g.K.Keeper.faults n.keeper) (g.K.Keeper.faults c.pay.new.self.keeper) it.field-0-is (it.ensures.err first.0 (drop 1 n.owed) first.1) (it.ensures.cause (λ j. Err (it.field-0-is j)))
+
+pub returns-in-Err-StoreFault-clause-step : goal.returns-in-Err-StoreFault-clause-step
+returns-in-Err-StoreFault-clause-step g c =
+    let n = c.args.self.now in
+    let first = owing_first n.owed c.requires.owes in
+    let it = c.in-Err-StoreFault in
+    λ x told. fault_steps it.field-0 n c.pay.new.self first.0 it.field-0-is (it.ensures.err first.0 (drop 1 n.owed) first.1) (it.ensures.pays x told)
+
+pub returns-in-Err-StoreFault-clause-links : goal.returns-in-Err-StoreFault-clause-links
+returns-in-Err-StoreFault-clause-links g c =
+    let n = c.args.self.now in
+    let first = owing_first n.owed c.requires.owes in
+    let it = c.in-Err-StoreFault in
+    fault_parts it.field-0 n c.pay.new.self first.0 it.field-0-is (it.ensures.err first.0 (drop 1 n.owed) first.1)
+
+pub returns-in-Err-Full-clause-links : goal.returns-in-Err-Full-clause-links
+returns-in-Err-Full-clause-links g c =
+    let n = c.args.self.now in
+    let first = owing_first n.owed c.requires.owes in
+    let it = c.in-Err-Full in
+    ap (λ v. v.parts) (refused_same it.field-0 n c.pay.new.self first.0 (full_fault it.field-0 it.field-0-is) (it.ensures.err first.0 (drop 1 n.owed) first.1))
+
+pub returns-in-Err-Full-clause-err : goal.returns-in-Err-Full-clause-err
+returns-in-Err-Full-clause-err g c =
+    let n = c.args.self.now in
+    let first = owing_first n.owed c.requires.owes in
+    let it = c.in-Err-Full in
+    refused_same it.field-0 n c.pay.new.self first.0 (full_fault it.field-0 it.field-0-is) (it.ensures.err first.0 (drop 1 n.owed) first.1)
+
+pub returns-in-Err-NoMemory-clause-links : goal.returns-in-Err-NoMemory-clause-links
+returns-in-Err-NoMemory-clause-links g c =
+    let n = c.args.self.now in
+    let first = owing_first n.owed c.requires.owes in
+    let it = c.in-Err-NoMemory in
+    ap (λ v. v.parts) (refused_same it.field-0 n c.pay.new.self first.0 (memory_fault it.field-0 it.field-0-is) (it.ensures.err first.0 (drop 1 n.owed) first.1))
+
+pub returns-in-Err-NoMemory-clause-err : goal.returns-in-Err-NoMemory-clause-err
+returns-in-Err-NoMemory-clause-err g c =
+    let n = c.args.self.now in
+    let first = owing_first n.owed c.requires.owes in
+    let it = c.in-Err-NoMemory in
+    refused_same it.field-0 n c.pay.new.self first.0 (memory_fault it.field-0 it.field-0-is) (it.ensures.err first.0 (drop 1 n.owed) first.1)
+
+pub unreachable-requires : goal.unreachable-requires
+unreachable-requires g c =
+    let n = c.args.self.now in
+    let first = owing_first n.owed c.requires.owes in
+    let it = c.in-Err-BadBundle in
+    no_bundle it.field-0 _ n c.pay.new.self first.0 it.field-0-is (it.ensures.err first.0 (drop 1 n.owed) first.1)

@@ -1,14 +1,14 @@
 -- What the proof of `node::Node::step` needs beside the tactics.
 use Rattle.std.proofs.Common.{true, refl, sym, ap, ◌∙◌}
 use Rattle.repo_node.specs.Nodes.{told_of}
-use Rattle.repo_node.proofs.TurnLemmas.{first_served, owed_first, owed_steps, then_acted}
+use Rattle.repo_node.proofs.TurnLemmas.{first_served, owed_first, then_acted}
 use Rattle.repo_node.proofs.node.Node.step.Goals as goal
 
 pub returns-then-owes-clause-step : goal.returns-then-owes-clause-step
 returns-then-owes-clause-step g c =
     let n = c.args.self.now in
     let w = c.pay_first in
-    owed_steps w.result n w.new.self (told_of (g.K.Keeper.contents n.keeper) (g.K.Keeper.parts n.keeper)) (owed_first w.result n w.new.self w.ensures.made w.ensures.step)
+    owed_first w.result n w.new.self (told_of (g.K.Keeper.contents n.keeper) (g.K.Keeper.parts n.keeper)) w.ensures.made w.ensures.step
 
 pub returns-then-served-clause-step : goal.returns-then-served-clause-step
 returns-then-served-clause-step g c =
