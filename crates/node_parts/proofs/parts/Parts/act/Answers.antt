@@ -1,0 +1,95 @@
+-- What the proof of `parts::Parts::act` needs beside the tactics.
+use Rattle.std.proofs.Common.{◌≡◌, List, Option, Some, None, length, refl, sym, ap, subst, ◌∙◌}
+use Rattle.std.specs.Prelude.{All, IfSome, ◌<◌}
+use Rattle.run_data.specs.declared.row.Hold.{Hold}
+use Rattle.std.specs.Option.{ForSome}
+use Rattle.trust_groups.specs.View.{settings_of}
+use Rattle.content_lock.specs.Rows.{Rows}
+use Rattle.link_ring.specs.Ends.{EndView}
+use Rattle.node_ends.specs.Joined.{StayPaired}
+use Rattle.node_jobs.specs.declared.acted.Acted.{Acted}
+use Rattle.node_jobs.specs.Acting.{IsKindOf}
+use Rattle.node_jobs.specs.Leaving.{Leaves as LeavesJobs, LeavesSo as LeavesJobsSo}
+use Rattle.node_jobs.specs.Running.{Jobs}
+use Rattle.node_parts.specs.declared.done.Done.{Done}
+use Rattle.node_parts.specs.Kinds.{IsQuiet}
+use Rattle.node_parts.specs.Parts.{PartsView}
+use Rattle.node_parts.specs.Steps.{Acts, LeavesSo}
+use Rattle.node_parts.proofs.Acted.{IsActed, StepsThere, acts_none, acts_some, kind_of, leaves_acted, quiet_acted, sound_acted}
+use Rattle.node_parts.proofs.parts.Parts.act.Goals as goal
+
+pub returns-in-None-clause-step : goal.returns-in-None-clause-step
+returns-in-None-clause-step g c =
+    let i = c.self.inside in
+    let e = c.in_ok-acted.ensures in
+    let was : PartsView = record { table = i.table; links = i.ends; sessions = i.sessions; jobs = i.jobs } in
+    let now : PartsView = record { table = c.step.new.table; links = c.step.new.ends; sessions = i.sessions; jobs = c.step.new.self } in
+    let known = g.K.Keeper.contents c.args.keeper.now in
+    let contents = g.K.Keeper.contents c.step.new.keeper in
+    let view = settings_of c.args.settings.now in
+    let m = c.args.moment in
+    let left = subst (λ (o : Option Acted). LeavesJobsSo i.ends i.jobs c.step.new.self i.table c.step.new.table known contents o) c.in-None.is e.leaves in
+    let stays : now ≡ was = (λ n. record { table = left.1 n; links = e.ends n; sessions = i.sessions; jobs = left.0 n }) in
+    subst (λ (p : PartsView). ForSome known (λ x. Acts p now x contents m.clock view m.time m.number None)) c.self.view_is
+    (acts_none c.nameless_are_asked.ensures c.local_drops_send_where_there_is_room.ensures c.jobs_make_their_own_entries.ensures c.ends_go_on.ensures.ends c.sessions_stay.ensures
+    was now m.clock view m.time m.number known contents c.self.invariant
+    (subst (λ (o : Option Acted). ForSome known (λ x. StepsThere was now.jobs m.clock view m.time m.number x o)) c.in-None.is e.step) stays left.2)
+
+pub returns-in-Some-clause-step : goal.returns-in-Some-clause-step
+returns-in-Some-clause-step g c =
+    let i = c.self.inside in
+    let e = c.in_ok-acted.ensures in
+    let was : PartsView = record { table = i.table; links = i.ends; sessions = i.sessions; jobs = i.jobs } in
+    let now : PartsView = record { table = c.step.new.table; links = c.act.new.ends; sessions = i.sessions; jobs = c.step.new.self } in
+    let known = g.K.Keeper.contents c.args.keeper.now in
+    let contents = g.K.Keeper.contents c.step.new.keeper in
+    let view = settings_of c.args.settings.now in
+    let m = c.args.moment in
+    let here : IsActed was.links now.links c.in-Some.acted c.act.result =
+        subst (λ (l : List EndView). IsActed l now.links c.in-Some.acted c.act.result) e.ends
+        (record { job = c.act.ensures.job; kind = c.act.ensures.kind; taken = c.act.ensures.taken; sent = c.act.ensures.sent; after = c.act.ensures.after }) in
+    subst (λ (p : PartsView). ForSome known (λ x. Acts p now x contents m.clock view m.time m.number (Some c.act.result))) c.self.view_is
+    (acts_some c.nameless_are_asked.ensures c.local_drops_send_where_there_is_room.ensures c.jobs_make_their_own_entries.ensures c.ends_go_on.ensures.ends c.sessions_stay.ensures
+    was now m.clock view m.time m.number known contents c.self.invariant c.in-Some.acted c.act.result
+    (subst (λ (o : Option Acted). ForSome known (λ x. StepsThere was now.jobs m.clock view m.time m.number x o)) c.in-Some.is e.step)
+    here
+    (kind_of c.in-Some.acted (subst (λ (o : Option Acted). IfSome o (λ (it : Acted). IsKindOf it.job it)) c.in-Some.is e.kind))
+    (subst (λ (o : Option Acted). LeavesJobsSo was.links was.jobs now.jobs was.table now.table known contents o) c.in-Some.is e.leaves)
+    e.place refl)
+
+pub returns-in-Some-clause-leaves : goal.returns-in-Some-clause-leaves
+returns-in-Some-clause-leaves g c =
+    let i = c.self.inside in
+    let e = c.in_ok-acted.ensures in
+    let was : PartsView = record { table = i.table; links = i.ends; sessions = i.sessions; jobs = i.jobs } in
+    let now : PartsView = record { table = c.step.new.table; links = c.act.new.ends; sessions = i.sessions; jobs = c.step.new.self } in
+    let known = g.K.Keeper.contents c.args.keeper.now in
+    let contents = g.K.Keeper.contents c.step.new.keeper in
+    let here : IsActed was.links now.links c.in-Some.acted c.act.result =
+        subst (λ (l : List EndView). IsActed l now.links c.in-Some.acted c.act.result) e.ends
+        (record { job = c.act.ensures.job; kind = c.act.ensures.kind; taken = c.act.ensures.taken; sent = c.act.ensures.sent; after = c.act.ensures.after }) in
+    let left = subst (λ (o : Option Acted). LeavesJobsSo was.links was.jobs now.jobs was.table now.table known contents o) c.in-Some.is e.leaves in
+    subst (λ (p : PartsView). LeavesSo c.args.moment.number p now (Some c.act.result)) c.self.view_is
+    (leaves_acted c.args.moment.number was now known contents c.in-Some.acted c.act.result here left e.holds
+    (subst (λ (p : PartsView). All (λ (h : Hold). h.number < c.args.moment.number) p.table.holds) (sym c.self.view_is) c.requires.fresh))
+
+pub returns-in-Some-clause-kind : goal.returns-in-Some-clause-kind
+returns-in-Some-clause-kind g c = λ x is.
+    let i = c.self.inside in
+    let e = c.in_ok-acted.ensures in
+    let here : IsActed i.ends c.act.new.ends c.in-Some.acted c.act.result =
+        subst (λ (l : List EndView). IsActed l c.act.new.ends c.in-Some.acted c.act.result) e.ends
+        (record { job = c.act.ensures.job; kind = c.act.ensures.kind; taken = c.act.ensures.taken; sent = c.act.ensures.sent; after = c.act.ensures.after }) in
+    let same : c.act.result ≡ x = cc in
+    subst (λ (d : Done). IsQuiet d.kind) same
+    (quiet_acted i.ends c.act.new.ends c.in-Some.acted c.act.result here (subst (λ (o : Option Acted). IfSome o (λ (it : Acted). IsKindOf it.job it)) c.in-Some.is e.kind))
+
+pub invariant_of-self-in-Some : goal.invariant_of-self-in-Some
+invariant_of-self-in-Some g c =
+    let i = c.self.inside in
+    let e = c.in_ok-acted.ensures in
+    let was : PartsView = record { table = i.table; links = i.ends; sessions = i.sessions; jobs = i.jobs } in
+    let now : PartsView = record { table = c.step.new.table; links = c.act.new.ends; sessions = i.sessions; jobs = c.step.new.self } in
+    let left = subst (λ (o : Option Acted). LeavesJobsSo was.links was.jobs now.jobs was.table now.table (g.K.Keeper.contents c.args.keeper.now) (g.K.Keeper.contents c.step.new.keeper) o) c.in-Some.is e.leaves in
+    let paired : StayPaired i.ends c.act.new.ends = subst (λ (links : List EndView). StayPaired links c.act.new.ends) e.ends c.act.ensures.paired in
+    sound_acted was now c.self.invariant (c.act.ensures.count ∙ ap (λ (links : List EndView). length links) e.ends) paired e.place refl e.holds left.after.fills e.owns
