@@ -16,6 +16,7 @@ use Rattle.node_model.specs.State.{State}
 use Rattle.node_ends.specs.Ends.{link_at}
 use Rattle.p2p_server.specs.declared.place.Place.{Place}
 use Rattle.p2p_server.specs.declared.session.Session.{Session}
+use Rattle.p2p_server.specs.Bounds.{IsKind}
 use Rattle.p2p_server.specs.Talking.{IsJudgedOf, place_of}
 use Rattle.node_sessions.specs.declared.served.Served.{Served}
 use Rattle.node_sessions.specs.Moments.{ServesAmong}
@@ -73,6 +74,14 @@ among_fed law links clock number at xs xs' rows rows' contents contents' parts p
 pub among_bars : (links : List EndView) (clock number at : ℕ) (xs xs' : List Session) (rows rows' : Rows) (contents contents' : Option Contents) (parts parts' : Option Parts) (records records' : Option (List HoldRecord)) (faults faults' : ℕ) (v : Served)
     → ServesAmong links clock number at xs xs' rows rows' contents contents' parts parts' records records' faults faults' v → (key : List ℕ) → bar_at rows' key ≡ bar_at rows key
 among_bars links clock number at xs xs' rows rows' contents contents' parts parts' records records' faults faults' v a = a.serves.bars
+
+kind_one : (number : ℕ) (v w : Served) → IsKind number v.kind → Some v ≡ Some w → IsKind number w.kind
+kind_one number v w is e =
+    let same : v ≡ w = cc in subst (λ (x : Served). IsKind number x.kind) same is
+
+pub among_kind : (links : List EndView) (clock number at : ℕ) (xs xs' : List Session) (rows rows' : Rows) (contents contents' : Option Contents) (parts parts' : Option Parts) (records records' : Option (List HoldRecord)) (faults faults' : ℕ) (v : Served)
+    → ServesAmong links clock number at xs xs' rows rows' contents contents' parts parts' records records' faults faults' v → ForSome (Some v) (λ w. IsKind number w.kind)
+among_kind links clock number at xs xs' rows rows' contents contents' parts parts' records records' faults faults' v a = λ w e. kind_one number v w a.serves.kind e
 
 judged_one : (xs : List Session) (was : Session) (v w : Served) (x : Session) → server_in xs v ≡ Some was → IsJudgedOf was v.kind → Some v ≡ Some w → server_in xs w ≡ Some x → IsJudgedOf x w.kind
 judged_one xs was v w x is judged e found =

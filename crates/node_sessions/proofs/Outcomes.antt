@@ -31,7 +31,7 @@ use Rattle.p2p_server.specs.declared.place.Place.{Place}
 use Rattle.p2p_server.specs.declared.session.Session.{Session}
 use Rattle.p2p_server.specs.declared.step.Step.{Step}
 use Rattle.p2p_server.specs.Answers.{failed_in, owner_at, reply_of, size_in}
-use Rattle.p2p_server.specs.Bounds.{IsReplyIf}
+use Rattle.p2p_server.specs.Bounds.{IsKind, IsReplyIf}
 use Rattle.p2p_server.specs.Giving.{failed_more, reply_more, session_sent}
 use Rattle.p2p_server.specs.States.{IsScene, Keeps, Stand, stand_after, stand_of}
 use Rattle.p2p_server.specs.Stepping.{LeavesOthers, moment_of}
@@ -63,6 +63,7 @@ hung_up links clock number was now rows rows' frame contents parts records fault
   makes = makes;
   after = h.after;
   bars = h.after.bars;
+  kind = tt;
   numbers = λ n more. h.numbers n (still_below number n rows.holds more fresh);
   filled = subst (λ (x : sessions.Session). FillsSo (session_of was).doing x.doing (is_filling rows) (is_filling rows')) (sym h.session) h.filled;
   parts = parts_kept (session_of was).doing parts parts refl;
@@ -115,6 +116,7 @@ pub record TookSo (clock number : ℕ) (i : Incoming) (was now : Session) (rows 
   pub keeps : (stand : Stand) (part : ℕ) (right : Bool) → Keeps rows contents stand → SeesPartOf parts was i part right → Keeps rows' contents' (stand_after x.kind stand)
   pub after : AreAfterStep x.kind rows rows'
   pub bars : (key : List ℕ) → bar_at rows' key ≡ bar_at rows key
+  pub kind : IsKind number x.kind
   pub reply : IsReplyIf x.reply
   pub numbers : (n : ℕ) → number < n → All (λ h. h.number < n) rows'.holds
   pub next : (size : List ℕ → Option ℕ) (sent : List FrameView) (f : FrameView) → Brings f.body i → SaysSo x sent → SeesSize contents i size → session_of now ≡ session_after size x.kind (session_of was) sent (Some f)
@@ -156,6 +158,7 @@ replies law links clock number i frame was now rows rows' contents contents' par
   makes = makes;
   after = subst (λ (kind : EntryKind). AreAfterStep kind rows rows') (sym y.kind) t.after;
   bars = t.bars;
+  kind = subst (IsKind number) (sym y.kind) t.kind;
   numbers = t.numbers;
   filled = t.filled;
   parts = subst (λ (o : Option Parts). LeavesParts (session_of was).doing parts o) (sym t.parts_are) (parts_stay was.doing i x.kind parts);
@@ -226,6 +229,7 @@ pub record GivenSo (p : Place) (m : More) (v : Served) : Type 0 where
   pub takes : v.takes ≡ false
   pub reply : reply_more p m ≡ Some (reply_by v)
   pub fails : failed_in v.kind ≡ failed_more m
+  pub kind : (n : ℕ) → IsKind n v.kind
   pub talk : ForSome v.reply IsTalk
   pub word : v.word ≡ None
 
@@ -243,6 +247,7 @@ gives_so links clock number was now rows contents contents' parts parts' records
   makes = makes;
   after = so.1;
   bars = λ key. refl;
+  kind = y.kind number;
   numbers = λ n more. still_below number n rows.holds more ready.fresh;
   filled = giving_fills_so m (session_of was) (session_of now) (is_filling rows) w.gives t.next;
   parts = parts_kept (session_of was).doing parts parts' t.same_parts;

@@ -18,6 +18,7 @@ use Rattle.node_model.specs.State.{State}
 use Rattle.node_ends.specs.Ends.{end_at, frame_at, room_at, wait_at}
 use Rattle.p2p_server.specs.declared.session.Session.{Session}
 use Rattle.p2p_server.specs.Answers.{failed_in}
+use Rattle.p2p_server.specs.Bounds.{IsKind}
 use Rattle.p2p_server.specs.Giving.{is_giving}
 use Rattle.p2p_server.specs.States.{IsScene, Keeps, stand_after, stand_of}
 use Rattle.p2p_server.specs.Stepping.{LeavesOthers, Moment, moment_of}
@@ -73,6 +74,7 @@ pub record Serves (links : List EndView) (clock number : ℕ) (was now : Moment)
   pub makes : (s : SetUp) (st : State) (k : Look) → SeesOne links clock number was v s st k → Makes links was now v s st k
   pub after : AreAfterStep v.kind was.rows now.rows
   pub bars : (key : List ℕ) → bar_at now.rows key ≡ bar_at was.rows key
+  pub kind : IsKind number v.kind
   pub numbers : (n : ℕ) → number < n → All (λ h. h.number < n) now.rows.holds
   pub filled : FillsSo (session_of was.session).doing (session_of now.session).doing (is_filling was.rows) (is_filling now.rows)
   pub parts : LeavesParts (session_of was.session).doing was.parts now.parts

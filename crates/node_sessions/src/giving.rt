@@ -4,7 +4,7 @@ ghost use Rattle.std.specs.Option.{ForSome};
 ghost use Rattle.link_ring.specs.Ends.{EndView};
 ghost use Rattle.content_lock.specs.Rows.{Rows};
 ghost use Rattle.p2p_server.specs.Answers.{failed_in};
-ghost use Rattle.p2p_server.specs.Bounds.{FitsMore};
+ghost use Rattle.p2p_server.specs.Bounds.{FitsMore, IsKind};
 ghost use Rattle.p2p_server.specs.Giving.{failed_more, is_giving, reply_more};
 ghost use Rattle.p2p_server.specs.Stepping.{moment_of};
 ghost use Rattle.p2p_server.specs.Talking.{session_of};
@@ -43,6 +43,7 @@ fn given(place: &Place, room: Room, more: More) -> Served
     ensures takes { result.takes ≡ false }
     ensures reply { reply_more place.now more ≡ Some (reply_by result) }
     ensures fails { failed_in result.kind ≡ failed_more more }
+    ensures kind { (number : ℕ) → IsKind number result.kind }
     ensures talk { ForSome result.reply IsTalk }
     ensures word { result.word ≡ None }
 {

@@ -4,16 +4,21 @@ ghost use Rattle.std.specs.List.{list_any};
 ghost use Rattle.std.specs.declared.option.Option.{Option};
 ghost use Rattle.link_ring.specs.Ends.{EndView};
 ghost use Rattle.run_data.specs.declared.entry.Entry.{Entry};
+ghost use Rattle.run_data.specs.declared.entry.EntryKind.{EntryKind};
+ghost use Rattle.run_data.specs.declared.entry.EntryKind.TheVariants.{Crash};
 ghost use Rattle.node_model.specs.After.{state_after};
 ghost use Rattle.node_model.specs.Ends.{EndName, sent_at, taken_at};
+ghost use Rattle.node_model.specs.Files.{lines_after};
 ghost use Rattle.node_model.specs.Look.{Look, Made};
 ghost use Rattle.node_model.specs.Sessions.{new_session};
 ghost use Rattle.node_model.specs.SessionStep.{is_filled, session_step};
 ghost use Rattle.node_model.specs.SetUp.{SetUp};
+ghost use Rattle.node_model.specs.Slots.{job_of};
 ghost use Rattle.node_model.specs.State.{State};
 ghost use Rattle.node_ends.specs.Ends.{end_at};
 ghost use Rattle.object_store.specs.Stores.{Parts};
 ghost use Rattle.p2p_server.specs.declared.session.Session.{Session};
+ghost use Rattle.p2p_server.specs.Bounds.{IsKind};
 ghost use Rattle.node_sessions.specs.declared.served.Served.{Served};
 ghost use Rattle.node_sessions.specs.Kinds.{IsOfSession};
 ghost use Rattle.node_sessions.specs.Serving.{HasPart, ServesAt, end_by, ends_after, made_by, sessions_after};
@@ -50,4 +55,9 @@ pub fn sessions_stay()
 /// What a session makes is an entry of its own, which adds no lines (own).
 pub fn sessions_make_their_own_entries()
     ensures { (s : SetUp) (st : State) (k : Look) (m : Made) → session_step s st k ≡ Some m → IsOfSession m.kind × (m.lines ≡ []) }
+{}
+
+/// An entry of a session is none of a job, and no crash, and adds no lines to a file (own).
+pub fn sessions_entries_are_no_jobs()
+    ensures { (n : ℕ) (kind : EntryKind) → IsKind n kind → (job_of kind ≡ None) × ((clock : ℕ) → kind ≡ Crash clock → ⊥) × ((path : List ℕ) (was lines : List (List ℕ)) → lines_after path was kind lines ≡ was) }
 {}

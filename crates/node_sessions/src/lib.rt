@@ -16,8 +16,8 @@ mod turn;
 mod words;
 
 pub use laws::{
-    looks_see_parts, sessions_and_jobs_fill, sessions_make_their_own_entries,
-    sessions_of_closed_ends_are_new, sessions_stay,
+    looks_see_parts, sessions_and_jobs_fill, sessions_entries_are_no_jobs,
+    sessions_make_their_own_entries, sessions_of_closed_ends_are_new, sessions_stay,
 };
 pub use served::Served;
 pub use sessions::Sessions;

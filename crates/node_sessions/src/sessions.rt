@@ -20,6 +20,7 @@ ghost use Rattle.node_model.specs.SessionStep.{session_step};
 ghost use Rattle.node_model.specs.SetUp.{SetUp};
 ghost use Rattle.node_model.specs.State.{State};
 ghost use Rattle.node_ends.specs.Ends.{AreEnds, SeesEnds};
+ghost use Rattle.p2p_server.specs.Bounds.{IsKind};
 ghost use Rattle.p2p_server.specs.Talking.{AreAfterStep, place_of};
 ghost use Rattle.node_sessions.specs.Serving.{AreAfterIf, JudgedBy, Sees, ServesIf, StepsSo, closing_made, failed_by, sessions_after};
 ghost use Rattle.node_sessions.specs.Sessions.{AreFilled, AreSessions, FedAll, HaveEnds, IsOther, IsSetUp, LeavesPartsOf, OwnAll, connection_of, fills_in};
@@ -156,8 +157,10 @@ impl Sessions {
         ensures same { ends.new ≡ ends.old }
         ensures idle { IfOk result (λ o. o ≡ None → self.new ≡ self.old) }
 
-        // The holds and bars are those that the entry leaves, also where the store doesn't tell its contents.
+        // The holds and bars are those that the entry leaves, also where the store doesn't tell its contents; and the entry is a
+        // session's.
         ensures after { IfOk result (λ o. AreAfterIf o table.old table.new) }
+        ensures kind { IfOk result (λ o. ForSome o (λ v. IsKind number v.kind)) }
         ensures bars { (key : List ℕ) → bar_at table.new key ≡ bar_at table.old key }
         ensures numbers { (n : ℕ) → number < n → All (λ h. h.number < n) table.new.holds }
         ensures owns { OwnAll table.new self.new }

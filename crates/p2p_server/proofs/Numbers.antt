@@ -13,7 +13,7 @@ use Rattle.p2p_server.specs.declared.doing.Doing.{Doing}
 use Rattle.p2p_server.specs.declared.doing.Doing.TheVariants as doings
 use Rattle.content_lock.specs.Rows.{Rows}
 use Rattle.p2p_server.specs.declared.step.Step.{Step}
-use Rattle.p2p_server.specs.Bounds.{Fits, IsNumbered}
+use Rattle.p2p_server.specs.Bounds.{Fits, IsKind}
 use Rattle.p2p_server.specs.Talking.{AreAfterStep, doing_of, guarded_in, label_in, share_in}
 
 abbrev Below : ℕ → Hold → Type 0
@@ -42,9 +42,10 @@ still_below : (n m : ℕ) (hs : List Hold) → n < m → AreBelow n hs → AreBe
 still_below n m hs more less = All-weaker (Below n) (Below m) (λ h l. omega (arith, l, more)) hs less
 
 -- the numbers stay below one that is greater than the entry's
-after_below : (kind : EntryKind) (n m : ℕ) (hs : List Hold) → IsNumbered n kind → n < m → AreBelow m hs → AreBelow m (holds_after hs kind)
-after_below (Share hold end owner key) n m hs is more less =
-    All-cons (Below m) (record { number = hold; key = key; end = end; kept = false; owner = owner }) hs (subst (λ (k : ℕ). k < m) (sym is) more) less
+after_below : (kind : EntryKind) (n m : ℕ) (hs : List Hold) → IsKind n kind → n < m → AreBelow m hs → AreBelow m (holds_after hs kind)
+after_below (Share hold end (Peer peer slot) key) n m hs is more less =
+    All-cons (Below m) (record { number = hold; key = key; end = end; kept = false; owner = Peer peer slot }) hs (subst (λ (k : ℕ). k < m) (sym is) more) less
+after_below (Share hold end owner key) n m hs is more less = absurd is
 after_below (Release number key) n m hs is more less = All-filter (λ (h : Hold). not (h.number == number)) (Below m) hs less
 after_below (Close peer slot client) n m hs is more less = closed_below client (Peer peer slot) m hs less
 after_below (Fault Unhold owner) n m hs is more less = kept_below owner m hs less
@@ -54,7 +55,7 @@ after_below kind n m hs is more less = less
 
 pub numbers_so : {E : Type 0} (r : Result Step E) (was now : Rows) (n m : ℕ) → AreBelow n was.holds → IfOk r (λ s. AreAfterStep s.kind was now) → IfOk r (Fits n) → OnErr r (now ≡ was)
     → n < m → AreBelow m now.holds
-numbers_so (Ok s) was now n m less after fits same more = subst (AreBelow m) (sym after.holds) (after_below s.kind n m was.holds fits.hold more (still_below n m was.holds more less))
+numbers_so (Ok s) was now n m less after fits same more = subst (AreBelow m) (sym after.holds) (after_below s.kind n m was.holds fits.kind more (still_below n m was.holds more less))
 numbers_so (Err e) was now n m less after fits same more = subst (λ (x : Rows). AreBelow m x.holds) (sym same) (still_below n m was.holds more less)
 
 pub closed_numbers : (o : By) (n : ℕ) (was now : List Hold) → now ≡ map (keep_of o) was → AreBelow n was → AreBelow n now

@@ -133,7 +133,7 @@ released_so x key s s' share was now contents contents' parts parts' records rec
     (subst (λ (t : Step). IsStep x (incoming.Message (messages.UnlockContent key)) (moment_of (going s (doings.Guards share)) was contents parts records faults) (moment_of (waiting s.place s.spoken) now contents' parts' records' faults') t) (sym literal)
     (unlocks x key s.place s.spoken share was now contents contents' parts parts' records records' faults faults' (Release share.number share.key)
     (λ c known part right. record { answers = refl; changes = record { contents = c; told = told ∙ known; present = λ k. refl; sizes = λ k. refl } })
-    same_key tt after after.bars (record { hold = tt; reply = tt }) (subst (λ (b : By). Owns b None now.holds) by (owns mine)) (subst (λ (b : By). LeavesOthers b was now) by others) same agrees later tt)))
+    same_key tt after after.bars (record { kind = tt; reply = tt }) (subst (λ (b : By). Owns b None now.holds) by (owns mine)) (subst (λ (b : By). LeavesOthers b was now) by others) same agrees later tt)))
 
 -- ---- a phase that goes on, with nothing said
 
@@ -148,7 +148,7 @@ quiet x m place spoken d d' rows contents parts records faults answer other goes
   does = λ c told part right sees. quiets x rows c contents part right (λ h. on_message h spoken (doing_of d) m) silent refl told (sym (answer (here_of x rows c None part right)));
   after = record { holds = refl; bars = λ k. refl };
   bars = λ k. refl;
-  fits = record { hold = tt; reply = tt };
+  fits = record { kind = tt; reply = tt };
   filled = filled;
   next = λ size sees. λ j. record { version = spoken; doing = goes size j };
   place = refl;
@@ -204,7 +204,7 @@ piece_put x bytes place spoken t d' rows contents contents' parts parts' records
       (piece_taken (here_of x rows c None part right) t.fill t.size t.left (length bytes.items) refl some fits);
   after = record { holds = refl; bars = λ k. refl };
   bars = λ k. refl;
-  fits = record { hold = tt; reply = tt };
+  fits = record { kind = tt; reply = tt };
   filled = takes_piece (doings.Takes t) rows (length bytes.items) (doing_of d') at.fills goes;
   next = λ size sees. λ j. record { version = spoken; doing = goes j };
   place = refl;
@@ -292,7 +292,7 @@ invalid_so x s s' was now contents parts records faults step at phase new gone a
           (sym (answer (here_of x was c None part right) s.doing phase));
       after = stays (Talk None) s.place.peer s.place.slot was now (nothing_kept (owner_at s.place) s.doing was.holds phase at.owns) gone.after (λ r. record { holds = refl; bars = λ k. refl });
       bars = gone.after.bars;
-      fits = record { hold = tt; reply = tt };
+      fits = record { kind = tt; reply = tt };
       filled = gone.filled;
       next = λ size sees. refl;
       place = refl;

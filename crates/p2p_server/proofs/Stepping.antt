@@ -54,7 +54,7 @@ closes_now x i s was now contents parts records faults m here answer stay short 
   };
   after = gone.after;
   bars = gone.after.bars;
-  fits = record { hold = tt; reply = short };
+  fits = record { kind = tt; reply = short };
   filled = gone.filled;
   next = λ size sees. refl;
   place = refl;

@@ -20,7 +20,7 @@ use Rattle.p2p_server.specs.declared.place.Scene.{Scene}
 use Rattle.p2p_server.specs.declared.session.Session.{Session}
 use Rattle.p2p_server.specs.declared.step.Step.{Step}
 use Rattle.p2p_server.specs.Answers.{failed_in, owner_at, reply_of}
-use Rattle.p2p_server.specs.Bounds.{IsReplyIf}
+use Rattle.p2p_server.specs.Bounds.{IsKind, IsReplyIf}
 use Rattle.p2p_server.specs.States.{IsScene, Keeps, Stand, stand_after, stand_of}
 use Rattle.p2p_server.specs.Stepping.{Goes, IsAt, LeavesOthers, Moment}
 use Rattle.p2p_server.specs.Talking.{AreAfterStep, Brings, FillsSo, HasFill, IsFedOf, IsJudgedOf, SaysSo, SeesPartOf, SeesSize, parts_after_of, session_of, share_in}
@@ -60,6 +60,10 @@ bars_told x i was now (Err e) goes = tt
 pub reply_told : {E : Type 0} (x : Scene) (i : Incoming) (was now : Moment) (r : Result Step E) → Goes x i was now r → IfOk r (λ step. IsReplyIf step.reply)
 reply_told x i was now (Ok step) goes = goes.fits.reply
 reply_told x i was now (Err e) goes = tt
+
+pub kind_told : {E : Type 0} (x : Scene) (i : Incoming) (was now : Moment) (r : Result Step E) → Goes x i was now r → IfOk r (λ step. IsKind x.number step.kind)
+kind_told x i was now (Ok step) goes = goes.fits.kind
+kind_told x i was now (Err e) goes = tt
 
 pub parts_told : {E : Type 0} (x : Scene) (i : Incoming) (was now : Moment) (r : Result Step E) → Goes x i was now r → IfOk r (λ step. now.parts ≡ parts_after_of was.session i step.kind was.parts)
 parts_told x i was now (Ok step) goes = goes.parts

@@ -1,18 +1,28 @@
--- What each step keeps: a hold has its entry's number, and replies are short lines (the project's own).
-use Rattle.std.specs.Prelude.{◌≡◌, ℕ, ◌<◌, ◌≤◌, ◌^◌, true, ◌||◌, length, Option, Some, None, bytes_eq, codes}
+-- What each step keeps: its entry is a session's, a hold has its number, and replies are short lines (the project's own).
+use Rattle.std.specs.Prelude.{◌≡◌, ℕ, ◌<◌, ◌≤◌, ◌^◌, true, false, ◌||◌, length, Option, Some, None, bytes_eq, codes}
+use Rattle.annex_base.specs.Calls.{same_call}
+use Rattle.annex_base.specs.declared.kinds.Call.TheVariants.{PutFile}
 use Rattle.annex_base.specs.RepoText.{IsId}
+use Rattle.run_data.specs.declared.entry.By.TheVariants.{Peer}
 use Rattle.run_data.specs.declared.entry.EntryKind.{EntryKind}
-use Rattle.run_data.specs.declared.entry.EntryKind.TheVariants.{Share}
+use Rattle.run_data.specs.declared.entry.EntryKind.TheVariants.{Check, Close, Fault, Gain, Gone, Release, Share, Talk}
 use Rattle.p2p_wire.specs.declared.message.Message.{Message}
 use Rattle.p2p_wire.specs.declared.message.Message.TheVariants.{AuthSuccess, Version, Timestamp, PutFrom, AlreadyHave, Data, Valid, Invalid, Success, Failure, Error}
 use Rattle.p2p_server.specs.declared.more.More.{More}
 use Rattle.p2p_server.specs.declared.more.More.TheVariants as more
 use Rattle.p2p_server.specs.declared.step.Step.{Step}
 
--- a hold that an entry of this kind adds has this number
-abbrev pub IsNumbered : ℕ → EntryKind → Type 0
-IsNumbered n (Share hold end owner key) = hold ≡ n
-IsNumbered n kind = Unit {0}
+-- an entry that a session makes, of this number: a peer is for whom it acts, a hold that it adds has that number, and the failed call puts no file
+abbrev pub IsKind : ℕ → EntryKind → Type 0
+IsKind n (Talk None) = Unit {0}
+IsKind n (Check found key) = Unit {0}
+IsKind n (Share hold end (Peer peer slot) key) = hold ≡ n
+IsKind n (Release hold key) = Unit {0}
+IsKind n (Gone (Peer peer slot) key) = Unit {0}
+IsKind n (Gain (Peer peer slot) size key) = Unit {0}
+IsKind n (Fault call (Peer peer slot)) = same_call call PutFile ≡ false
+IsKind n (Close peer slot false) = Unit {0}
+IsKind n kind = ⊥
 
 -- a message that a session says: no key, no file and no foreign text is in it
 abbrev pub IsReply : Message → Type 0
@@ -33,13 +43,14 @@ abbrev pub IsReplyIf : Option Message → Type 0
 IsReplyIf None = Unit {0}
 IsReplyIf (Some m) = IsReply m
 
--- a step whose entry has this number
+-- a step of a session whose entry has this number
 pub record Fits (number : ℕ) (step : Step) : Type 0 where
-  pub hold : IsNumbered number step.kind
+  pub kind : IsKind number step.kind
   pub reply : IsReplyIf step.reply
 
--- a piece has at most 32,768 bytes
+-- a piece has at most 32,768 bytes, and the failed call puts no file
 abbrev pub FitsMore : More → Type 0
 FitsMore (more.Piece bytes) = length bytes.items ≤ 32768
 FitsMore (more.Last m) = IsReply m
+FitsMore (more.Fault call) = same_call call PutFile ≡ false
 FitsMore m = Unit {0}

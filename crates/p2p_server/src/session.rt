@@ -20,7 +20,7 @@ ghost use Rattle.content_lock.specs.Rows.{Rows, bar_at, is_filling};
 ghost use Rattle.content_lock.specs.Stored.{Agrees};
 ghost use Rattle.content_lock.specs.Tokens.{Owns, ShareView, given_in};
 ghost use Rattle.p2p_server.specs.Answers.{failed_in, owner_at, reply_of, size_in};
-ghost use Rattle.p2p_server.specs.Bounds.{Fits, FitsMore, IsReplyIf};
+ghost use Rattle.p2p_server.specs.Bounds.{Fits, FitsMore, IsKind, IsReplyIf};
 ghost use Rattle.p2p_server.specs.Giving.{IsPieceOf, failed_more, is_giving, reply_more, session_sent};
 ghost use Rattle.p2p_server.specs.Phases.{HasLeft, HasRoom, IsBare, IsGave, IsGuarding, IsLonger, IsMoving, IsTook, IsWanting, WithinOf};
 ghost use Rattle.p2p_server.specs.States.{IsScene, Keeps, Stand, stand_after, stand_of};
@@ -587,8 +587,9 @@ impl Session {
             → SeesPartOf (K.parts keeper.old) self.old incoming.now part right → Keeps table.new (K.contents keeper.new) (stand_after step.kind stand)) }
 
         // The holds and bars are those that its entry leaves, also where the store doesn't tell its contents. Numbers of holds
-        // stay below that of the next entry; replies are short.
+        // stay below that of the next entry; replies are short. The entry is a session's.
         ensures after { IfOk result (λ step. AreAfterStep step.kind table.old table.new) }
+        ensures kind { IfOk result (λ step. IsKind number step.kind) }
         ensures bars { IfOk result (λ step. (key : List ℕ) → bar_at table.new key ≡ bar_at table.old key) }
         ensures reply { IfOk result (λ step. IsReplyIf step.reply) }
         ensures numbers { (n : ℕ) → number < n → All (λ h. h.number < n) table.new.holds }

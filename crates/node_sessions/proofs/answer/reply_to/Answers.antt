@@ -9,5 +9,5 @@ returns-clause-serves g c = λ links w.
     let y = c.answered.ensures in
     replies c.replies_are_short_lines.ensures.line links c.args.clock c.args.number c.in_ok-incoming.incoming c.args.frame.now c.args.session.now c.take.new.self c.args.table.now c.take.new.table _ _ _ _ _ _ _ _
     c.in_ok-step.step c.place-place.result c.answered.result c.requires.body c.in_ok-incoming.ensures w (c.place-place.ensures ∙ e.place)
-    (record { step = e.step; keeps = e.rows; after = e.after; bars = e.bars; reply = e.reply; numbers = e.numbers; next = e.next; parts_are = e.parts; fed = e.fed; judged = e.judged; filled = e.filled; place = e.place; owns = e.owns; fills = e.fills; others = e.others; agrees = e.agrees; later = e.later; cause = e.cause })
+    (record { step = e.step; keeps = e.rows; after = e.after; bars = e.bars; kind = e.kind; reply = e.reply; numbers = e.numbers; next = e.next; parts_are = e.parts; fed = e.fed; judged = e.judged; filled = e.filled; place = e.place; owns = e.owns; fills = e.fills; others = e.others; agrees = e.agrees; later = e.later; cause = e.cause })
     (record { peer = y.at.0; slot = y.at.1; takes = y.takes; kind = y.kind; reply = y.reply; talk = y.talk; word = y.word })

@@ -4,7 +4,7 @@ use Rattle.p2p_server.specs.declared.session.Session.{Session}
 use Rattle.node_sessions.specs.Moments.{ServesAmong}
 use Rattle.node_sessions.specs.Sessions.{Every}
 use Rattle.node_sessions.specs.Turns.{turn_at}
-use Rattle.node_sessions.proofs.Among.{among_bars, among_fed, among_filled, among_judged, among_member, among_own, among_parts, among_places, among_same, among_steps, among_there}
+use Rattle.node_sessions.proofs.Among.{among_bars, among_fed, among_filled, among_judged, among_kind, among_member, among_own, among_parts, among_places, among_same, among_steps, among_there}
 use Rattle.node_sessions.proofs.Stepping.{none_steps}
 use Rattle.node_sessions.proofs.Turning.{IdleBelow}
 use Rattle.node_sessions.proofs.sessions.Sessions.step.Given as given
@@ -49,6 +49,9 @@ returns-in_ok-served-in-Some-clause-judged g c = among_judged _ _ _ _ _ _ _ _ _ 
 
 pub returns-in_ok-served-in-Some-clause-among : goal.returns-in_ok-served-in-Some-clause-among
 returns-in_ok-served-in-Some-clause-among g c = among_member _ _ _ _ _ _ _ _ _ _ _ _ _ _ _ _ _ (whole g c)
+
+pub returns-in_ok-served-in-Some-clause-kind : goal.returns-in_ok-served-in-Some-clause-kind
+returns-in_ok-served-in-Some-clause-kind g c = among_kind _ _ _ _ _ _ _ _ _ _ _ _ _ _ _ _ _ (whole g c)
 
 pub returns-in_ok-served-in-Some-clause-bars : goal.returns-in_ok-served-in-Some-clause-bars
 returns-in_ok-served-in-Some-clause-bars g c = among_bars _ _ _ _ _ _ _ _ _ _ _ _ _ _ _ _ _ (whole g c)

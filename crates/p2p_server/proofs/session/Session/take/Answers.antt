@@ -1,7 +1,7 @@
 -- What the one value of an answer tells.
 use Rattle.std.proofs.Common.{refl}
 use Rattle.p2p_server.proofs.Numbers.{guards_so}
-use Rattle.p2p_server.proofs.Taking.{after_told, bars_told, cause_told, contents_as_before, fed_told, filled_told, judged_told, next_told, numbers_told, parts_as_before, parts_told, records_as_before, remains, reply_told, rows_told, session_as_before, step_told}
+use Rattle.p2p_server.proofs.Taking.{after_told, bars_told, cause_told, contents_as_before, fed_told, filled_told, judged_told, kind_told, next_told, numbers_told, parts_as_before, parts_told, records_as_before, remains, reply_told, rows_told, session_as_before, step_told}
 use Rattle.p2p_server.proofs.session.Session.take.Goals as goal
 
 pub hear-requires-clause-at : goal.hear-requires-clause-at
@@ -24,6 +24,9 @@ returns-clause-bars g c = bars_told _ _ _ _ c.hear.result c.hear.ensures.goes
 
 pub returns-clause-reply : goal.returns-clause-reply
 returns-clause-reply g c = reply_told _ _ _ _ c.hear.result c.hear.ensures.goes
+
+pub returns-clause-kind : goal.returns-clause-kind
+returns-clause-kind g c = kind_told _ _ _ _ c.hear.result c.hear.ensures.goes
 
 pub returns-clause-numbers : goal.returns-clause-numbers
 returns-clause-numbers g c = λ n more. numbers_told _ _ _ _ c.hear.result c.hear.ensures.goes c.requires.fresh n more
