@@ -6,3 +6,4 @@ pub mod Served
 pub mod Posting
 pub mod Acted
 pub mod Staying
+pub mod Quiet

@@ -8,6 +8,7 @@ use Rattle.node_sessions.specs.Serving.{ServesIf}
 use Rattle.node_sessions.specs.Sessions.{FedAll}
 use Rattle.node_parts.specs.Parts.{PartsView}
 use Rattle.node_parts.specs.Steps.{LeavesSo, Serves}
+use Rattle.node_parts.proofs.Quiet.{quiet_if}
 use Rattle.node_parts.proofs.Served.{leaves_at, step_of}
 use Rattle.node_parts.proofs.Sounding.{no_jobs, sound_after, there_still}
 use Rattle.node_parts.proofs.parts.Parts.serve.Goals as goal
@@ -54,3 +55,6 @@ returns-clause-leaves g c =
     let e = c.in_ok-served.ensures in
     subst (λ (p : PartsView). LeavesSo c.args.moment.number p now c.serve_if.result) c.self.view_is
     (leaves_at c.args.moment.number was now c.step.new.ends c.in_ok-served.served c.serve_if.result refl e.same c.serve_if.ensures.made e.after (e.numbers (c.args.moment.number + 1) (omega arith)) c.serve_if.ensures.after e.idle)
+
+pub returns-clause-kind : goal.returns-clause-kind
+returns-clause-kind g c = quiet_if c.sessions_entries_are_no_jobs.ensures c.args.moment.number c.step.new.ends c.in_ok-served.served c.serve_if.result c.serve_if.ensures.made c.in_ok-served.ensures.kind
