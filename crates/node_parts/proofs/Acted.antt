@@ -1,10 +1,11 @@
 -- What a job does is the step of the parts.
 use Rattle.std.proofs.Common.{◌≡◌, ◌⊎◌, inl, inr, ℕ, ◌<◌, ◌+◌, ◌*◌, Bool, true, false, List, [], ◌∷◌, Option, Some, None, is_some, length, map, refl, sym, ap, subst, ◌∙◌, arith}
-use Rattle.std.specs.Prelude.{All, bytes_eq, find, fold, not, ◌&&◌, ◌==◌, if◌then◌else◌}
+use Rattle.std.specs.Prelude.{All, IfOk, Result, Ok, Err, bytes_eq, find, fold, not, ◌&&◌, ◌==◌, if◌then◌else◌}
 use Rattle.std.specs.List.{list_any}
 use Rattle.std.specs.Option.{ForSome, option_map, option_map_or}
 use Rattle.std.proofs.lemmas.Bool.{cases_Bool, true≢false}
 use Rattle.std.proofs.lemmas.List.Elements.{All-weaker}
+use Rattle.std.proofs.lemmas.Option.{same_Some}
 use Rattle.annex_base.specs.Lists.{Each}
 use Rattle.annex_base.specs.Settings.{Settings}
 use Rattle.run_data.specs.declared.entry.By.{By}
@@ -13,7 +14,7 @@ use Rattle.run_data.specs.declared.entry.EntryKind.{EntryKind}
 use Rattle.run_data.specs.declared.entry.EntryKind.TheVariants as kinds
 use Rattle.run_data.specs.declared.entry.FrameView.{FrameView}
 use Rattle.run_data.specs.declared.row.Hold.{Hold}
-use Rattle.object_store.specs.Stores.{Contents}
+use Rattle.object_store.specs.Stores.{Contents, with_at}
 use Rattle.trust_groups.specs.Settings.{Lines, settings}
 use Rattle.content_lock.specs.Rows.{Rows, bar_at}
 use Rattle.content_lock.specs.Tokens.{Owns}
@@ -116,20 +117,23 @@ module _ (c : Contents) (s : SetUp) (st : State) (e : Entry) (has : HasContents 
   gone_content true o was is = refl
   gone_content false o was is = is
 
+  told_here : (kind : EntryKind) (now : Contents) → After kind now → ForSome (Some now) (After kind)
+  told_here kind now after x is = subst (After kind) (same_Some now x is) after
+
   onward_contents : (job : ℕ) (kind : EntryKind) → IsOnward job kind → ForSome (contents_after (Some c) kind) (After kind)
-  onward_contents job (kinds.Share hold end owner key) h = record { present = has.present; content = has.content }
-  onward_contents job (kinds.Bar j need key) h = record { present = has.present; content = has.content }
-  onward_contents job (kinds.Order j target deadline need key) h = record { present = has.present; content = has.content }
-  onward_contents job (kinds.Gone source place) h = record {
+  onward_contents job (kinds.Share hold end owner key) h = told_here (kinds.Share hold end owner key) c (record { present = has.present; content = has.content })
+  onward_contents job (kinds.Bar j need key) h = told_here (kinds.Bar j need key) c (record { present = has.present; content = has.content })
+  onward_contents job (kinds.Order j target deadline need key) h = told_here (kinds.Order j target deadline need key) c (record { present = has.present; content = has.content })
+  onward_contents job (kinds.Gone source place) h = told_here (kinds.Gone source place) (with_at c place None) (record {
     present = λ key. gone_present (bytes_eq place key) (c key) (st.present key) (has.present key);
     content = λ key. gone_content (bytes_eq place key) (c key) (st.content key) (has.content key);
-  }
-  onward_contents job (kinds.Talk j) h = record { present = has.present; content = has.content }
-  onward_contents job (kinds.Fault call source) h = record { present = has.present; content = has.content }
+  })
+  onward_contents job (kinds.Talk j) h = told_here (kinds.Talk j) c (record { present = has.present; content = has.content })
+  onward_contents job (kinds.Fault call source) h = told_here (kinds.Fault call source) c (record { present = has.present; content = has.content })
   onward_contents job kind h = absurd h
 
   last_contents : (job : ℕ) (kind : EntryKind) → IsLast job kind → ForSome (contents_after (Some c) kind) (After kind)
-  last_contents job (kinds.End j outcome) h = record { present = has.present; content = has.content }
+  last_contents job (kinds.End j outcome) h = told_here (kinds.End j outcome) c (record { present = has.present; content = has.content })
   last_contents job kind h = absurd h
 
   job_contents : (job : ℕ) (kind : EntryKind) → IsOfJob job kind → ForSome (contents_after (Some c) kind) (After kind)
@@ -196,7 +200,7 @@ module _ (asked : NamelessAsked) (room_there : RoomThere) (own_entries : OwnEntr
   steps_none step same told = record {
     made = (step s st k (sees_jobs k.room sees.ends.room) keeps tt).made;
     parts = subst (AreParts s st) (sym same) sees.parts;
-    stored = subst (λ (o : Option Contents). ForSome o (λ x. HasContents x st)) (sym told) sees.stored;
+    stored = subst (λ (o : Option Contents). ForSome o (λ x. HasContents x st)) (sym told) (λ x is. subst (λ (y : Contents). HasContents y st) (same_Some c x is) sees.stored);
   }
 
   module _ (a : Acted) (d : Done) (step : StepsThere was now.jobs clock view time number c (Some a)) (acted : IsActed was.links now.links a d) (kind : IsOfJob a.job a.kind)
@@ -231,7 +235,7 @@ module _ (asked : NamelessAsked) (room_there : RoomThere) (own_entries : OwnEntr
     made : job_step s st k ≡ Some (made_of d)
     made = steps.made ∙ ap (λ (m : Made). Some m) (sym same)
 
-    e : Entry
+    abbrev e : Entry
     e = entry_of s.number k (made_of d)
 
     of_job : IsOfJob a.job d.kind
@@ -287,16 +291,15 @@ module _ (asked : NamelessAsked) (room_there : RoomThere) (own_entries : OwnEntr
 
 pub acts_none : NamelessAsked → RoomThere → OwnEntries → EndsGo → SessionsStay → (was now : PartsView) (clock : ClockSet) (view : Settings) (time number : ℕ) (known contents : Option Contents) → AreSound was
     → ForSome known (λ c. StepsThere was now.jobs clock view time number c None) → now ≡ was → contents ≡ known → ForSome known (λ c. Acts was now c contents clock view time number None)
-acts_none asked room own go stay was now clock view time number None contents sound step same told = tt
-acts_none asked room own go stay was now clock view time number (Some c) contents sound step same told =
-    λ s st k logs sees fails words. steps_none asked room own go stay was now clock view time number c contents sound s st k logs sees step same told
+acts_none asked room owns go stay was now clock view time number known contents sound step stays told = λ c is s st k logs sees fails words.
+    steps_none asked room owns go stay was now clock view time number c contents sound s st k logs sees (step c is) stays (told ∙ is)
 
 pub acts_some : NamelessAsked → RoomThere → OwnEntries → EndsGo → SessionsStay → (was now : PartsView) (clock : ClockSet) (view : Settings) (time number : ℕ) (known contents : Option Contents) → AreSound was
     → (a : Acted) (d : Done) → ForSome known (λ c. StepsThere was now.jobs clock view time number c (Some a)) → IsActed was.links now.links a d → IsOfJob a.job a.kind → LeavesJobs was.links was.jobs now.jobs was.table now.table known contents a
     → now.jobs.place ≡ was.jobs.place → now.sessions ≡ was.sessions → ForSome known (λ c. Acts was now c contents clock view time number (Some d))
-acts_some asked room own go stay was now clock view time number None contents sound a d step acted kind leaves place still = tt
-acts_some asked room own go stay was now clock view time number (Some c) contents sound a d step acted kind leaves place still =
-    λ s st k logs sees fails words. steps_some asked room own go stay was now clock view time number c contents sound s st k logs sees a d step acted kind leaves place still fails (words d refl)
+acts_some asked room owns go stay was now clock view time number known contents sound a d step acted kind leaves place still = λ c is s st k logs sees fails words.
+    steps_some asked room owns go stay was now clock view time number c contents sound s st k logs sees a d (step c is) acted kind
+    (subst (λ (o : Option Contents). LeavesJobs was.links was.jobs now.jobs was.table now.table o contents a) is leaves) place still (fails d refl) (words d refl)
 
 -- ---- what is left
 
@@ -368,3 +371,7 @@ module _ (p : PartsView) (c : Contents) (clock : ClockSet) (time number : ℕ) (
         counts = sees.number;
         at = sym sees.time;
       }) (record { present = sees.stored.present; bar = sees.parts.bars; holds = sees.parts.holds })
+
+pub if_ok : {E : Type 0} (P Q : Bool → Type 0) → ((b : Bool) → P b → Q b) → (r : Result Bool E) → IfOk r P → IfOk r Q
+if_ok P Q f (Ok b) is = f b is
+if_ok P Q f (Err e) is = is

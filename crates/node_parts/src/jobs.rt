@@ -16,7 +16,7 @@ ghost use Rattle.node_parts.specs.Steps.{Acts, LeavesSo, SeesParts, failed_by};
 
 use crate::acting::act;
 use crate::done::Done;
-use crate::moment::Moment;
+use crate::moment::{Moment, stamp_at};
 use crate::parts::Parts;
 use annex_base::NoMemory;
 use node_ends::ends_go_on;
@@ -64,17 +64,23 @@ impl Parts {
         local_drops_send_where_there_is_room();
         nameless_are_asked();
         sessions_stay();
-        let stamp = moment.stamp(self.jobs.number());
+        let Moment {
+            time,
+            clock,
+            count,
+            number,
+        } = moment;
+        let stamp = stamp_at(time, count, self.jobs.number());
         let repositories = self.jobs.repositories();
         let acted = self.jobs.step(
             alloc,
-            moment.clock,
+            clock,
             settings,
             &mut self.ends,
             &mut self.table,
             keeper,
-            moment.time,
-            moment.number,
+            time,
+            number,
         )?;
         match acted {
             None => Ok(None),
@@ -89,10 +95,15 @@ impl Parts {
     {
         // A law, for the proof.
         nameless_are_asked();
+        let Moment {
+            time,
+            clock,
+            count: _,
+            number: _,
+        } = moment;
         if self.sessions.is_ready(&mut self.ends) {
             return Ok(true);
         }
-        self.jobs
-            .is_ready(alloc, moment.clock, &mut self.ends, moment.time)
+        self.jobs.is_ready(alloc, clock, &mut self.ends, time)
     }
 }

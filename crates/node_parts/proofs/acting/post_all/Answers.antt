@@ -1,7 +1,7 @@
 -- The parcels are sent in order.
-use Rattle.std.proofs.Common.{List, ◌∙◌, sym, subst, arith}
+use Rattle.std.proofs.Common.{◌∙◌, sym, subst, arith}
+use Rattle.std.proofs.lemmas.List.{nil_from_length}
 use Rattle.std.specs.Vec.Iter.{into_iter_items}
-use Rattle.drop_worker.specs.declared.turn.Parcel.{Parcel}
 use Rattle.node_parts.proofs.Posting.{GoesWell, all_well, goes_first, goes_on_well, goes_placed}
 use Rattle.node_parts.proofs.Sounding.{stay_on, stay_same}
 use Rattle.node_parts.proofs.acting.post_all.Goals as goal
@@ -31,4 +31,6 @@ loop-parcel-preserved c =
 
 pub returns-clause-well : goal.returns-clause-well
 returns-clause-well c = λ was taken before quiet all.
-    all_well was taken c.args.slot c.args.sent.now.items c.args.parcels.items c.loop-parcel.sent.items (into_iter_items c.loop-parcel.parcel-iterator) c.in-None.ensures.steps.0 (c.loop-parcel.invariant.well was taken before quiet all)
+    let left = c.loop-parcel.parcel-iterator in
+    all_well was taken c.args.slot c.args.sent.now.items c.args.parcels.items c.loop-parcel.sent.items (into_iter_items left) (nil_from_length (into_iter_items left) (sym left.rest.ok.0 ∙ c.in-None.ensures.steps.0))
+    (c.loop-parcel.invariant.well was taken before quiet all)
