@@ -28,8 +28,8 @@ use link_ring::Links;
 use node_ends::{Ends, carry_ends, ends_begin_closed, ends_go_on};
 use node_jobs::{BeginRefused, Jobs, Place, jobs_stay};
 use node_sessions::{
-    Sessions, looks_see_parts, sessions_and_jobs_fill, sessions_entries_are_no_jobs, sessions_make_their_own_entries,
-    sessions_of_closed_ends_are_new, sessions_stay,
+    Sessions, looks_see_parts, sessions_and_jobs_fill, sessions_entries_are_no_jobs,
+    sessions_make_their_own_entries, sessions_of_closed_ends_are_new, sessions_stay,
 };
 use object_store::Keeper;
 use run_data::{Job, JobKind};

@@ -1,22 +1,21 @@
 -- What stands beside a history stays so after a job begins, and after frames are dropped or carried.
-use Rattle.std.proofs.Common.{◌≡◌, ℕ, ◌≤◌, ◌<◌, ◌+◌, Bool, true, List, [], ◌∷◌, ◌++◌, All, Option, Some, None, Result, Ok, Err, IfOk, OnErr, length, is_some, refl, sym, ap, subst, arith, ◌∙◌}
+use Rattle.std.proofs.Common.{◌≡◌, ℕ, ◌≤◌, ◌<◌, ◌+◌, List, [], ◌∷◌, ◌++◌, All, Option, Some, None, length, is_some, refl, sym, ap, subst, arith, ◌∙◌}
 use Rattle.std.proofs.lemmas.List.{length-append}
 use Rattle.std.proofs.lemmas.List.Elements.{All-weaker}
 use Rattle.run_data.specs.declared.entry.Entry.{Entry}
-use Rattle.run_data.specs.declared.entry.EntryKind.{EntryKind}
 use Rattle.run_data.specs.declared.entry.EntryKind.TheVariants.{Begin}
 use Rattle.run_data.specs.declared.job.Job.{Job}
 use Rattle.run_data.specs.declared.row.Hold.{Hold}
 use Rattle.object_store.specs.Stores.{Contents, Parts as StoredParts}
 use Rattle.content_lock.specs.Rows.{Rows, bar_at, is_filling}
-use Rattle.union_merge.specs.Branch.{Files, lines_at}
+use Rattle.union_merge.specs.Branch.{Files}
 use Rattle.node_jobs.specs.Acting.{with_job}
 use Rattle.node_jobs.specs.Running.{Jobs}
 use Rattle.node_model.specs.After.{state_after}
 use Rattle.node_model.specs.Owed.{Owed}
 use Rattle.node_model.specs.SetUp.{SetUp}
 use Rattle.node_model.specs.State.{State}
-use Rattle.node_parts.specs.Parts.{AreParts, HasContents, PartsView}
+use Rattle.node_parts.specs.Parts.{AreParts, PartsView}
 use Rattle.node_parts.specs.Sound.{AreSound}
 use Rattle.repo_node.specs.declared.past.Past.{Past}
 use Rattle.repo_node.specs.declared.setup.Ended.{Ended}
@@ -24,7 +23,7 @@ use Rattle.repo_node.specs.declared.setup.Setup.{Setup}
 use Rattle.node_sessions.specs.Sessions.{FedAll}
 use Rattle.std.specs.Option.{ForSome}
 use Rattle.repo_node.specs.Kept.{IsFed, IsKept}
-use Rattle.repo_node.specs.Nodes.{Fits, IsState, NodeView, Stands, state_of, with_entry}
+use Rattle.repo_node.specs.Nodes.{Fits, IsState, NodeView, state_of, with_entry}
 use Rattle.repo_node.specs.Pasts.{AddsTo, SamePast}
 use Rattle.repo_node.proofs.MoveLemmas.{seen}
 use Rattle.repo_node.proofs.OwedLemmas.{Grows, grows_adds}

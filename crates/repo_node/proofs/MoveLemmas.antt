@@ -1,11 +1,8 @@
 -- What a step of the sessions or of the jobs adds to a node.
-use Rattle.std.proofs.Common.{◌≡◌, ℕ, ◌+◌, Bool, true, false, List, [], ◌∷◌, ◌++◌, Option, Some, None, Result, Ok, Err, IfOk, length, is_some, refl, sym, ap, subst, ◌∙◌}
+use Rattle.std.proofs.Common.{◌≡◌, ℕ, ◌+◌, Bool, false, List, [], ◌∷◌, ◌++◌, Option, Some, None, Result, Ok, Err, IfOk, length, is_some, refl, sym, ap, subst, ◌∙◌}
 use Rattle.std.specs.Prelude.{IfSome, vec_len}
 use Rattle.std.specs.Option.{ForSome}
-use Rattle.std.proofs.lemmas.List.{append-nil}
 use Rattle.annex_base.specs.Causes.{Rose}
-use Rattle.annex_base.specs.Settings.{Settings}
-use Rattle.annex_base.specs.declared.kinds.Call.{Call}
 use Rattle.trust_groups.specs.Reads.{Indices, Reads}
 use Rattle.trust_groups.specs.Settings.{Lines, settings}
 use Rattle.trust_groups.specs.View.{settings_of}
@@ -15,9 +12,8 @@ use Rattle.run_data.specs.declared.entry.FrameView.{FrameView}
 use Rattle.object_store.specs.Stores.{Contents, Parts as StoredParts}
 use Rattle.union_merge.specs.Branch.{Files, lines_at}
 use Rattle.drop_worker.specs.Working.{failed_in}
-use Rattle.link_ring.specs.Ends.{EndView}
 use Rattle.annex_base.specs.declared.memory.NoMemory.{NoMemory}
-use Rattle.node_model.specs.Look.{Look, Made, entry_of, first_of}
+use Rattle.node_model.specs.Look.{Look, Made, first_of}
 use Rattle.node_model.specs.SessionStep.{session_step}
 use Rattle.node_model.specs.SetUp.{SetUp}
 use Rattle.node_model.specs.State.{State}
@@ -27,15 +23,14 @@ use Rattle.node_sessions.specs.Sessions.{FedAll}
 use Rattle.node_parts.specs.declared.done.Done.{Done}
 use Rattle.node_parts.specs.declared.moment.Moment.{Moment}
 use Rattle.node_parts.specs.Parts.{PartsView}
-use Rattle.node_parts.specs.Steps.{Acts, Fails, FindsPart, Hears, Leaves, LeavesSo, SeesParts, Serves, Steps, failed_by, made_of, words_heard}
+use Rattle.node_parts.specs.Steps.{Acts, Leaves, LeavesSo, SeesParts, Serves, failed_by, made_of, words_heard}
 use Rattle.repo_node.specs.declared.past.Past.{Past}
 use Rattle.repo_node.specs.declared.setup.Ended.{Ended}
 use Rattle.repo_node.specs.declared.setup.Setup.{Setup}
-use Rattle.repo_node.specs.Indexed.{IsIndexed}
 use Rattle.repo_node.specs.Kept.{IsFed, IsKept}
 use Rattle.repo_node.specs.Nodes.{Fits, NodeView, state_of, told_of}
-use Rattle.repo_node.specs.Pasts.{Enters, SamePast, frames_entry}
-use Rattle.repo_node.specs.Stepping.{AddsIf, EntersIf, EntersStep, MakesAt, MovesSo, NoStep, Stepper, StepsBy}
+use Rattle.repo_node.specs.Pasts.{SamePast, frames_entry}
+use Rattle.repo_node.specs.Stepping.{AddsIf, EntersIf, EntersStep, MovesSo, NoStep, Stepper, StepsBy}
 use Rattle.repo_node.specs.Turning.{Adds, Looks, ended_by}
 use Rattle.repo_node.proofs.StepLemmas.{CountLaw, DoesBy, sees_parts, told_some}
 

@@ -1,10 +1,8 @@
 -- The lines that a node owes after a step, and what it keeps then.
-use Rattle.std.proofs.Common.{◌≡◌, ℕ, zero, suc, ◌+◌, Bool, true, false, List, [], ◌∷◌, ◌++◌, Option, Some, None, length, is_some, refl, sym, ap, subst, ◌∙◌}
+use Rattle.std.proofs.Common.{◌≡◌, ℕ, ◌+◌, Bool, true, false, List, [], ◌∷◌, ◌++◌, Option, Some, None, length, is_some, refl, sym, ap, subst, ◌∙◌}
 use Rattle.std.specs.Prelude.{slice_get, vec_len}
 use Rattle.std.specs.Option.{ForSome}
 use Rattle.std.proofs.lemmas.List.{append-nil}
-use Rattle.annex_base.specs.Lists.{Each}
-use Rattle.run_data.specs.declared.entry.By.{By}
 use Rattle.run_data.specs.declared.entry.By.TheVariants.{Script, Job as by_job, Peer}
 use Rattle.run_data.specs.declared.entry.Entry.{Entry}
 use Rattle.run_data.specs.declared.entry.EntryKind.{EntryKind}
@@ -23,7 +21,7 @@ use Rattle.repo_node.specs.Kept.{IsKept}
 use Rattle.repo_node.specs.Nodes.{told_of}
 use Rattle.repo_node.specs.Owing.{AreDebts, owed_at, owed_by, owed_of}
 use Rattle.repo_node.specs.Pasts.{SamePast}
-use Rattle.repo_node.specs.Stepping.{EntersIf, EntersStep, Stepper, owes_line, place_if}
+use Rattle.repo_node.specs.Stepping.{EntersIf, Stepper, owes_line, place_if}
 use Rattle.repo_node.proofs.BeginLemmas.{kept_entered}
 use Rattle.repo_node.proofs.MoveLemmas.{enters_after}
 use Rattle.repo_node.proofs.OwedLemmas.{DebtsIn, debts_grow, grows_same, owed_grows, owed_in}

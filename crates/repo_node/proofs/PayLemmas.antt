@@ -1,20 +1,18 @@
 -- The line that a node owes first, as a step.
-use Rattle.std.proofs.Common.{◌≡◌, ℕ, ◌+◌, Bool, true, false, List, [], ◌∷◌, ◌++◌, drop, Option, Some, None, Result, Ok, Err, IfErr, IsErrOf, OnOk, length, refl, sym, ap, subst, ◌∙◌}
+use Rattle.std.proofs.Common.{◌≡◌, ℕ, ◌+◌, true, false, List, [], ◌∷◌, ◌++◌, drop, Option, None, Result, Ok, Err, length, refl, sym, ap, subst, ◌∙◌}
 use Rattle.std.specs.Prelude.{IfSome}
 use Rattle.std.proofs.lemmas.List.{append-nil}
 use Rattle.annex_base.specs.Causes.{Rose}
 use Rattle.annex_base.specs.declared.kinds.Call.{Call}
 use Rattle.annex_base.specs.declared.kinds.Call.TheVariants.{PutFile}
-use Rattle.hash_dirs.specs.LogPath.{location_path}
 use Rattle.run_data.specs.declared.entry.Entry.{Entry}
 use Rattle.run_data.specs.declared.entry.EntryKind.{EntryKind}
 use Rattle.run_data.specs.declared.entry.EntryKind.TheVariants.{Fault, Log}
-use Rattle.run_data.specs.declared.entry.FrameView.{FrameView}
 use Rattle.run_data.specs.declared.entry.LogFile.TheVariants.{Location}
 use Rattle.drop_worker.specs.Working.{failed_in}
 use Rattle.link_ring.specs.Ends.{EndView}
 use Rattle.node_ends.specs.Going.{AreAfter}
-use Rattle.node_model.specs.Look.{Look, Made, entry_of, failing}
+use Rattle.node_model.specs.Look.{Look, entry_of, failing}
 use Rattle.node_model.specs.Owed.{Owed}
 use Rattle.node_model.specs.OwedStep.{owed_step}
 use Rattle.node_model.specs.SetUp.{SetUp}
@@ -26,8 +24,8 @@ use Rattle.repo_node.specs.Owing.{is_owing}
 use Rattle.repo_node.specs.Refusals.{RefusesFor}
 use Rattle.repo_node.specs.declared.refused.NodeRefused.{NodeRefused}
 use Rattle.repo_node.specs.declared.refused.NodeRefused.TheVariants as refusals
-use Rattle.repo_node.specs.Stepping.{MakesAt, StepsBy}
-use Rattle.repo_node.specs.Turning.{Adds, Looks, ended_by, words_by}
+use Rattle.repo_node.specs.Stepping.{StepsBy}
+use Rattle.repo_node.specs.Turning.{Adds, ended_by}
 
 -- the first of the lines that are owed
 pub owing_first : (os : List Owed) → is_owing os ≡ true → (o : Owed) × (os ≡ o ∷ drop 1 os)

@@ -1,5 +1,5 @@
 -- What stands beside a history stays so after a step of its sessions or its jobs.
-use Rattle.std.proofs.Common.{◌≡◌, ℕ, ◌<◌, ◌+◌, Bool, true, false, List, [], ◌∷◌, ◌++◌, ◌≤◌, All, Option, Some, None, length, map, reverse, find, is_some, refl, sym, ap, subst, arith, ◌∙◌}
+use Rattle.std.proofs.Common.{◌≡◌, ℕ, ◌<◌, ◌+◌, Bool, true, false, List, [], ◌∷◌, ◌++◌, All, Option, Some, None, length, map, reverse, find, is_some, refl, sym, ap, subst, arith, ◌∙◌}
 use Rattle.std.specs.Prelude.{◌==◌, if◌then◌else◌, flat_map, option_to_list}
 use Rattle.std.specs.Option.{ForSome}
 use Rattle.std.proofs.lemmas.List.{length-append, length-reverse, reverse-append}
@@ -17,8 +17,8 @@ use Rattle.run_data.specs.declared.entry.By.TheVariants.{Script, Job as by_job, 
 use Rattle.run_data.specs.declared.entry.FrameView.{FrameView}
 use Rattle.run_data.specs.declared.run.RepoView.{RepoView}
 use Rattle.object_store.specs.Stores.{Contents, Parts as StoredParts}
-use Rattle.content_lock.specs.Rows.{bar_at, is_filling}
-use Rattle.union_merge.specs.Branch.{Files, lines_at}
+use Rattle.content_lock.specs.Rows.{is_filling}
+use Rattle.union_merge.specs.Branch.{Files}
 use Rattle.drop_worker.specs.Feeding.{FitsLocal}
 use Rattle.drop_worker.specs.Working.{failed_in, phase_as}
 use Rattle.drop_worker.specs.declared.phase.Phase.{Phase}
@@ -29,10 +29,8 @@ use Rattle.node_ends.specs.Ends.{SeesEnds, hand_at, room_at}
 use Rattle.node_model.specs.After.{clock_after, state_after, states}
 use Rattle.node_model.specs.AnyTime.{all_ends}
 use Rattle.node_model.specs.Clocks.{runs_on}
-use Rattle.node_model.specs.Ends.{EndName}
-use Rattle.node_model.specs.Files.{lines_after}
 use Rattle.node_model.specs.Jobs.{Work}
-use Rattle.node_model.specs.Look.{Look, Made, entry_of}
+use Rattle.node_model.specs.Look.{Look, entry_of}
 use Rattle.node_model.specs.Owed.{Owed, owed_after, owed_without, told_frame, told_line, told_to}
 use Rattle.node_model.specs.Rows.{bar_after, holds_after}
 use Rattle.node_model.specs.Sessions.{line_in}
@@ -40,12 +38,12 @@ use Rattle.node_model.specs.SessionStep.{is_filled}
 use Rattle.node_model.specs.SetUp.{SetUp}
 use Rattle.node_model.specs.State.{State}
 use Rattle.node_jobs.specs.Places.{PlaceView}
-use Rattle.node_jobs.specs.Running.{AreWorks, DropJob, IsDrop, work_now}
+use Rattle.node_jobs.specs.Running.{DropJob, IsDrop, work_now}
 use Rattle.node_parts.specs.declared.done.Done.{Done}
 use Rattle.node_parts.specs.Kinds.{IsQuiet}
 use Rattle.node_parts.specs.Parts.{AreParts, HasContents, PartsView}
 use Rattle.node_parts.specs.Sound.{AreSound}
-use Rattle.node_parts.specs.Steps.{Fails, FindsPart, Hears, Leaves, LeavesSo, SeesParts, Steps, words_heard}
+use Rattle.node_parts.specs.Steps.{Fails, FindsPart, Hears, Leaves, SeesParts, Steps, words_heard}
 use Rattle.repo_node.specs.declared.setup.Setup.{Setup}
 use Rattle.repo_node.specs.Kept.{IsKept}
 use Rattle.repo_node.specs.Nodes.{Fits, IsState, Stands, state_of, told_of}

@@ -17,11 +17,10 @@ use Rattle.node_model.specs.SetUp.{SetUp}
 use Rattle.node_model.specs.State.{State}
 use Rattle.node_model.specs.Step.{step}
 use Rattle.node_model.specs.Turns.{job_step}
-use Rattle.repo_node.specs.declared.turn.Turn.{Turn}
 use Rattle.repo_node.specs.declared.turn.Turn.TheVariants as turns
 use Rattle.repo_node.specs.Nodes.{Fits, IsState, NodeView, state_of, told_of}
 use Rattle.repo_node.specs.Owing.{is_owing}
-use Rattle.repo_node.specs.Stepping.{AddsIf, MakesAt, MovesSo, NoStep, ReadySo, Stepper, StepsBy}
+use Rattle.repo_node.specs.Stepping.{AddsIf, MovesSo, NoStep, ReadySo, Stepper, StepsBy}
 use Rattle.repo_node.specs.Turning.{Adds, HasStep, IsIdle, Looks, TurnsSo, words_by}
 use Rattle.repo_node.specs.Turns.{turn_full, turn_made}
 use Rattle.repo_node.proofs.StepLemmas.{look_of, look_sees, told_known, told_some}

@@ -1,5 +1,5 @@
 -- What the proof of `node::Node::act` needs beside the tactics.
-use Rattle.std.proofs.Common.{[], is_some, sym, ap, ◌∙◌}
+use Rattle.std.proofs.Common.{is_some, sym, ap, ◌∙◌}
 use Rattle.node_model.specs.Turns.{job_step}
 use Rattle.repo_node.specs.Nodes.{told_of}
 use Rattle.repo_node.specs.Owing.{is_owing}

@@ -1,5 +1,5 @@
 -- What the proof of `node::Node::begin` needs beside the tactics.
-use Rattle.std.proofs.Common.{[], sym, ap, subst, ◌∙◌}
+use Rattle.std.proofs.Common.{sym, ap, subst}
 use Rattle.content_lock.specs.Rows.{Rows}
 use Rattle.content_lock.specs.Stored.{Agrees}
 use Rattle.node_parts.specs.Parts.{PartsView}

@@ -1,5 +1,5 @@
 -- What the proof of `node::Node::is_ready` needs beside the tactics.
-use Rattle.std.proofs.Common.{refl, sym, ap, ◌∙◌}
+use Rattle.std.proofs.Common.{sym, ap, ◌∙◌}
 use Rattle.repo_node.specs.Nodes.{told_of}
 use Rattle.repo_node.proofs.OwedLemmas.{owed_in}
 use Rattle.repo_node.proofs.MoveLemmas.{ready_parts}

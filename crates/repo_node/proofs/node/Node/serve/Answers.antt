@@ -1,5 +1,5 @@
 -- What the proof of `node::Node::serve` needs beside the tactics.
-use Rattle.std.proofs.Common.{[], sym, ap, ◌∙◌}
+use Rattle.std.proofs.Common.{sym, ap, ◌∙◌}
 use Rattle.node_model.specs.SessionStep.{session_step}
 use Rattle.node_jobs.specs.Running.{Jobs}
 use Rattle.repo_node.specs.Nodes.{told_of}

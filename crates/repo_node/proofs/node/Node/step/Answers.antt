@@ -1,5 +1,5 @@
 -- What the proof of `node::Node::step` needs beside the tactics.
-use Rattle.std.proofs.Common.{true, refl, sym, ap, ◌∙◌}
+use Rattle.std.proofs.Common.{sym, ◌∙◌}
 use Rattle.repo_node.specs.Nodes.{told_of}
 use Rattle.repo_node.proofs.TurnLemmas.{first_served, owed_first, then_acted}
 use Rattle.repo_node.proofs.node.Node.step.Goals as goal

@@ -1,5 +1,5 @@
 -- What the proof of `node::Node::turn` needs beside the tactics.
-use Rattle.std.proofs.Common.{refl, sym, ap, ◌∙◌}
+use Rattle.std.proofs.Common.{sym, ap, ◌∙◌}
 use Rattle.repo_node.specs.Nodes.{told_of}
 use Rattle.repo_node.proofs.TurnLemmas.{full_idles, full_steps, turn_idle, turn_steps}
 use Rattle.repo_node.proofs.node.Node.turn.Goals as goal
