@@ -46,8 +46,8 @@ returns-in-Some-clause-step g c =
     let view = settings_of c.args.settings.now in
     let m = c.args.moment in
     let here : IsActed was.links now.links c.in-Some.acted c.act.result =
-        subst (λ (l : List EndView). IsActed l now.links c.in-Some.acted c.act.result) e.ends
-        (record { job = c.act.ensures.job; kind = c.act.ensures.kind; taken = c.act.ensures.taken; sent = c.act.ensures.sent; after = c.act.ensures.after }) in
+    subst (λ (l : List EndView). IsActed l now.links c.in-Some.acted c.act.result) e.ends
+    (record { job = c.act.ensures.job; kind = c.act.ensures.kind; taken = c.act.ensures.taken; sent = c.act.ensures.sent; after = c.act.ensures.after }) in
     subst (λ (p : PartsView). ForSome known (λ x. Acts p now x contents m.clock view m.time m.number (Some c.act.result))) c.self.view_is
     (acts_some c.nameless_are_asked.ensures c.local_drops_send_where_there_is_room.ensures c.jobs_make_their_own_entries.ensures c.ends_go_on.ensures.ends c.sessions_stay.ensures
     was now m.clock view m.time m.number known contents c.self.invariant c.in-Some.acted c.act.result
@@ -66,8 +66,8 @@ returns-in-Some-clause-leaves g c =
     let known = g.K.Keeper.contents c.args.keeper.now in
     let contents = g.K.Keeper.contents c.step.new.keeper in
     let here : IsActed was.links now.links c.in-Some.acted c.act.result =
-        subst (λ (l : List EndView). IsActed l now.links c.in-Some.acted c.act.result) e.ends
-        (record { job = c.act.ensures.job; kind = c.act.ensures.kind; taken = c.act.ensures.taken; sent = c.act.ensures.sent; after = c.act.ensures.after }) in
+    subst (λ (l : List EndView). IsActed l now.links c.in-Some.acted c.act.result) e.ends
+    (record { job = c.act.ensures.job; kind = c.act.ensures.kind; taken = c.act.ensures.taken; sent = c.act.ensures.sent; after = c.act.ensures.after }) in
     let left = subst (λ (o : Option Acted). LeavesJobsSo was.links was.jobs now.jobs was.table now.table known contents o) c.in-Some.is e.leaves in
     subst (λ (p : PartsView). LeavesSo c.args.moment.number p now (Some c.act.result)) c.self.view_is
     (leaves_acted c.args.moment.number was now known contents c.in-Some.acted c.act.result here left e.holds
@@ -78,8 +78,8 @@ returns-in-Some-clause-kind g c = λ x is.
     let i = c.self.inside in
     let e = c.in_ok-acted.ensures in
     let here : IsActed i.ends c.act.new.ends c.in-Some.acted c.act.result =
-        subst (λ (l : List EndView). IsActed l c.act.new.ends c.in-Some.acted c.act.result) e.ends
-        (record { job = c.act.ensures.job; kind = c.act.ensures.kind; taken = c.act.ensures.taken; sent = c.act.ensures.sent; after = c.act.ensures.after }) in
+    subst (λ (l : List EndView). IsActed l c.act.new.ends c.in-Some.acted c.act.result) e.ends
+    (record { job = c.act.ensures.job; kind = c.act.ensures.kind; taken = c.act.ensures.taken; sent = c.act.ensures.sent; after = c.act.ensures.after }) in
     let same : c.act.result ≡ x = cc in
     subst (λ (d : Done). IsQuiet d.kind) same
     (quiet_acted i.ends c.act.new.ends c.in-Some.acted c.act.result here (subst (λ (o : Option Acted). IfSome o (λ (it : Acted). IsKindOf it.job it)) c.in-Some.is e.kind))
