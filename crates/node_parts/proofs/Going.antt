@@ -1,12 +1,10 @@
 -- The parts are those of a state: the first, and after a job has begun, or frames were carried or dropped.
-use Rattle.std.proofs.Common.{◌≡◌, ◌≢◌, ℕ, ◌<◌, ◌*◌, ◌+◌, Bool, true, false, List, [], ◌∷◌, Option, Some, None, Result, Ok, Err, length, map, refl, sym, ap, subst, ◌∙◌, arith}
+use Rattle.std.proofs.Common.{◌≡◌, ℕ, ◌*◌, ◌+◌, Bool, true, false, List, [], Option, None, Result, Ok, Err, length, map, refl, sym, ap, subst, ◌∙◌}
 use Rattle.std.specs.Prelude.{All, OnOk, fold, find, replicate, ◌==◌, ◌&&◌, ◌||◌}
 use Rattle.std.proofs.lemmas.List.{length-replicate}
 use Rattle.std.proofs.lemmas.List.Elements.{All-nil}
-use Rattle.annex_base.specs.Lists.{Each, Member}
 use Rattle.annex_base.specs.Settings.{Settings}
 use Rattle.run_data.specs.declared.entry.Entry.{Entry}
-use Rattle.run_data.specs.declared.entry.EntryKind.{EntryKind}
 use Rattle.run_data.specs.declared.entry.EntryKind.TheVariants.{Begin}
 use Rattle.run_data.specs.declared.entry.FrameView.{FrameView}
 use Rattle.run_data.specs.declared.job.Job.{Job}
@@ -17,10 +15,8 @@ use Rattle.link_ring.specs.Ends.{EndView, fresh}
 use Rattle.content_lock.specs.Rows.{Rows}
 use Rattle.p2p_server.specs.declared.session.Session.{Session}
 use Rattle.node_model.specs.After.{first_state, read_after, state_after}
-use Rattle.node_model.specs.AnyTime.{all_ends}
 use Rattle.node_model.specs.Ends.{End, EndName, end_sends, end_took, never, sent_at, taken_at}
 use Rattle.node_model.specs.Files.{lines_after}
-use Rattle.node_model.specs.Jobs.{Work}
 use Rattle.node_model.specs.Rows.{bar_after, holds_after}
 use Rattle.node_model.specs.Sessions.{new_session, session_after}
 use Rattle.node_model.specs.SetUp.{SetUp}
@@ -30,7 +26,7 @@ use Rattle.node_ends.specs.Going.{AreAfter}
 use Rattle.node_sessions.specs.Sessions.{AreSessions, HaveEnds, IsSetUp, OwnAll, fills_in}
 use Rattle.node_jobs.specs.Acting.{with_job}
 use Rattle.node_jobs.specs.Places.{IsPlace, PlaceView}
-use Rattle.node_jobs.specs.Running.{AreWorks, DropJob, Follows, Jobs, OwnAll as JobsOwn}
+use Rattle.node_jobs.specs.Running.{AreWorks, Follows, Jobs, OwnAll as JobsOwn}
 use Rattle.node_parts.specs.Parts.{AreParts, PartsView}
 use Rattle.node_parts.specs.Sound.{AreSound}
 

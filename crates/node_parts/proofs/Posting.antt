@@ -1,13 +1,12 @@
 -- The frames of a step are sent where they have their places.
-use Rattle.std.proofs.Common.{◌≡◌, ◌≢◌, ◌⊎◌, inl, inr, ℕ, ◌<◌, ◌≤◌, ◌*◌, ◌+◌, Bool, true, false, not, ◌&&◌, if◌then◌else◌, List, [], ◌∷◌, ◌++◌, Option, Some, None, is_some, length, refl, sym, ap, subst, ◌∙◌, arith, append-nil, append_assoc}
-use Rattle.std.specs.Prelude.{◌==◌, ◌^◌, ◌-◌, filter, flat_map, fold, nat_le, nat_lt, slice_get}
-use Rattle.std.specs.Option.{ForSome, option_map, option_and_then, option_to_list}
+use Rattle.std.proofs.Common.{◌≡◌, ◌≢◌, ◌⊎◌, inl, inr, ℕ, ◌<◌, ◌*◌, ◌+◌, Bool, true, false, ◌&&◌, if◌then◌else◌, List, [], ◌∷◌, ◌++◌, Option, Some, None, is_some, length, refl, sym, ap, subst, ◌∙◌, arith, append-nil, append_assoc}
+use Rattle.std.specs.Prelude.{◌==◌, ◌^◌, ◌-◌, nat_le, nat_lt, slice_get}
+use Rattle.std.specs.Option.{ForSome, option_to_list}
 use Rattle.std.proofs.lemmas.Bool.{cases_Bool, true≢false}
 use Rattle.std.proofs.lemmas.Bool.Decides.{nat_tests}
 use Rattle.std.proofs.lemmas.List.Elements.{filter-append}
-use Rattle.std.proofs.lemmas.Option.{none-some, slice_get_within}
+use Rattle.std.proofs.lemmas.Option.{slice_get_within}
 use Rattle.annex_base.specs.declared.kinds.EntryStamp.{EntryStamp}
-use Rattle.annex_base.specs.declared.kinds.Word.{Word}
 use Rattle.annex_base.proofs.Conditions.{eqb_refl}
 use Rattle.annex_base.proofs.Lists.{cons_first, cons_nil}
 use Rattle.run_data.specs.declared.entry.FrameText.{FrameText}
@@ -20,7 +19,7 @@ use Rattle.node_model.specs.Sessions.{is_closing}
 use Rattle.node_ends.specs.declared.sending.Sending.{Sending}
 use Rattle.node_ends.specs.Ends.{end_at, end_in as end_of_link, has_room, link_at, passes, room_at, stands}
 use Rattle.node_ends.specs.Going.{AreAfter, IsSent}
-use Rattle.node_ends.specs.Sent.{has_places, link_may, may_send, text_of_sending}
+use Rattle.node_ends.specs.Sent.{link_may, may_send, text_of_sending}
 use Rattle.p2p_wire.specs.Messages.{text_of}
 use Rattle.drop_worker.specs.declared.turn.Parcel.{Parcel}
 use Rattle.drop_worker.specs.declared.turn.ParcelBody.{ParcelBody}

@@ -1,12 +1,12 @@
 -- What the sessions serve is the step of the parts.
-use Rattle.std.proofs.Common.{◌≡◌, ℕ, ◌<◌, ◌+◌, Bool, true, false, List, [], ◌∷◌, Option, Some, None, length, map, refl, sym, ap, subst, ◌∙◌}
+use Rattle.std.proofs.Common.{◌≡◌, ℕ, ◌<◌, ◌+◌, Bool, false, List, [], ◌∷◌, Option, Some, None, map, refl, sym, ap, subst, ◌∙◌}
 use Rattle.std.specs.Prelude.{◌&&◌, ◌||◌, All, IfSome, bytes_eq, fold}
 use Rattle.std.specs.List.{list_any}
 use Rattle.std.specs.Option.{ForSome, option_map}
 use Rattle.std.proofs.lemmas.Option.{same_Some}
 use Rattle.annex_base.proofs.Options.{some_none}
 use Rattle.annex_base.specs.declared.kinds.Call.{Call}
-use Rattle.run_data.specs.declared.entry.By.TheVariants.{Job as by_job, Peer, Script}
+use Rattle.run_data.specs.declared.entry.By.TheVariants.{Peer}
 use Rattle.run_data.specs.declared.entry.Entry.{Entry}
 use Rattle.run_data.specs.declared.entry.EntryKind.{EntryKind}
 use Rattle.run_data.specs.declared.entry.EntryKind.TheVariants as kinds
@@ -26,12 +26,11 @@ use Rattle.node_model.specs.SetUp.{SetUp}
 use Rattle.node_model.specs.Files.{lines_after}
 use Rattle.node_model.specs.Slots.{is_begin, job_of}
 use Rattle.node_model.specs.State.{State}
-use Rattle.node_ends.specs.Ends.{AreEnds, end_at}
+use Rattle.node_ends.specs.Ends.{end_at}
 use Rattle.node_ends.specs.Going.{AreAfter}
 use Rattle.p2p_server.specs.declared.session.Session.{Session}
 use Rattle.p2p_server.specs.Answers.{failed_in as failed_here}
 use Rattle.p2p_server.specs.Bounds.{IsKind}
-use Rattle.p2p_server.specs.States.{Keeps, stand_after, stand_of}
 use Rattle.p2p_server.specs.Talking.{AreAfterStep}
 use Rattle.drop_worker.specs.Working.{failed_in}
 use Rattle.node_sessions.specs.declared.served.Served.{Served}
@@ -44,7 +43,7 @@ use Rattle.node_parts.specs.declared.done.Done.{Done}
 use Rattle.node_parts.specs.Kinds.{IsQuiet}
 use Rattle.node_parts.specs.Parts.{AreParts, HasContents, PartsView}
 use Rattle.node_parts.specs.Sound.{AreSound}
-use Rattle.node_parts.specs.Steps.{EndsAfter, Fails, FindsPart, LeavesSo, SeesParts, Serves, Steps, failed_by, made_of, state_then}
+use Rattle.node_parts.specs.Steps.{EndsAfter, Fails, FindsPart, LeavesSo, SeesParts, Serves, Steps, failed_by, made_of}
 use Rattle.node_parts.proofs.Going.{EndsGo}
 
 -- ---- what laws say

@@ -1,9 +1,8 @@
 -- What the parts have of their table and of their ends, after these have changed.
-use Rattle.std.proofs.Common.{◌≡◌, ◌≢◌, ℕ, ◌<◌, ◌*◌, Bool, true, false, List, [], ◌∷◌, Option, Some, None, Result, Ok, Err, length, refl, sym, ap, subst, ◌∙◌, arith}
+use Rattle.std.proofs.Common.{◌≡◌, ◌≢◌, ℕ, ◌<◌, ◌*◌, Bool, true, false, List, Option, Some, None, Result, Ok, Err, length, refl, sym, ap, subst, ◌∙◌, arith}
 use Rattle.std.specs.Prelude.{OnErr, OnOk, is_some, nat_lt, not, ◌==◌, if◌then◌else◌, slice_get}
 use Rattle.std.proofs.lemmas.Bool.{true≢false}
 use Rattle.std.proofs.lemmas.Bool.Decides.{nat_tests}
-use Rattle.annex_base.specs.Lists.{Each}
 use Rattle.annex_base.proofs.Lists.{Each-weaker}
 use Rattle.run_data.specs.declared.entry.By.TheVariants.{Job as by_job}
 use Rattle.run_data.specs.declared.job.Job.{Job}
@@ -16,7 +15,7 @@ use Rattle.node_model.specs.Ends.{EndName}
 use Rattle.node_model.specs.Rows.{option_is}
 use Rattle.node_ends.specs.Ends.{link_at}
 use Rattle.node_ends.specs.Joined.{AreCarried, AreJoined, BothPaired, StayPaired, StaysSo, end_with, link_carried}
-use Rattle.node_sessions.specs.Sessions.{AreFilled, HaveEnds, IsOther, OwnAll, end_of, fills_in}
+use Rattle.node_sessions.specs.Sessions.{AreFilled, HaveEnds, IsOther, OwnAll, end_of}
 use Rattle.drop_worker.specs.declared.phase.Token.{Token}
 use Rattle.drop_worker.specs.declared.phase.Token.TheVariants as tokens
 use Rattle.drop_worker.specs.Doing.{HasToken, share_in}

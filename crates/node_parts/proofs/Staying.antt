@@ -1,5 +1,5 @@
 -- The parts after an entry that moves none of them.
-use Rattle.std.proofs.Common.{suc, ◌≡◌, ◌⊎◌, inl, inr, ℕ, ◌+◌, arith, ◌∷◌, Bool, true, false, List, [], Option, Some, None, length, refl, sym, ap, subst, ◌∙◌}
+use Rattle.std.proofs.Common.{suc, ◌≡◌, ◌⊎◌, inl, inr, ℕ, ◌+◌, arith, ◌∷◌, true, List, [], Option, None, length, refl, sym, ap, subst, ◌∙◌}
 use Rattle.annex_base.specs.declared.kinds.Call.{Call}
 use Rattle.annex_base.specs.declared.kinds.Call.TheVariants.{PutFile, Unhold}
 use Rattle.run_data.specs.declared.entry.By.{By}

@@ -1,5 +1,5 @@
 -- Entries that move no part of a repository: those of the script, and of lines that are owed (own).
-use Rattle.std.specs.Prelude.{◌≡◌, ℕ, [], Option, None}
+use Rattle.std.specs.Prelude.{◌≡◌, [], None}
 use Rattle.annex_base.specs.declared.kinds.Call.TheVariants.{PutFile}
 use Rattle.run_data.specs.declared.entry.By.{By}
 use Rattle.run_data.specs.declared.entry.By.TheVariants.{Script}

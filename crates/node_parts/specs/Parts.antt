@@ -1,5 +1,5 @@
 -- The moving parts of a repository, and the state that they are (own).
-use Rattle.std.specs.Prelude.{◌≡◌, ℕ, List, Bool, false, is_some, length, Option}
+use Rattle.std.specs.Prelude.{◌≡◌, ℕ, List, false, is_some, length}
 use Rattle.std.specs.Option.{option_map}
 use Rattle.object_store.specs.Stores.{Contents}
 use Rattle.content_lock.specs.Rows.{Rows, bar_at}

@@ -1,5 +1,5 @@
 -- What the parts of a repository have of its table and of its ends, whatever its store tells.
-use Rattle.std.specs.Prelude.{◌≡◌, ℕ, ◌*◌, Bool, false, List, length}
+use Rattle.std.specs.Prelude.{◌≡◌, ◌*◌, false, length}
 use Rattle.node_sessions.specs.Sessions.{AreFilled, HaveEnds, OwnAll}
 use Rattle.node_jobs.specs.Running.{OwnAll as JobsOwn}
 use Rattle.node_parts.specs.Parts.{PartsView}

@@ -5,8 +5,7 @@ use Rattle.annex_base.specs.Settings.{Settings}
 use Rattle.annex_base.specs.declared.kinds.Call.{Call}
 use Rattle.annex_base.specs.declared.kinds.Word.{Word}
 use Rattle.object_store.specs.Stores.{Contents}
-use Rattle.run_data.specs.declared.entry.Entry.{Entry}
-use Rattle.content_lock.specs.Rows.{Rows, bar_at}
+use Rattle.content_lock.specs.Rows.{bar_at}
 use Rattle.link_ring.specs.Ends.{EndView}
 use Rattle.node_ends.specs.Ends.{SeesEnds}
 use Rattle.node_ends.specs.Going.{AreAfter}

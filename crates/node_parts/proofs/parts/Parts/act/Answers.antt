@@ -4,13 +4,11 @@ use Rattle.std.specs.Prelude.{All, IfSome, ◌<◌}
 use Rattle.run_data.specs.declared.row.Hold.{Hold}
 use Rattle.std.specs.Option.{ForSome}
 use Rattle.trust_groups.specs.View.{settings_of}
-use Rattle.content_lock.specs.Rows.{Rows}
 use Rattle.link_ring.specs.Ends.{EndView}
 use Rattle.node_ends.specs.Joined.{StayPaired}
 use Rattle.node_jobs.specs.declared.acted.Acted.{Acted}
 use Rattle.node_jobs.specs.Acting.{IsKindOf}
-use Rattle.node_jobs.specs.Leaving.{Leaves as LeavesJobs, LeavesSo as LeavesJobsSo}
-use Rattle.node_jobs.specs.Running.{Jobs}
+use Rattle.node_jobs.specs.Leaving.{LeavesSo as LeavesJobsSo}
 use Rattle.node_parts.specs.declared.done.Done.{Done}
 use Rattle.node_parts.specs.Kinds.{IsQuiet}
 use Rattle.node_parts.specs.Parts.{PartsView}
