@@ -1,6 +1,6 @@
 -- What the step of a job that drops its own copy makes, by where it stands.
-use Rattle.std.proofs.Common.{◌≡◌, ◌≢◌, inl, inr, ℕ, Bool, true, false, ◌&&◌, if◌then◌else◌, List, [], ◌∷◌, Option, Some, None, refl, sym, ap, subst, ◌∙◌}
-use Rattle.std.specs.Prelude.{◌==◌, nat_le, not}
+use Rattle.std.proofs.Common.{◌≡◌, inl, inr, ℕ, Bool, true, false, ◌&&◌, if◌then◌else◌, List, [], ◌∷◌, Option, Some, None, refl, sym, ap, subst, ◌∙◌}
+use Rattle.std.specs.Prelude.{◌==◌, nat_le, nat_lt, not}
 use Rattle.std.specs.List.{list_all, list_any}
 use Rattle.std.proofs.lemmas.Bool.{true≢false}
 use Rattle.std.proofs.lemmas.Option.{none-some, same_Some}
@@ -25,7 +25,7 @@ use Rattle.p2p_wire.specs.declared.message.Message.TheVariants.{AuthSuccess, Che
 use Rattle.p2p_wire.specs.Messages.{message_of, text_of}
 use Rattle.node_model.specs.Calls.{to_release}
 use Rattle.node_model.specs.DropStep.{asks_copy, bars, expiry, first_drop, first_end, first_local, held_until, in_time, lacking, required_there, row_refusal}
-use Rattle.node_model.specs.Ends.{End, EndName, end_sends, end_takes, end_took, frames, may_take, same_bool, sends_at, sent_at, taken_at, takes_at}
+use Rattle.node_model.specs.Ends.{End, EndName, end_sends, end_takes, end_took, frames, is_opening, may_take, same_bool, sends_at, sent_at, taken_at, takes_at}
 use Rattle.node_model.specs.Jobs as Jobs
 use Rattle.node_model.specs.Jobs.{Drops, job_end, side_of}
 use Rattle.node_model.specs.JobStep.{Turn, attempts, bar_there, by_me, clock_of, end_needs, end_with, ends, farewells, has_lock, hears, is_there, key_of, locked_peers, others_of, owns_share, quietly, says_to, sends_to, talk, wrong}
@@ -41,7 +41,7 @@ use Rattle.drop_worker.specs.declared.phase.Phase.TheVariants as phases
 use Rattle.drop_worker.specs.declared.phase.Token.{Token}
 use Rattle.drop_worker.specs.Feeding.{FitsLocal}
 use Rattle.drop_worker.specs.Working.{phase_as}
-use Rattle.node_jobs.specs.Sending.{HasPlace, IsCallOfJob, IsOfJob, IsOwnEntry, SendsWell}
+use Rattle.node_jobs.specs.Sending.{IsCallOfJob, IsOfJob, IsOwnEntry, MaySend, SendsWell, TakesNoOpening}
 use Rattle.node_jobs.proofs.Rooms.{MayUnlock, farewells_client, farewells_placed, placed_well}
 
 -- ---- calls
@@ -74,6 +74,21 @@ stays_open c epoch Closing is live = absurd (true≢false is)
 stays_open c epoch (Line text) is live = live
 stays_open c epoch (Bytes n) is live = live
 
+-- and has the same numbers, unless it took an opening
+same_numbers : (a : EndName) (c : End) (epoch : ℕ) (taken body : FrameText) → is_opening taken ≡ false → frames a (end_takes c epoch taken) (body ∷ []) ≡ frames a c (body ∷ [])
+same_numbers a c epoch Opening body none = absurd (true≢false none)
+same_numbers a c epoch Closing Opening none = refl
+same_numbers a c epoch Closing Closing none = refl
+same_numbers a c epoch Closing (Line text) none = refl
+same_numbers a c epoch Closing (Bytes n) none = refl
+same_numbers a c epoch (Line text) body none = refl
+same_numbers a c epoch (Bytes n) body none = refl
+
+next_took : (a : EndName) (c : End) (taken : Option FrameView) (body : FrameText) → TakesNoOpening taken → frames a (end_took c (taken_at a taken)) (body ∷ []) ≡ frames a c (body ∷ [])
+next_took a c None body none = refl
+next_took a c (Some f) body none = if_either (λ (o : Option FrameView). frames a (end_took c o) (body ∷ []) ≡ frames a c (body ∷ [])) (takes_at a f) (Some f) None
+    (λ is. same_numbers a c f.epoch f.body body none) (λ other. refl)
+
 and_false : (b : Bool) → (b && false) ≡ false
 and_false true = refl
 and_false false = refl
@@ -103,7 +118,11 @@ module _ (before : Turn) (local : side_of before.w ≡ Local) (Begins : Type 0) 
 
   abbrev IsTaken : Option FrameView → Type 0
   IsTaken None = Unit {0}
-  IsTaken (Some f) = f.up ≡ false
+  IsTaken (Some f) = (f.up ≡ false) × (is_opening f.body ≡ false)
+
+  no_opening : (o : Option FrameView) → IsTaken o → TakesNoOpening o
+  no_opening None here = tt
+  no_opening (Some f) here = here.1
 
   pub record IsWell (m : Made) : Type 0 where
     pub kind : IsOfJob m.kind
@@ -124,14 +143,15 @@ module _ (before : Turn) (local : side_of before.w ≡ Local) (Begins : Type 0) 
 
   -- one that sends one frame, which has its place
   send_well : (taken : Option FrameView) (peer : ℕ) (body : FrameText) → IsTaken taken
-      → HasPlace (λ a. end_took (t.ends a) (taken_at a taken)) t.look.room [] (record { peer = peer; slot = t.w.slot; up = true; epoch = (end_sends (end_with t peer) body).epoch; seq = (end_sends (end_with t peer) body).sent; body = body })
+      → MaySend (λ a. end_took (t.ends a) (taken_at a taken)) t.look.room [] (record { peer = peer; slot = t.w.slot; up = true; epoch = (end_sends (end_with t peer) body).epoch; seq = (end_sends (end_with t peer) body).sent; body = body })
       → IsWell (sends_to t (talk t) taken peer (body ∷ []))
   send_well taken peer body here place = record {
     kind = tt;
     lines = refl;
     taken = here;
     clients = (refl, tt);
-    room = λ b. placed_well (λ a. end_took (t.ends a) (taken_at a taken)) t.look.room (frames (job_end t.w peer) (end_with t peer) (body ∷ [])) (place, tt);
+    room = λ b. placed_well (λ a. end_took (t.ends a) (taken_at a taken)) t.look.room (frames (job_end t.w peer) (end_with t peer) (body ∷ []))
+        ((next_took (job_end t.w peer) (end_with t peer) taken body (no_opening taken here), place), tt);
   }
 
   says_well : (taken : Option FrameView) (peer : ℕ) (m : Message) → IsTaken taken → has_room t peer ≡ true → IsWell (says_to t (talk t) taken peer m)
@@ -241,9 +261,18 @@ module _ (before : Turn) (local : side_of before.w ≡ Local) (Begins : Type 0) 
 
   -- ---- the steps that take a frame
 
-  module _ (f : FrameView) (peer : ℕ) (room : has_room t peer ≡ true) (mine : takes_at (job_end t.w peer) f ≡ true) (may : may_take (end_with t peer) f ≡ true) where
-    up : f.up ≡ false
-    up = not_up f.up (and_parts ((f.peer == peer) && (f.slot == t.w.slot)) (same_bool true (if f.up then false else true)) mine).1
+  module _ (f : FrameView) (peer : ℕ) (room : has_room t peer ≡ true) (mine : takes_at (job_end t.w peer) f ≡ true) (may : may_take (end_with t peer) f ≡ true) (live : (end_with t peer).opened ≡ true) where
+    -- an end that is open takes no opening
+    other_body : (b : Bool) → is_opening f.body ≡ b
+        → (if b then not (end_with t peer).opened && nat_lt (end_with t peer).epoch f.epoch else (end_with t peer).opened && (f.epoch == (end_with t peer).epoch)) ≡ true → is_opening f.body ≡ false
+    other_body true is g = absurd (true≢false (sym (subst (λ (o : Bool). (not o && nat_lt (end_with t peer).epoch f.epoch) ≡ true) live g)))
+    other_body false is g = is
+
+    up : IsTaken (Some f)
+    up = (
+      not_up f.up (and_parts ((f.peer == peer) && (f.slot == t.w.slot)) (same_bool true (if f.up then false else true)) mine).1,
+      other_body (is_opening f.body) refl may,
+    )
 
     hears_well : IsWell (hears t f)
     hears_well = quiet_well (talk t) (Some f) tt up
@@ -306,9 +335,9 @@ module _ (before : Turn) (local : side_of before.w ≡ Local) (Begins : Type 0) 
         go true r g = some_same (goes t t.w.phase) m g
             (subst (λ (p : Jobs.Phase). IsWell (goes t p)) (sym stands) (going_well token phase fits begins (subst (λ (p : Jobs.Phase). list_all (has_room t) (needs t p) ≡ true) stands r)))
 
-    awaits_well : (peer : ℕ) (o : Option FrameView) (m : Made) → waiting (end_with t peer) t.look (job_end t.w peer) ≡ o → awaits t peer o ≡ Some m → IsWell m
-    awaits_well peer None m at is = absurd (none-some m is)
-    awaits_well peer (Some f) m at is = go (has_room t peer) refl is
+    awaits_well : (peer : ℕ) (o : Option FrameView) (m : Made) → (end_with t peer).opened ≡ true → waiting (end_with t peer) t.look (job_end t.w peer) ≡ o → awaits t peer o ≡ Some m → IsWell m
+    awaits_well peer None m live at is = absurd (none-some m is)
+    awaits_well peer (Some f) m live at is = go (has_room t peer) refl is
       where
         found : (takes_at (job_end t.w peer) f && may_take (end_with t peer) f) ≡ true
         found = (find_member (λ g. takes_at (job_end t.w peer) g && may_take (end_with t peer) g) t.look.at_hand f at).1
@@ -318,19 +347,19 @@ module _ (before : Turn) (local : side_of before.w ≡ Local) (Begins : Type 0) 
 
         go : (b : Bool) → has_room t peer ≡ b → (if b then Some (takes_frame t peer f f.body) else None) ≡ Some m → IsWell m
         go false r g = absurd (none-some m g)
-        go true r g = some_same (takes_frame t peer f f.body) m g (frame_well f peer r both.0 both.1 token phase f.body stands fits refl)
+        go true r g = some_same (takes_frame t peer f f.body) m g (frame_well f peer r both.0 both.1 live token phase f.body stands fits refl)
 
-    partner_well : (peer : ℕ) (b : Bool) (m : Made) → with_partner t peer b ≡ Some m → IsWell m
-    partner_well peer false m is = some_same (quietly (talk t) None) m is (quiet_well (talk t) None tt tt)
-    partner_well peer true m is = go (is_awaiting t.w.phase) is
+    partner_well : (peer : ℕ) (b : Bool) (m : Made) → (end_with t peer).opened ≡ b → with_partner t peer b ≡ Some m → IsWell m
+    partner_well peer false m stood is = some_same (quietly (talk t) None) m is (quiet_well (talk t) None tt tt)
+    partner_well peer true m live is = go (is_awaiting t.w.phase) is
       where
         go : (b : Bool) → (if b then awaits t peer (waiting (end_with t peer) t.look (job_end t.w peer)) else goes_on t) ≡ Some m → IsWell m
-        go true g = awaits_well peer (waiting (end_with t peer) t.look (job_end t.w peer)) m refl g
+        go true g = awaits_well peer (waiting (end_with t peer) t.look (job_end t.w peer)) m live refl g
         go false g = on_well m g
 
     pub step_well : (o : Option ℕ) (m : Made) → by_partner t o ≡ Some m → IsWell m
     step_well None m is = on_well m is
-    step_well (Some peer) m is = partner_well peer (end_with t peer).opened m is
+    step_well (Some peer) m is = partner_well peer (end_with t peer).opened m refl is
 
   -- ---- what is told of it
 
@@ -338,11 +367,12 @@ module _ (before : Turn) (local : side_of before.w ≡ Local) (Begins : Type 0) 
   well_own m well = record {
     kind = well.kind;
     lines = well.lines;
+    opening = no_opening m.taken well.taken;
     clients = λ a server. (none_taken a server m.taken well.taken, none_sent a server m.sent well.clients);
   } where
     none_taken : (a : EndName) → a.client ≡ false → (o : Option FrameView) → IsTaken o → taken_at a o ≡ None
     none_taken a server None here = refl
-    none_taken a server (Some f) here = rw (served_takes a f server here) refl
+    none_taken a server (Some f) here = rw (served_takes a f server here.0) refl
 
     none_sent : (a : EndName) → a.client ≡ false → (fs : List FrameView) → Each (λ g. g.up ≡ true) fs → sent_at a fs ≡ []
     none_sent a server fs up = filter_none (sends_at a) fs (Each-weaker (λ g. g.up ≡ true) (λ g. sends_at a g ≡ false) (λ g is. served_sends a g server is) fs up)

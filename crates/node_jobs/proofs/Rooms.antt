@@ -98,6 +98,13 @@ module _ (t : Turn) (lost : Bool) where
       → (fold (λ c g. end_sends c g.body) (end_with t peer) (sent_at (job_end t.w peer) before)).opened ≡ true
   open_then peer before fs is live = ap (λ (gs : List FrameView). (fold (λ c g. end_sends c g.body) (end_with t peer) gs).opened) is ∙ live
 
+  abbrev sent_as : ℕ → End → FrameText → FrameView
+  sent_as peer c body = record { peer = peer; slot = t.w.slot; up = true; epoch = (end_sends c body).epoch; seq = (end_sends c body).sent; body = body }
+
+  next_then : (peer : ℕ) (before fs : List FrameView) (f : FrameView) → sent_at (job_end t.w peer) before ≡ fs → frames (job_end t.w peer) (fold (λ c g. end_sends c g.body) (end_with t peer) fs) (f.body ∷ []) ≡ f ∷ []
+      → frames (job_end t.w peer) (fold (λ c g. end_sends c g.body) (end_with t peer) (sent_at (job_end t.w peer) before)) (f.body ∷ []) ≡ f ∷ []
+  next_then peer before fs f is next = ap (λ (gs : List FrameView). frames (job_end t.w peer) (fold (λ c g. end_sends c g.body) (end_with t peer) gs) (f.body ∷ [])) is ∙ next
+
   peer_placed : (peer : ℕ) (before : List FrameView) → sent_at (job_end t.w peer) before ≡ [] → MayUnlock peer → AllPlaced t.ends t.look.room before (to_peer peer)
   peer_placed peer before none may = by_end (end_with t peer).opened refl
     where
@@ -106,10 +113,10 @@ module _ (t : Turn) (lost : Bool) where
       by_lock live true lock =
           let line = Line (text_of (UnlockContent (key_of t))) in
           let unlock = frames (job_end t.w peer) (end_with t peer) (line ∷ []) in (
-            inr (refl, may lock live, none),
-            (inl (refl, open_then peer (before ++ unlock) unlock (none_yet peer (end_with t peer) line before none) live), tt),
+            (next_then peer before [] (sent_as peer (end_with t peer) line) none refl, inr (refl, may lock live, none)),
+            ((next_then peer (before ++ unlock) unlock (sent_as peer (end_sends (end_with t peer) line) Closing) (none_yet peer (end_with t peer) line before none) refl, inl (refl, open_then peer (before ++ unlock) unlock (none_yet peer (end_with t peer) line before none) live)), tt),
           )
-      by_lock live false lock = (inl (refl, open_then peer before [] none live), tt)
+      by_lock live false lock = ((next_then peer before [] (sent_as peer (end_with t peer) Closing) none refl, inl (refl, open_then peer before [] none live)), tt)
 
       by_end : (b : Bool) → (end_with t peer).opened ≡ b → AllPlaced t.ends t.look.room before (frames (job_end t.w peer) (end_with t peer) (farewell t lost peer b))
       by_end false shut = tt

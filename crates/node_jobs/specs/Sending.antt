@@ -1,12 +1,12 @@
 -- Where there is room for the frames of a step, and what the step of a job that drops its own copy makes (own).
-use Rattle.std.specs.Prelude.{◌≡◌, ◌⊎◌, Bool, true, false, fold, List, [], ◌∷◌, ◌++◌, Some, None}
+use Rattle.std.specs.Prelude.{◌≡◌, ◌⊎◌, Bool, true, false, fold, List, [], ◌∷◌, ◌++◌, Option, Some, None}
 use Rattle.annex_base.specs.declared.kinds.Call.{Call}
 use Rattle.annex_base.specs.declared.kinds.Call.TheVariants as calls
 use Rattle.run_data.specs.declared.entry.By.TheVariants.{Job as by_job}
 use Rattle.run_data.specs.declared.entry.EntryKind.{EntryKind}
 use Rattle.run_data.specs.declared.entry.EntryKind.TheVariants.{Talk, Bar, Gone, Fault, End as ends_job}
 use Rattle.run_data.specs.declared.entry.FrameView.{FrameView}
-use Rattle.node_model.specs.Ends.{End, EndName, end_sends, sent_at, taken_at}
+use Rattle.node_model.specs.Ends.{End, EndName, end_sends, frames, is_opening, sent_at, taken_at}
 use Rattle.node_model.specs.Look.{Made}
 use Rattle.node_model.specs.Sessions.{is_closing}
 
@@ -16,12 +16,19 @@ use Rattle.node_model.specs.Sessions.{is_closing}
 abbrev pub end_of : FrameView → EndName
 end_of f = record { peer = f.peer; slot = f.slot; client = f.up }
 
--- a frame that is sent behind these has its place: it is a Close at an end that is open then, or the first frame that is
--- sent at an end with room
-abbrev pub HasPlace : (EndName → End) → (EndName → Bool) → List FrameView → FrameView → Type 0
-HasPlace ends room before f =
-    ((is_closing f.body ≡ true) × ((fold (λ c g. end_sends c g.body) (ends (end_of f)) (sent_at (end_of f) before)).opened ≡ true))
+-- how an end stands when it has sent what is its of these
+abbrev pub stood_at : (EndName → End) → List FrameView → EndName → End
+stood_at ends before a = fold (λ c g. end_sends c g.body) (ends a) (sent_at a before)
+
+-- a Close at an end that is open then, or the first frame that is sent at an end with room
+abbrev pub MaySend : (EndName → End) → (EndName → Bool) → List FrameView → FrameView → Type 0
+MaySend ends room before f =
+    ((is_closing f.body ≡ true) × ((stood_at ends before (end_of f)).opened ≡ true))
     ⊎ ((is_closing f.body ≡ false) × (room (end_of f) ≡ true) × (sent_at (end_of f) before ≡ []))
+
+-- a frame that is sent behind these has its place: it is what its end sends next, and may be sent there
+abbrev pub HasPlace : (EndName → End) → (EndName → Bool) → List FrameView → FrameView → Type 0
+HasPlace ends room before f = (frames (end_of f) (stood_at ends before (end_of f)) (f.body ∷ []) ≡ f ∷ []) × MaySend ends room before f
 
 -- each of the frames has its place behind those before it
 abbrev pub SendsWell : (EndName → End) → (EndName → Bool) → List FrameView → Type 0
@@ -45,8 +52,14 @@ IsOfJob (Fault call (by_job job)) = IsCallOfJob call
 IsOfJob (ends_job job outcome) = Unit {0}
 IsOfJob _ = ⊥
 
--- such an entry adds no line, and takes and sends frames only at ends whose client the repository is
+-- no opening is taken
+abbrev pub TakesNoOpening : Option FrameView → Type 0
+TakesNoOpening None = Unit {0}
+TakesNoOpening (Some f) = is_opening f.body ≡ false
+
+-- such an entry adds no line, takes no opening, and takes and sends frames only at ends whose client the repository is
 pub record IsOwnEntry (m : Made) : Type 0 where
   pub kind : IsOfJob m.kind
   pub lines : m.lines ≡ []
+  pub opening : TakesNoOpening m.taken
   pub clients : (a : EndName) → a.client ≡ false → (taken_at a m.taken ≡ None) × (sent_at a m.sent ≡ [])

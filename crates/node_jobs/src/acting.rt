@@ -52,6 +52,8 @@ pub(crate) fn act<K: Keeper>(
     ensures records { K.records keeper.new ≡ K.records keeper.old }
     ensures later { K.faults keeper.old ≤ K.faults keeper.new }
     ensures cause { IfOk result (λ out. IfSome (failed_in out.kind) (λ call. Rose (K.faults keeper.old) (K.faults keeper.new))) }
+    ensures parts { K.parts keeper.new ≡ K.parts keeper.old }
+    ensures files { K.files keeper.new ≡ K.files keeper.old }
 {
     match &job.known {
         Some(known) => advance(
@@ -110,6 +112,8 @@ fn advance<K: Keeper>(
     ensures records { K.records keeper.new ≡ K.records keeper.old }
     ensures later { K.faults keeper.old ≤ K.faults keeper.new }
     ensures cause { IfOk result (λ out. IfSome (failed_in out.kind) (λ call. Rose (K.faults keeper.old) (K.faults keeper.new))) }
+    ensures parts { K.parts keeper.new ≡ K.parts keeper.old }
+    ensures files { K.files keeper.new ≡ K.files keeper.old }
 {
     let desk = Desk {
         place,

@@ -1,5 +1,5 @@
 //! The running jobs: which begin, and which has the next step.
-ghost use Rattle.std.specs.Prelude.{◌≡◌, ℕ, is_some, ◌≤◌, ◌<◌, ◌+◌, ◌-◌, ◌*◌, ◌^◌, [], length, map, nat_lt, IfOk, IfSome, IsErrOf, OnErr, OnOk};
+ghost use Rattle.std.specs.Prelude.{◌≡◌, ℕ, is_some, ◌≤◌, ◌<◌, ◌+◌, ◌-◌, ◌*◌, ◌^◌, [], length, map, IfOk, IfSome, IsErrOf, OnErr, OnOk};
 ghost use Rattle.std.specs.Option.{ForSome};
 ghost use Rattle.annex_base.specs.Causes.{Rose};
 ghost use Rattle.annex_base.specs.Lists.{Each};
@@ -74,6 +74,13 @@ impl Jobs {
         self.place.number()
     }
 
+    /// How many repositories there are.
+    pub fn repositories(&self) -> u32
+        ensures { result ≡ length self.now.place.ids }
+    {
+        self.place.count()
+    }
+
     /// How many jobs were begun.
     pub fn begun(&self) -> u32
         ensures { result ≡ self.now.begun }
@@ -81,11 +88,11 @@ impl Jobs {
         self.begun
     }
 
-    /// Whether a job may begin: fewer than four run.
-    pub fn has_slot(&self) -> bool
-        ensures { result ≡ nat_lt (length self.now.running) 4 }
+    /// How many jobs run.
+    pub fn running(&self) -> usize
+        ensures { result ≡ length self.now.running }
     {
-        self.running.len() < 4
+        self.running.len()
     }
 
     /// Begins a drop of the repository's own copy, and gives its number. It makes no step yet.
@@ -168,6 +175,8 @@ impl Jobs {
         ensures records { K.records keeper.new ≡ K.records keeper.old }
         ensures later { K.faults keeper.old ≤ K.faults keeper.new }
         ensures cause { IfOk result (λ a. IfSome a (λ it. IfSome (failed_in it.kind) (λ call. Rose (K.faults keeper.old) (K.faults keeper.new)))) }
+        ensures parts { K.parts keeper.new ≡ K.parts keeper.old }
+        ensures files { K.files keeper.new ≡ K.files keeper.old }
     {
         let Some(found) = find_ready(&self.running, alloc, &self.place, clock, ends, time)? else {
             return Ok(None);

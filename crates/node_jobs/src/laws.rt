@@ -43,13 +43,13 @@ pub fn nameless_are_asked()
 }
 
 /// The step of a job that drops its own copy sends each frame where it has its place, at the ends after they took the frame that
-/// the step takes: a Close at an end that is open then, any other as the first at an end with room.
+/// the step takes: it is what its end sends next; and it is a Close at an end that is open then, or the first at an end with room.
 pub fn local_drops_send_where_there_is_room()
     ensures { (s : SetUp) (st : State) (k : Look) (jobs : Jobs) (m : Made) → AreWorks s st jobs → Each (IsDrop jobs.place) jobs.running → job_step s st k ≡ Some m
         → SendsWell (λ a. end_took (st.ends a) (taken_at a m.taken)) k.room m.sent }
 {}
 
-/// The entry that such a step makes is one of a job's: it adds no line, and takes and sends frames only at ends whose client the
+/// The entry that such a step makes is one of a job's: it adds no line, takes no opening, and takes and sends frames only at ends whose client the
 /// repository is.
 pub fn jobs_make_their_own_entries()
     ensures { (s : SetUp) (st : State) (k : Look) (jobs : Jobs) (m : Made) → AreWorks s st jobs → Each (IsDrop jobs.place) jobs.running → job_step s st k ≡ Some m → IsOwnEntry m }

@@ -52,6 +52,8 @@ pub(crate) fn turn<K: Keeper>(
     ensures records { K.records keeper.new ≡ K.records keeper.old }
     ensures later { K.faults keeper.old ≤ K.faults keeper.new }
     ensures cause { IfOk result (λ a. IfSome (failed_in a.kind) (λ call. Rose (K.faults keeper.old) (K.faults keeper.new))) }
+    ensures parts { K.parts keeper.new ≡ K.parts keeper.old }
+    ensures files { K.files keeper.new ≡ K.files keeper.old }
 {
     let Found { index, feed } = found;
     let Feed { taken, word, takes } = feed;

@@ -1,6 +1,8 @@
 -- The parts are those of a state: the first, and after a job has begun, or frames were carried or dropped.
-use Rattle.std.proofs.Common.{◌≡◌, ◌≢◌, ℕ, ◌<◌, ◌*◌, ◌+◌, Bool, true, false, List, [], ◌∷◌, Option, Some, None, length, map, refl, sym, ap, subst, ◌∙◌, arith}
-use Rattle.std.specs.Prelude.{fold, find, replicate, ◌==◌}
+use Rattle.std.proofs.Common.{◌≡◌, ◌≢◌, ℕ, ◌<◌, ◌*◌, ◌+◌, Bool, true, false, List, [], ◌∷◌, Option, Some, None, Result, Ok, Err, length, map, refl, sym, ap, subst, ◌∙◌, arith}
+use Rattle.std.specs.Prelude.{All, OnOk, fold, find, replicate, ◌==◌, ◌&&◌, ◌||◌}
+use Rattle.std.proofs.lemmas.List.{length-replicate}
+use Rattle.std.proofs.lemmas.List.Elements.{All-nil}
 use Rattle.annex_base.specs.Lists.{Each, Member}
 use Rattle.annex_base.specs.Settings.{Settings}
 use Rattle.run_data.specs.declared.entry.Entry.{Entry}
@@ -8,6 +10,7 @@ use Rattle.run_data.specs.declared.entry.EntryKind.{EntryKind}
 use Rattle.run_data.specs.declared.entry.EntryKind.TheVariants.{Begin}
 use Rattle.run_data.specs.declared.entry.FrameView.{FrameView}
 use Rattle.run_data.specs.declared.job.Job.{Job}
+use Rattle.run_data.specs.declared.row.Hold.{Hold}
 use Rattle.run_data.specs.declared.run.RepoView.{RepoView}
 use Rattle.trust_groups.specs.Settings.{settings}
 use Rattle.link_ring.specs.Ends.{EndView, fresh}
@@ -24,10 +27,12 @@ use Rattle.node_model.specs.SetUp.{SetUp}
 use Rattle.node_model.specs.State.{State}
 use Rattle.node_ends.specs.Ends.{AreEnds, end_at}
 use Rattle.node_ends.specs.Going.{AreAfter}
-use Rattle.node_sessions.specs.Sessions.{AreSessions, HaveEnds, IsSetUp}
-use Rattle.node_jobs.specs.Places.{IsPlace}
-use Rattle.node_jobs.specs.Running.{AreWorks, DropJob, Follows, Jobs}
+use Rattle.node_sessions.specs.Sessions.{AreSessions, HaveEnds, IsSetUp, OwnAll, fills_in}
+use Rattle.node_jobs.specs.Acting.{with_job}
+use Rattle.node_jobs.specs.Places.{IsPlace, PlaceView}
+use Rattle.node_jobs.specs.Running.{AreWorks, DropJob, Follows, Jobs, OwnAll as JobsOwn}
 use Rattle.node_parts.specs.Parts.{AreParts, PartsView}
+use Rattle.node_parts.specs.Sound.{AreSound}
 
 -- ---- the ends stand as they stood
 
@@ -46,11 +51,17 @@ parts_stand was links count stand s st are = record {
 
 -- ---- before the first entry
 
-pub first_parts : ((s : SetUp) → AreEnds (replicate (length s.repos * 8) fresh) s (first_state s)) → ((count : ℕ) (a : EndName) → end_at (replicate count fresh) a ≡ never)
+abbrev pub no_rows : Rows
+no_rows = record { holds = []; bars = []; fills = [] }
+
+abbrev pub no_jobs : ℕ → List (List ℕ) → Jobs
+no_jobs number ids = record { place = record { number = number; ids = ids }; running = []; begun = 0 }
+
+first_parts_of : ((s : SetUp) → AreEnds (replicate (length s.repos * 8) fresh) s (first_state s)) → ((count : ℕ) (a : EndName) → end_at (replicate count fresh) a ≡ never)
     → (number : ℕ) (ids : List (List ℕ)) (id : List ℕ) (version : ℕ) (locks : Bool) (xs : List Session) (s : SetUp) → IsSetUp s id version locks number (length ids)
     → map (λ (repo : RepoView). repo.id) s.repos ≡ ids → AreSessions s (λ a. new_session) xs
     → AreParts s (first_state s) (record { table = record { holds = []; bars = []; fills = [] }; links = replicate (length ids * 8) fresh; sessions = xs; jobs = record { place = record { number = number; ids = ids }; running = []; begun = 0 } })
-first_parts ends closed number ids id version locks xs s set_up ids_are sessions = record {
+first_parts_of ends closed number ids id version locks xs s set_up ids_are sessions = record {
   place = record { number = set_up.number_is; ids = ids_are };
   holds = refl;
   bars = λ key. refl;
@@ -61,6 +72,36 @@ first_parts ends closed number ids id version locks xs s set_up ids_are sessions
   works = record { works = refl; begun = refl; read = tt };
   logs = refl;
 }
+
+-- the parts that these are
+abbrev pub first_view : ℕ → List (List ℕ) → List Session → PartsView
+first_view number ids xs = record { table = no_rows; links = replicate (length ids * 8) fresh; sessions = xs; jobs = no_jobs number ids }
+
+pub first_parts : ((s : SetUp) → AreEnds (replicate (length s.repos * 8) fresh) s (first_state s)) → ((count : ℕ) (a : EndName) → end_at (replicate count fresh) a ≡ never)
+    → (number : ℕ) (ids : List (List ℕ)) (id : List ℕ) (version : ℕ) (locks : Bool) (p : PartsView) (s : SetUp) → IsSetUp s id version locks number (length ids) → map (λ (repo : RepoView). repo.id) s.repos ≡ ids
+    → AreSessions s (λ a. new_session) p.sessions → p.table ≡ no_rows → p.links ≡ replicate (length ids * 8) fresh → p.jobs ≡ no_jobs number ids → AreParts s (first_state s) p
+first_parts ends closed number ids id version locks p s set_up ids_are sessions t l j =
+    subst (AreParts s (first_state s)) (sym (λ i. record { table = t i; links = l i; sessions = p.sessions; jobs = j i })) (first_parts_of ends closed number ids id version locks p.sessions s set_up ids_are sessions)
+
+first_sound_of : (number : ℕ) (ids : List (List ℕ)) (xs : List Session) → ((rows : Rows) → All (λ h. h.kept ≡ true) rows.holds → OwnAll rows xs) → ((key : List ℕ) → fills_in xs key ≡ false)
+    → ((links : List EndView) → length links ≡ length ids * 8 → HaveEnds links xs) → AreSound (first_view number ids xs)
+first_sound_of number ids xs owns fills there = record {
+  count = length-replicate (length ids * 8) fresh;
+  there = there (replicate (length ids * 8) fresh) (length-replicate (length ids * 8) fresh);
+  serving = owns no_rows (All-nil (λ (h : Hold). h.kept ≡ true));
+  acting = record {
+    drops = tt;
+    owns = tt;
+    apart = tt;
+    later = λ job key beyond. record { of_key = refl; of_job = refl; bars = λ k. refl; holds = record { owner = refl; given = refl; kept = refl } };
+  };
+  filled = record { filled = λ key. sym (ap (λ (b : Bool). b || false) (fills key)); apart = λ key. ap (λ (b : Bool). b && false) (fills key) };
+}
+
+pub first_sound : (number : ℕ) (ids : List (List ℕ)) (p : PartsView) → ((rows : Rows) → All (λ h. h.kept ≡ true) rows.holds → OwnAll rows p.sessions) → ((key : List ℕ) → fills_in p.sessions key ≡ false)
+    → ((links : List EndView) → length links ≡ length ids * 8 → HaveEnds links p.sessions) → p.table ≡ no_rows → p.links ≡ replicate (length ids * 8) fresh → p.jobs ≡ no_jobs number ids → AreSound p
+first_sound number ids p owns fills there t l j =
+    subst AreSound (sym (λ i. record { table = t i; links = l i; sessions = p.sessions; jobs = j i })) (first_sound_of number ids p.sessions owns fills there)
 
 -- ---- after an entry that takes and sends nothing
 
@@ -105,7 +146,7 @@ module _ (s : SetUp) (st : State) (e : Entry) (n : ℕ) (what : Job) (is : e.kin
   pub begin_parts : EndsGo → ((links : List EndView) → AreAfter links links None []) → SessionsStay → e.taken ≡ None → e.sent ≡ [] → (was : PartsView) (jobs : Jobs) → AreParts s st was → jobs.place ≡ was.jobs.place
       → AreWorks s (state_after s st e) jobs → AreParts s (state_after s st e) (record was { jobs = jobs })
   begin_parts go still stay taken sent was jobs are place works = record {
-    place = subst (λ p. IsPlace p s) (sym place) are.place;
+    place = subst (λ (p : PlaceView). IsPlace p s) (sym place) are.place;
     holds = are.holds ∙ (λ i. holds_after st.holds (sym is i));
     bars = λ key. are.bars key ∙ (λ i. bar_after key (st.bar key) (sym is i));
     ends = ends_stay s st e taken sent go was.links (still was.links) are.ends;
@@ -115,3 +156,18 @@ module _ (s : SetUp) (st : State) (e : Entry) (n : ℕ) (what : Job) (is : e.kin
     works = works;
     logs = refl;
   }
+
+-- what a begin says of the works
+abbrev pub WorksBegun : Jobs → Jobs → Job → Type 0
+WorksBegun jobs jobs' what = (rows : Rows) (s : SetUp) (st : State) (e : Entry) (st' : State) → JobsOwn jobs rows → AreWorks s st jobs → e.kind ≡ Begin (jobs.begun + 1) what → Follows s st e st' → AreWorks s st' jobs'
+
+-- and of the parts
+abbrev pub PartsBegun : PartsView → PartsView → Job → Type 0
+PartsBegun was now what = (s : SetUp) (st : State) (e : Entry) → AreParts s st was → e.kind ≡ Begin (was.jobs.begun + 1) what → e.taken ≡ None → e.sent ≡ [] → AreParts s (state_after s st e) now
+
+pub begun_parts : {T E : Type 0} (r : Result T E) → EndsGo → ((links : List EndView) → AreAfter links links None []) → SessionsStay → (was : PartsView) (jobs : Jobs) (what : Job) → OnOk r (jobs ≡ with_job was.jobs what)
+    → OnOk r (WorksBegun was.jobs jobs what) → AreSound was → OnOk r (PartsBegun was (record { table = was.table; links = was.links; sessions = was.sessions; jobs = jobs }) what)
+begun_parts (Ok x) go still stay was jobs what ok works sound = λ s st e are kind taken sent.
+    begin_parts s st e (was.jobs.begun + 1) what kind go still stay taken sent was jobs are (ap (λ (j : Jobs). j.place) ok)
+    (works was.table s st e (state_after s st e) sound.acting are.works kind (begin_follows s st e (was.jobs.begun + 1) what kind are.logs))
+begun_parts (Err e) go still stay was jobs what ok works sound = tt

@@ -1,5 +1,8 @@
 -- The lemmas of this crate.
 pub mod Sounding
+pub mod Saying
 pub mod Going
 pub mod Served
+pub mod Posting
+pub mod Acted
 pub mod Staying

@@ -1,8 +1,10 @@
 -- What the sessions serve is the step of the parts.
 use Rattle.std.proofs.Common.{◌≡◌, ℕ, ◌<◌, ◌+◌, Bool, true, false, List, [], ◌∷◌, Option, Some, None, length, map, refl, sym, ap, subst, ◌∙◌}
-use Rattle.std.specs.Prelude.{◌&&◌, ◌||◌, All, bytes_eq, fold}
+use Rattle.std.specs.Prelude.{◌&&◌, ◌||◌, All, IfSome, bytes_eq, fold}
 use Rattle.std.specs.List.{list_any}
 use Rattle.std.specs.Option.{ForSome, option_map}
+use Rattle.std.proofs.lemmas.Option.{same_Some}
+use Rattle.annex_base.proofs.Options.{some_none}
 use Rattle.annex_base.specs.declared.kinds.Call.{Call}
 use Rattle.run_data.specs.declared.entry.By.TheVariants.{Job as by_job, Peer, Script}
 use Rattle.run_data.specs.declared.entry.Entry.{Entry}
@@ -39,7 +41,7 @@ use Rattle.node_jobs.specs.Running.{AreWorks, DropJob, Jobs, OwnAll as JobsOwn, 
 use Rattle.node_parts.specs.declared.done.Done.{Done}
 use Rattle.node_parts.specs.Parts.{AreParts, HasContents, PartsView}
 use Rattle.node_parts.specs.Sound.{AreSound}
-use Rattle.node_parts.specs.Steps.{Fails, Leaves, LeavesSo, SeesParts, Serves, Steps, failed_by, made_of, state_then}
+use Rattle.node_parts.specs.Steps.{EndsAfter, Fails, FindsPart, LeavesSo, SeesParts, Serves, Steps, failed_by, made_of, state_then}
 use Rattle.node_parts.proofs.Going.{EndsGo}
 
 -- ---- what laws say
@@ -67,24 +69,23 @@ no_work_fills : (key : List ℕ) (js : List DropJob) → list_any (λ (w : Work)
 no_work_fills key [] = refl
 no_work_fills key (j ∷ js) = no_work_fills key js
 
-
 -- the table fills what the state does
 pub table_fills : FillsLaw → (s : SetUp) (st : State) (p : PartsView) (key : List ℕ) → AreSound p → AreParts s st p → is_filling p.table key ≡ is_filled s st key
 table_fills law s st p key sound are =
     let none : list_any (λ (w : Work). w.fills && bytes_eq w.what.key key) st.works ≡ false = ap (list_any (λ (w : Work). w.fills && bytes_eq w.what.key key)) are.works.works ∙ no_work_fills key p.jobs.running in
     sound.filled.filled key ∙ (ap (λ (b : Bool). fills_in p.sessions key || b) (sym none) ∙ sym (law s st p.sessions key are.sessions are.closed))
 
-sees_of : FillsLaw → (p : PartsView) (c : Contents) (q : StoredParts) (clock : ClockSet) (time number : ℕ) (o : Option Served) (s : SetUp) (st : State) (k : Look)
-    → AreSound p → SeesParts p c clock time number s st k → SeesPartBy (Some q) p.sessions p.links o k.part k.right → FailsBy o k.fails
-    → Sees p.links p.table (Some c) (Some q) (runs_on clock time) number p.sessions o s st k
-sees_of law p c q clock time number o s st k sound sees part fails = record {
+sees_of : FillsLaw → (p : PartsView) (known : Option Contents) (parts : Option StoredParts) (c : Contents) (clock : ClockSet) (time number : ℕ) (o : Option Served) (s : SetUp) (st : State) (k : Look)
+    → AreSound p → known ≡ Some c → SeesParts p c clock time number s st k → SeesPartBy parts p.sessions p.links o k.part k.right → FailsBy o k.fails
+    → Sees p.links p.table known parts (runs_on clock time) number p.sessions o s st k
+sees_of law p known parts c clock time number o s st k sound told sees part fails = record {
   ends = sees.parts.ends;
   look = sees.ends;
   sessions = sees.parts.sessions;
-  keeps = record { contents = c; told = refl; present = sees.stored.present; content = sees.stored.content; bar = sees.parts.bars; holds = sees.parts.holds };
+  keeps = record { contents = c; told = told; present = sees.stored.present; content = sees.stored.content; bar = sees.parts.bars; holds = sees.parts.holds };
   filled = λ key. sym (table_fills law s st p key sound sees.parts);
-  time = ap (λ (f : ℕ → ℕ). f k.time) sees.ticks ∙ ap (runs_on clock) sees.at;
-  made = sym sees.counts;
+  time = ap (λ (f : ℕ → ℕ). f k.time) sees.ticks ∙ ap (runs_on clock) sees.time;
+  made = sym sees.number;
   part = part;
   fails = fails;
 }
@@ -140,8 +141,8 @@ module _ (was now : PartsView) (v : Served) (d : Done) (contents : Option Conten
       }
 
   pub stored_served : ForSome contents (λ c. HasContents c (state_after s st (entry_of s.number k (made_of d))))
-  stored_served =
-      subst (λ (o : Option Contents). ForSome o (λ c. HasContents c (state_after s st (entry_of s.number k (made_of d))))) (sym steps.keeps.told)
+  stored_served = λ c is.
+      subst (λ (x : Contents). HasContents x (state_after s st (entry_of s.number k (made_of d)))) (same_Some steps.keeps.contents c (sym steps.keeps.told ∙ is))
       (record {
         present = λ key. steps.keeps.present key ∙ ap (present_after key (st.present key)) (sym kind_is);
         content = λ key. steps.keeps.content key ∙ ap (content_after key (st.content key)) (sym kind_is);
@@ -153,14 +154,17 @@ module _ (was now : PartsView) (v : Served) (d : Done) (contents : Option Conten
 abbrev pub Then : PartsView → PartsView → Option Contents → Option Served → Option Done → Type 0
 Then was now contents o d = (s : SetUp) (st : State) (k : Look) → AreParts s st was → StepsSo was.links o now.sessions now.table contents s st k → Steps session_step now contents s st k d
 
-pub then_none : (was now : PartsView) (contents : Option Contents) → now ≡ was → Then was now contents None None
+same_parts : (was now : PartsView) → now.table ≡ was.table → now.links ≡ was.links → now.sessions ≡ was.sessions → now.jobs ≡ was.jobs → now ≡ was
+same_parts was now t l x j = λ i. record { table = t i; links = l i; sessions = x i; jobs = j i }
+
+then_none : (was now : PartsView) (contents : Option Contents) → now ≡ was → Then was now contents None None
 then_none was now contents same s st k are steps = record {
   made = steps.made;
   parts = subst (AreParts s st) (sym same) are;
-  stored = subst (λ (o : Option Contents). ForSome o (λ c. HasContents c st)) (sym steps.keeps.told) (record { present = steps.keeps.present; content = steps.keeps.content });
+  stored = λ c is. subst (λ (x : Contents). HasContents x st) (same_Some steps.keeps.contents c (sym steps.keeps.told ∙ is)) (record { present = steps.keeps.present; content = steps.keeps.content });
 }
 
-pub then_some : EndsGo → ClosedLaw → JobsStay → OwnEntries → (was now : PartsView) (contents : Option Contents) (v : Served) (d : Done)
+then_some : EndsGo → ClosedLaw → JobsStay → OwnEntries → (was now : PartsView) (contents : Option Contents) (v : Served) (d : Done)
     → AreSound was → now.jobs ≡ was.jobs → ServesAt was.links v → made_of d ≡ made_by was.links v → AreAfterStep v.kind was.table now.table → AreAfter was.links now.links d.taken d.sent
     → Then was now contents (Some v) (Some d)
 then_some go shuts stay own was now contents v d sound jobs serves same after ends s st k are steps = record {
@@ -169,41 +173,95 @@ then_some go shuts stay own was now contents v d sound jobs serves same after en
   stored = stored_served was now v d contents s st k sound are jobs serves same after ends steps;
 }
 
+then_of : EndsGo → ClosedLaw → JobsStay → OwnEntries → (was now : PartsView) (contents : Option Contents) (o : Option Served) (d : Option Done)
+    → AreSound was → now.jobs ≡ was.jobs → ServesIf was.links o → option_map made_of d ≡ option_map (made_by was.links) o → AreAfterIf o was.table now.table → EndsAfter was.links now.links d → (o ≡ None → now.sessions ≡ was.sessions)
+    → Then was now contents o d
+then_of go shuts stay own was now contents None None sound jobs serves same after ends idle =
+    then_none was now contents (same_parts was now after ends (idle refl) jobs)
+then_of go shuts stay own was now contents None (Some d) sound jobs serves same after ends idle = absurd (some_none (made_of d) same)
+then_of go shuts stay own was now contents (Some v) None sound jobs serves same after ends idle = absurd (some_none (made_by was.links v) (sym same))
+then_of go shuts stay own was now contents (Some v) (Some d) sound jobs serves same after ends idle =
+    then_some go shuts stay own was now contents v d sound jobs (serves v refl) (same_Some (made_of d) (made_by was.links v) same) after ends
+
 -- the look finds of the call that fails what the entry of the sessions tells
 abbrev pub FailsSo : Option Served → Option Done → Type 0
 FailsSo o d = (k : Look) → Fails d k → FailsBy o k.fails
 
-pub fails_none : FailsSo None None
-fails_none k f = tt
+kind_of : (links : List EndView) (v : Served) (d : Done) → option_map made_of (Some d) ≡ option_map (made_by links) (Some v) → d.kind ≡ v.kind
+kind_of links v d same = ap (λ (m : Made). m.kind) (same_Some (made_of d) (made_by links v) same)
 
-pub fails_some : (links : List EndView) (v : Served) (d : Done) → made_of d ≡ made_by links v → FailsSo (Some v) (Some d)
-fails_some links v d same k f = f ∙ (same_failure d.kind ∙ ap failed_here (ap (λ (m : Made). m.kind) same))
+fails_of : (links : List EndView) (o : Option Served) (d : Option Done) → option_map made_of d ≡ option_map (made_by links) o → FailsSo o d
+fails_of links None d same k f = λ v is. absurd (some_none v (sym is))
+fails_of links (Some v) None same k f = absurd (some_none (made_by links v) (sym same))
+fails_of links (Some v) (Some d) same k f = λ w is.
+    f d refl ∙ (same_failure d.kind ∙ (ap failed_here (kind_of links v d same) ∙ ap (λ (x : Served). failed_here x.kind) (same_Some v w is)))
 
-pub serves : FillsLaw → LooksSee → (was now : PartsView) (known contents : Option Contents) (parts : Option StoredParts) (clock : ClockSet) (time number : ℕ) (o : Option Served) (d : Option Done)
+-- the look finds the part of the step that the sessions have
+abbrev pub FindsSo : Option Served → Option Done → Type 0
+FindsSo o d = (part : ℕ) (right : Bool) (k : Look) → FindsPart d part right k → (v : Served) → o ≡ Some v → (k.part ≡ part) × (k.right ≡ right)
+
+finds_of : (links : List EndView) (o : Option Served) (d : Option Done) → option_map made_of d ≡ option_map (made_by links) o → FindsSo o d
+finds_of links None d same part right k finds = λ v is. absurd (some_none v (sym is))
+finds_of links (Some v) None same part right k finds = absurd (some_none (made_by links v) (sym same))
+finds_of links (Some v) (Some d) same part right k finds = λ w is. finds d refl
+
+failed_same : (links : List EndView) (o : Option Served) (d : Option Done) → option_map made_of d ≡ option_map (made_by links) o → failed_by d ≡ failed_by_served o
+failed_same links None None same = refl
+failed_same links None (Some d) same = absurd (some_none (made_of d) same)
+failed_same links (Some v) None same = absurd (some_none (made_by links v) (sym same))
+failed_same links (Some v) (Some d) same = same_failure d.kind ∙ ap failed_here (kind_of links v d same)
+
+pub cause_of : (links : List EndView) (o : Option Served) (d : Option Done) → option_map made_of d ≡ option_map (made_by links) o → (R : Type 0) → IfSome (failed_by_served o) (λ call. R) → IfSome (failed_by d) (λ call. R)
+cause_of links o d same R cause = subst (λ (f : Option Call). IfSome f (λ call. R)) (sym (failed_same links o d same)) cause
+
+serves : FillsLaw → LooksSee → (was now : PartsView) (known contents : Option Contents) (parts : Option StoredParts) (clock : ClockSet) (time number : ℕ) (o : Option Served) (d : Option Done)
     → AreSound was
     → ((s : SetUp) (st : State) (k : Look) → Sees was.links was.table known parts (runs_on clock time) number was.sessions o s st k → StepsSo was.links o now.sessions now.table contents s st k)
-    → Then was now contents o d → FailsSo o d
+    → Then was now contents o d → FailsSo o d → FindsSo o d
     → ForSome known (λ c. ForSome parts (λ q. FedAll q was.sessions → Serves was now c contents clock time number d))
-serves fills looks was now None contents parts clock time number o d sound step then_d fails = tt
-serves fills looks was now (Some c) contents None clock time number o d sound step then_d fails = tt
-serves fills looks was now (Some c) contents (Some q) clock time number o d sound step then_d fails = λ fed.
+serves fills looks was now known contents parts clock time number o d sound step then_d fails finds_so = λ c told q told_parts fed.
     let has = looks q was.sessions was.links o fed in
     record {
       part = has.part;
       right = has.right;
-      steps = λ s st k sees fail is_part is_right.
-          let part : SeesPartBy (Some q) was.sessions was.links o k.part k.right =
-              subst (λ (n : ℕ). SeesPartBy (Some q) was.sessions was.links o n k.right) (sym is_part) (subst (λ (b : Bool). SeesPartBy (Some q) was.sessions was.links o has.part b) (sym is_right) has.sees) in
-          then_d s st k sees.parts (step s st k (sees_of fills was c q clock time number o s st k sound sees part (fails k fail)));
+      steps = λ s st k sees fail finds.
+          let part : SeesPartBy parts was.sessions was.links o k.part k.right = (λ v is.
+          let found = finds_so has.part has.right k finds v is in
+          let there : SeesPartBy (Some q) was.sessions was.links (Some v) has.part has.right = subst (λ (y : Option Served). SeesPartBy (Some q) was.sessions was.links y has.part has.right) is has.sees in
+          subst (λ (x : Option StoredParts). SeesPartBy x was.sessions was.links (Some v) k.part k.right) (sym told_parts)
+          (subst (λ (n : ℕ). SeesPartBy (Some q) was.sessions was.links (Some v) n k.right) (sym found.0) (subst (λ (b : Bool). SeesPartBy (Some q) was.sessions was.links (Some v) has.part b) (sym found.1) there)) v refl) in
+          then_d s st k sees.parts (step s st k (sees_of fills was known parts c clock time number o s st k sound told sees part (fails k fail)));
     }
+
+-- the step, at ends that are those before it
+pub step_of : FillsLaw → LooksSee → EndsGo → ClosedLaw → JobsStay → OwnEntries → (was now : PartsView) (mid : List EndView) (known contents : Option Contents) (parts : Option StoredParts) (clock : ClockSet) (time number shows : ℕ) (o : Option Served) (d : Option Done)
+    → AreSound was → now.jobs ≡ was.jobs → mid ≡ was.links → shows ≡ runs_on clock time
+    → ((s : SetUp) (st : State) (k : Look) → Sees was.links was.table known parts shows number was.sessions o s st k → StepsSo was.links o now.sessions now.table contents s st k)
+    → ServesIf was.links o → option_map made_of d ≡ option_map (made_by mid) o → AreAfterIf o was.table now.table → EndsAfter mid now.links d → (o ≡ None → now.sessions ≡ was.sessions)
+    → ForSome known (λ c. ForSome parts (λ q. FedAll q was.sessions → Serves was now c contents clock time number d))
+step_of fills looks go shuts stay own was now mid known contents parts clock time number shows o d sound jobs mid_is shows_is step serves_if made after ends idle =
+    let same : option_map made_of d ≡ option_map (made_by was.links) o = made ∙ ap (λ (links : List EndView). option_map (made_by links) o) mid_is in
+    let gone : EndsAfter was.links now.links d = subst (λ (links : List EndView). EndsAfter links now.links d) mid_is ends in
+    serves fills looks was now known contents parts clock time number o d sound
+    (λ s st k sees. step s st k (subst (λ (n : ℕ). Sees was.links was.table known parts n number was.sessions o s st k) (sym shows_is) sees))
+    (then_of go shuts stay own was now contents o d sound jobs serves_if same after gone idle) (fails_of was.links o d same) (finds_of was.links o d same)
 
 -- ---- what is left
 
-pub leaves_served : (number : ℕ) (was now : PartsView) (v : Served) (d : Done) → made_of d ≡ made_by was.links v → AreAfterStep v.kind was.table now.table
-    → All (λ h. h.number < number + 1) now.table.holds → AreAfter was.links now.links d.taken d.sent → LeavesSo number was now (Some d)
-leaves_served number was now v d same after numbers ends = record {
-  holds = after.holds ∙ ap (holds_after was.table.holds) (sym (ap (λ (m : Made). m.kind) same));
-  bars = λ key. after.bars key ∙ ap (bar_after key (bar_at was.table key)) (sym (ap (λ (m : Made). m.kind) same));
-  numbers = numbers;
-  ends = ends;
-}
+leaves_of : (number : ℕ) (was now : PartsView) (o : Option Served) (d : Option Done) → now.jobs ≡ was.jobs → option_map made_of d ≡ option_map (made_by was.links) o → AreAfterIf o was.table now.table
+    → All (λ h. h.number < number + 1) now.table.holds → EndsAfter was.links now.links d → (o ≡ None → now.sessions ≡ was.sessions) → LeavesSo number was now d
+leaves_of number was now None None jobs same after numbers ends idle = same_parts was now after ends (idle refl) jobs
+leaves_of number was now None (Some d) jobs same after numbers ends idle = absurd (some_none (made_of d) same)
+leaves_of number was now (Some v) None jobs same after numbers ends idle = absurd (some_none (made_by was.links v) (sym same))
+leaves_of number was now (Some v) (Some d) jobs same after numbers ends idle =
+    let kind : v.kind ≡ d.kind = sym (kind_of was.links v d same) in record {
+      holds = after.holds ∙ ap (holds_after was.table.holds) kind;
+      bars = λ key. after.bars key ∙ ap (bar_after key (bar_at was.table key)) kind;
+      numbers = numbers;
+      ends = ends;
+    }
+
+pub leaves_at : (number : ℕ) (was now : PartsView) (mid : List EndView) (o : Option Served) (d : Option Done) → now.jobs ≡ was.jobs → mid ≡ was.links → option_map made_of d ≡ option_map (made_by mid) o → AreAfterIf o was.table now.table
+    → All (λ h. h.number < number + 1) now.table.holds → EndsAfter mid now.links d → (o ≡ None → now.sessions ≡ was.sessions) → LeavesSo number was now d
+leaves_at number was now mid o d jobs mid_is made after numbers ends idle =
+    leaves_of number was now o d jobs (made ∙ ap (λ (links : List EndView). option_map (made_by links) o) mid_is) after numbers (subst (λ (links : List EndView). EndsAfter links now.links d) mid_is ends) idle

@@ -1,12 +1,14 @@
 -- What the parts have of their table and of their ends, after these have changed.
-use Rattle.std.proofs.Common.{◌≡◌, ◌≢◌, ℕ, ◌<◌, ◌*◌, Bool, true, false, List, [], ◌∷◌, Option, Some, None, length, refl, sym, ap, subst, ◌∙◌, arith}
-use Rattle.std.specs.Prelude.{is_some, nat_lt, not, ◌==◌, ◌||◌, All}
+use Rattle.std.proofs.Common.{◌≡◌, ◌≢◌, ℕ, ◌<◌, ◌*◌, Bool, true, false, List, [], ◌∷◌, Option, Some, None, Result, Ok, Err, length, refl, sym, ap, subst, ◌∙◌, arith}
+use Rattle.std.specs.Prelude.{OnErr, OnOk, is_some, nat_lt, not, ◌==◌, if◌then◌else◌, slice_get}
 use Rattle.std.proofs.lemmas.Bool.{true≢false}
 use Rattle.std.proofs.lemmas.Bool.Decides.{nat_tests}
 use Rattle.annex_base.specs.Lists.{Each}
 use Rattle.annex_base.proofs.Lists.{Each-weaker}
 use Rattle.run_data.specs.declared.entry.By.TheVariants.{Job as by_job}
+use Rattle.run_data.specs.declared.job.Job.{Job}
 use Rattle.link_ring.specs.Ends.{EndView}
+use Rattle.link_ring.specs.Places.{end_place}
 use Rattle.content_lock.specs.Rows.{Rows, bar_at}
 use Rattle.content_lock.specs.Tokens.{Owns, ShareView}
 use Rattle.p2p_server.specs.declared.session.Session.{Session}
@@ -18,6 +20,8 @@ use Rattle.node_sessions.specs.Sessions.{AreFilled, HaveEnds, IsOther, OwnAll, e
 use Rattle.drop_worker.specs.declared.phase.Token.{Token}
 use Rattle.drop_worker.specs.declared.phase.Token.TheVariants as tokens
 use Rattle.drop_worker.specs.Doing.{HasToken, share_in}
+use Rattle.node_jobs.specs.Acting.{with_job}
+use Rattle.node_jobs.specs.Places.{PlaceView}
 use Rattle.node_jobs.specs.Running.{IsOwn, Jobs, OwnAll as JobsOwn}
 use Rattle.node_parts.specs.Parts.{PartsView}
 use Rattle.node_parts.specs.Sound.{AreSound}
@@ -75,7 +79,7 @@ low_slot links x is = go (nat_lt x.slot 4) refl is
   where
     go : (b : Bool) → nat_lt x.slot 4 ≡ b → is_some (link_at links x) ≡ true → x.slot < 4
     go true low at = grind (arith, nat_tests)
-    go false high at = absurd (true≢false (sym (rw high at at)))
+    go false high at = absurd (true≢false (sym at ∙ ap (λ (b : Bool). is_some (if b then slice_get links (end_place x.peer x.slot x.client) else None)) high))
 
 -- each end that was there is there, where those of the other side are
 pub carried_there : (a b : ℕ) (was now other : List EndView) → AreCarried a b was now other
@@ -130,6 +134,16 @@ jobs_keep jobs was now bars others own = record {
 
 -- ---- all of it
 
+pub carried_sound : (p : PartsView) (a b : ℕ) (now other : List EndView) → AreSound p → AreCarried a b p.links now other
+    → ((slot : ℕ) (client : Bool) → slot < 4 → is_some (link_at other (end_with a slot (not client))) ≡ true) → AreSound (record { table = p.table; links = now; sessions = p.sessions; jobs = p.jobs })
+carried_sound p a b now other sound carried sides = record {
+  count = carried.count ∙ sound.count;
+  there = λ i x at. carried_there a b p.links now other carried sides (end_of x) (sound.there i x at);
+  serving = sound.serving;
+  acting = sound.acting;
+  filled = sound.filled;
+}
+
 -- after a step of the sessions
 pub sound_after : (was : PartsView) (table : Rows) (links : List EndView) (xs : List Session) → AreSound was → length links ≡ length was.links → HaveEnds links xs → OwnAll table xs → AreFilled table xs (λ key. false)
     → ((key : List ℕ) → bar_at table key ≡ bar_at was.table key) → LeavesJobs was.table table → AreSound (record { table = table; links = links; sessions = xs; jobs = was.jobs })
@@ -142,5 +156,25 @@ sound_after was table links xs sound count there own filled bars others = record
 }
 
 -- after frames were carried or dropped
-pub sound_ends : (was : PartsView) (links : List EndView) → AreSound was → length links ≡ length was.links → HaveEnds links was.sessions → AreSound (record was { links = links })
+pub sound_ends : (was : PartsView) (links : List EndView) → AreSound was → length links ≡ length was.links → HaveEnds links was.sessions → AreSound (record { table = was.table; links = links; sessions = was.sessions; jobs = was.jobs })
 sound_ends was links sound count there = record { count = count ∙ sound.count; there = there; serving = sound.serving; acting = sound.acting; filled = sound.filled }
+
+-- ---- a job was begun, or wasn't
+
+begun_own : {T E : Type 0} (r : Result T E) (jobs jobs' : Jobs) (rows : Rows) → OnOk r ((x : Rows) → JobsOwn jobs x → JobsOwn jobs' x) → OnErr r (jobs' ≡ jobs) → JobsOwn jobs rows → JobsOwn jobs' rows
+begun_own (Ok x) jobs jobs' rows ok err own = ok rows own
+begun_own (Err e) jobs jobs' rows ok err own = subst (λ (j : Jobs). JobsOwn j rows) (sym err) own
+
+begun_place : {T E : Type 0} (r : Result T E) (jobs jobs' : Jobs) (what : Job) → OnOk r (jobs' ≡ with_job jobs what) → OnErr r (jobs' ≡ jobs) → jobs'.place ≡ jobs.place
+begun_place (Ok x) jobs jobs' what ok err = ap (λ (j : Jobs). j.place) ok
+begun_place (Err e) jobs jobs' what ok err = ap (λ (j : Jobs). j.place) err
+
+pub begun_sound : {T E : Type 0} (r : Result T E) (was : PartsView) (jobs : Jobs) (what : Job) → OnOk r (jobs ≡ with_job was.jobs what) → OnOk r ((x : Rows) → JobsOwn was.jobs x → JobsOwn jobs x) → OnErr r (jobs ≡ was.jobs)
+    → AreSound was → AreSound (record { table = was.table; links = was.links; sessions = was.sessions; jobs = jobs })
+begun_sound r was jobs what ok owns err sound = record {
+  count = sound.count ∙ sym (ap (λ (p : PlaceView). length p.ids * 8) (begun_place r was.jobs jobs what ok err));
+  there = sound.there;
+  serving = sound.serving;
+  acting = begun_own r was.jobs jobs was.table owns err sound.acting;
+  filled = sound.filled;
+}

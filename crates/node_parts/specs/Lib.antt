@@ -4,3 +4,4 @@ pub mod Sound
 pub mod Kinds
 pub mod Steps
 pub mod Direct
+pub mod Posting

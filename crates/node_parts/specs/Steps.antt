@@ -37,13 +37,13 @@ failed_by (Some d) = failed_in d.kind
 
 -- The state is what these parts and a store with these contents are, before the entry of this number; and at this time the look
 -- finds what waits at the ends, and where they have room.
-pub record SeesParts (p : PartsView) (c : Contents) (clock : ClockSet) (time number : ℕ) (s : SetUp) (st : State) (k : Look) : Type 0 where
+pub record SeesParts (p : PartsView) (c : Contents) (clock : ClockSet) (at n : ℕ) (s : SetUp) (st : State) (k : Look) : Type 0 where
   pub parts : AreParts s st p
   pub stored : HasContents c st
   pub ticks : st.clock ≡ runs_on clock
-  pub counts : number ≡ st.made + 1
+  pub number : n ≡ st.made + 1
   pub ends : SeesEnds p.links s k
-  pub at : k.time ≡ time
+  pub time : k.time ≡ at
 
 -- where there is a step, the look finds its store call to fail that the entry tells
 abbrev pub Fails : Option Done → Look → Type 0
@@ -92,6 +92,11 @@ pub record Leaves (number : ℕ) (was now : PartsView) (d : Done) : Type 0 where
   pub bars : (key : List ℕ) → bar_at now.table key ≡ bar_after key (bar_at was.table key) d.kind
   pub numbers : All (λ h. h.number < number + 1) now.table.holds
   pub ends : AreAfter was.links now.links d.taken d.sent
+
+-- the ends are those after a step, if there is one
+abbrev pub EndsAfter : List EndView → List EndView → Option Done → Type 0
+EndsAfter was now None = now ≡ was
+EndsAfter was now (Some d) = AreAfter was now d.taken d.sent
 
 abbrev pub LeavesSo : ℕ → PartsView → PartsView → Option Done → Type 0
 LeavesSo number was now None = now ≡ was

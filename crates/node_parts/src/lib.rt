@@ -1,7 +1,9 @@
 //! The moving parts of a repository: its lock table, its ends, its sessions and its running jobs, over one store.
 #![tactic(auto)]
 
+mod acting;
 mod done;
+mod jobs;
 mod laws;
 mod moment;
 mod parts;

@@ -1,5 +1,6 @@
 //! When an entry is made.
 ghost use Rattle.std.specs.Prelude.{◌≡◌};
+
 use annex_base::EntryStamp;
 use drop_worker::Time;
 use node_jobs::Clock;
@@ -14,15 +15,13 @@ pub struct Moment {
     pub number: u64,
 }
 
-impl Moment {
-    /// The stamp of the entry, as one of the repository of this number.
-    pub(crate) fn stamp(self, repo: u32) -> EntryStamp
-        ensures { result ≡ record { time = self.time; count = self.count; repo = repo } }
-    {
-        EntryStamp {
-            time: self.time.ms(),
-            count: self.count,
-            repo,
-        }
+/// The stamp of the entry of this count, as one of the repository of this number.
+pub(crate) fn stamp_at(time: Time, count: u64, repo: u32) -> EntryStamp
+    ensures { result ≡ record { time = time; count = count; repo = repo } }
+{
+    EntryStamp {
+        time: time.ms(),
+        count,
+        repo,
     }
 }

@@ -16,19 +16,20 @@ ghost use Rattle.node_sessions.specs.Sessions.{FedAll, IsSetUp};
 ghost use Rattle.node_jobs.specs.Acting.{with_job};
 ghost use Rattle.node_parts.specs.Kinds.{IsQuiet};
 ghost use Rattle.node_parts.specs.Parts.{AreParts};
+ghost use Rattle.node_parts.specs.Sound.{AreSound};
 ghost use Rattle.node_parts.specs.Steps.{LeavesSo, Serves, failed_by};
 
 use crate::done::Done;
-use crate::moment::Moment;
-use crate::serving::{listing, serve};
+use crate::moment::{Moment, stamp_at};
+use crate::serving::{listing, serve_if};
 use annex_base::{Items, NoMemory, RepoId};
 use content_lock::LockTable;
 use link_ring::Links;
 use node_ends::{Ends, carry_ends, ends_begin_closed, ends_go_on};
 use node_jobs::{BeginRefused, Jobs, Place, jobs_stay};
 use node_sessions::{
-    Sessions, looks_see_parts, sessions_and_jobs_fill, sessions_make_their_own_entries, sessions_of_closed_ends_are_new,
-    sessions_stay,
+    Sessions, looks_see_parts, sessions_and_jobs_fill, sessions_make_their_own_entries,
+    sessions_of_closed_ends_are_new, sessions_stay,
 };
 use object_store::Keeper;
 use run_data::{Job, JobKind};
@@ -38,10 +39,10 @@ use std::marker::Model;
 /// The moving parts of a repository: its lock table, its ends, its sessions and its running jobs (own). They have tokens to
 /// spend, so they are dissolved and never dropped.
 pub struct Parts {
-    table: LockTable,
-    ends: Ends,
-    sessions: Sessions,
-    jobs: Jobs,
+    pub(crate) table: LockTable,
+    pub(crate) ends: Ends,
+    pub(crate) sessions: Sessions,
+    pub(crate) jobs: Jobs,
 }
 
 impl Model for Parts {
@@ -92,9 +93,10 @@ impl Parts {
         })
     }
 
-    /// Its rows.
+    /// Its rows. What the parts have of them and of the ends is theirs, whatever a store tells.
     pub fn table(&self) -> &LockTable
-        ensures { result.now ≡ self.now.table }
+        ensures rows { result.now ≡ self.now.table }
+        ensures sound { AreSound self.now }
     {
         &self.table
     }
@@ -110,7 +112,7 @@ impl Parts {
     pub fn has_slot(&self) -> bool
         ensures { result ≡ nat_lt (length self.now.jobs.running) 4 }
     {
-        self.jobs.has_slot()
+        self.jobs.running() < 4
     }
 
     /// Begins a drop of the repository's own copy, and gives its number. After a refusal all is as before.
@@ -169,6 +171,12 @@ impl Parts {
         ensures err_parts { OnErr result (K.parts keeper.new ≡ K.parts keeper.old) }
         ensures err_records { OnErr result (K.records keeper.new ≡ K.records keeper.old) }
     {
+        let Moment {
+            time,
+            clock,
+            count,
+            number,
+        } = moment;
         // Laws, for the proof.
         ends_go_on();
         jobs_stay();
@@ -176,13 +184,7 @@ impl Parts {
         sessions_and_jobs_fill();
         sessions_make_their_own_entries();
         sessions_of_closed_ends_are_new();
-        let stamp = moment.stamp(self.jobs.number());
-        let Moment {
-            time,
-            clock,
-            count: _,
-            number,
-        } = moment;
+        let stamp = stamp_at(time, count, self.jobs.number());
         let shows = clock.read(time);
         let room = listing(alloc)?;
         let served = self.sessions.step(
@@ -193,10 +195,7 @@ impl Parts {
             shows,
             number,
         )?;
-        match served {
-            None => Ok(None),
-            Some(served) => Ok(Some(serve(&mut self.ends, stamp, served, room))),
-        }
+        Ok(serve_if(&mut self.ends, stamp, served, room))
     }
 
     /// Carries the frames of all connections with another repository to the ends that take them.

@@ -1,7 +1,9 @@
 //! The step of a session: its frames are taken and sent.
 ghost use Rattle.std.specs.Prelude.{◌≡◌, ◌≤◌, ◌<◌, ◌++◌, ◌∷◌, ℕ, List, [], true, false, None, IfOk, if◌then◌else◌, is_some, length, vec_capacity, vec_len};
-ghost use Rattle.std.specs.Option.{ForSome};
+ghost use Rattle.std.specs.declared.option.Option.{Option};
+ghost use Rattle.std.specs.Option.{ForSome, option_map};
 ghost use Rattle.run_data.specs.declared.entry.FrameText.TheVariants as texts;
+ghost use Rattle.run_data.specs.declared.entry.FrameView.{FrameView};
 ghost use Rattle.link_ring.specs.Ends.{EndView};
 ghost use Rattle.node_model.specs.Ends.{end_took, frames};
 ghost use Rattle.p2p_server.specs.Answers.{closes};
@@ -9,8 +11,8 @@ ghost use Rattle.node_ends.specs.Ends.{end_at, name_of, room_at, wait_at};
 ghost use Rattle.node_ends.specs.Going.{AreAfter};
 ghost use Rattle.node_ends.specs.Joined.{StayPaired};
 ghost use Rattle.node_ends.specs.Sent.{may_send};
-ghost use Rattle.node_sessions.specs.Serving.{IsTalk, ServesAt, made_by, says_in};
-ghost use Rattle.node_parts.specs.Steps.{made_of};
+ghost use Rattle.node_sessions.specs.Serving.{IsTalk, ServesAt, ServesIf, made_by, says_in};
+ghost use Rattle.node_parts.specs.Steps.{EndsAfter, made_of};
 
 use crate::done::Done;
 use crate::taking::take;
@@ -64,8 +66,8 @@ fn reply_with(
     requires empty { listing.items ≡ [] }
     requires room { 2 ≤ vec_capacity listing }
     ensures sent { result.items ≡ frames (name_of id) (end_at ends.old (name_of id)) (says_in reply false) }
-    ensures open { (end_at ends.new (name_of id)).opened ≡ (end_at ends.old (name_of id)).opened }
-    ensures then { frames (name_of id) (end_at ends.old (name_of id)) (says_in reply true) ≡ result.items ++ frames (name_of id) (end_at ends.new (name_of id)) (texts.Closing ∷ []) }
+    ensures opened { (end_at ends.new (name_of id)).opened ≡ (end_at ends.old (name_of id)).opened }
+    ensures shut { frames (name_of id) (end_at ends.old (name_of id)) (says_in reply true) ≡ result.items ++ frames (name_of id) (end_at ends.new (name_of id)) (texts.Closing ∷ []) }
     ensures room { vec_len result < vec_capacity result }
     ensures after { (was : List EndView) (taken : Option FrameView) → AreAfter was ends.old taken [] → AreAfter was ends.new taken result.items }
     ensures paired { StayPaired ends.old ends.new }
@@ -86,7 +88,7 @@ fn close_if(
     close: bool,
     sent: Vec<FrameView>,
 ) -> Vec<FrameView>
-    requires open { close ≡ true → (end_at ends.old (name_of id)).opened ≡ true }
+    requires opened { close ≡ true → (end_at ends.old (name_of id)).opened ≡ true }
     requires room { vec_len sent < vec_capacity sent }
     ensures sent { result.items ≡ sent.items ++ frames (name_of id) (end_at ends.old (name_of id)) (closes close) }
     ensures after { (was : List EndView) (taken : Option FrameView) → AreAfter was ends.old taken sent.items → AreAfter was ends.new taken result.items }
@@ -102,13 +104,8 @@ fn close_if(
     all
 }
 
-/// Takes and sends what a session serves. It takes no memory.
-pub(crate) fn serve(
-    ends: &mut Ends,
-    stamp: EntryStamp,
-    served: Served,
-    listing: Vec<FrameView>,
-) -> Done
+/// Takes and sends what a session serves.
+fn serve(ends: &mut Ends, stamp: EntryStamp, served: Served, listing: Vec<FrameView>) -> Done
     requires serves { ServesAt ends.old served }
     requires empty { listing.items ≡ [] }
     requires room { 2 ≤ vec_capacity listing }
@@ -139,5 +136,26 @@ pub(crate) fn serve(
         kind,
         taken,
         sent: Items::from_vec(sent),
+    }
+}
+
+/// Takes and sends what a session serves, if one does. It takes no memory.
+pub(crate) fn serve_if(
+    ends: &mut Ends,
+    stamp: EntryStamp,
+    served: Option<Served>,
+    listing: Vec<FrameView>,
+) -> Option<Done>
+    requires serves { ServesIf ends.old served }
+    requires empty { listing.items ≡ [] }
+    requires room { 2 ≤ vec_capacity listing }
+    ensures made { option_map made_of result ≡ option_map (made_by ends.old) served }
+    ensures after { EndsAfter ends.old ends.new result }
+    ensures paired { StayPaired ends.old ends.new }
+    ensures count { length ends.new ≡ length ends.old }
+{
+    match served {
+        None => None,
+        Some(served) => Some(serve(ends, stamp, served, listing)),
     }
 }

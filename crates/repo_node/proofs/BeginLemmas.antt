@@ -1,10 +1,13 @@
 -- What stands beside a history stays so after a job begins, and after frames are dropped or carried.
-use Rattle.std.proofs.Common.{◌≡◌, ℕ, ◌≤◌, ◌<◌, ◌+◌, Bool, true, List, [], ◌∷◌, ◌++◌, All, Option, Some, None, Result, Ok, Err, IfOk, OnErr, length, refl, sym, ap, subst, ◌∙◌}
+use Rattle.std.proofs.Common.{◌≡◌, ℕ, ◌≤◌, ◌<◌, ◌+◌, Bool, true, List, [], ◌∷◌, ◌++◌, All, Option, Some, None, Result, Ok, Err, IfOk, OnErr, length, is_some, refl, sym, ap, subst, arith, ◌∙◌}
+use Rattle.std.proofs.lemmas.List.{length-append}
+use Rattle.std.proofs.lemmas.List.Elements.{All-weaker}
 use Rattle.run_data.specs.declared.entry.Entry.{Entry}
 use Rattle.run_data.specs.declared.entry.EntryKind.{EntryKind}
 use Rattle.run_data.specs.declared.entry.EntryKind.TheVariants.{Begin}
 use Rattle.run_data.specs.declared.job.Job.{Job}
-use Rattle.object_store.specs.Stores.{Contents}
+use Rattle.run_data.specs.declared.row.Hold.{Hold}
+use Rattle.object_store.specs.Stores.{Contents, Parts as StoredParts}
 use Rattle.content_lock.specs.Rows.{Rows, bar_at, is_filling}
 use Rattle.union_merge.specs.Branch.{Files, lines_at}
 use Rattle.node_jobs.specs.Acting.{with_job}
@@ -18,10 +21,13 @@ use Rattle.node_parts.specs.Sound.{AreSound}
 use Rattle.repo_node.specs.declared.past.Past.{Past}
 use Rattle.repo_node.specs.declared.setup.Ended.{Ended}
 use Rattle.repo_node.specs.declared.setup.Setup.{Setup}
-use Rattle.repo_node.specs.Kept.{IsKept}
+use Rattle.node_sessions.specs.Sessions.{FedAll}
+use Rattle.std.specs.Option.{ForSome}
+use Rattle.repo_node.specs.Kept.{IsFed, IsKept}
 use Rattle.repo_node.specs.Nodes.{Fits, IsState, NodeView, Stands, state_of, with_entry}
 use Rattle.repo_node.specs.Pasts.{AddsTo, SamePast}
 use Rattle.repo_node.proofs.MoveLemmas.{seen}
+use Rattle.repo_node.proofs.OwedLemmas.{Grows, grows_adds}
 use Rattle.repo_node.proofs.PastLemmas.{adds_after}
 use Rattle.repo_node.proofs.StepLemmas.{FillLaw, state_more}
 
@@ -60,16 +66,12 @@ begin_entry setup time count job what = record { time = time; count = count; rep
 abbrev pub GoOn : PartsView → PartsView → ℕ → Job → Type 0
 GoOn was now job what = (s : SetUp) (st : State) (e : Entry) → AreParts s st was → e.kind ≡ Begin job what → e.taken ≡ None → e.sent ≡ [] → AreParts s (state_after s st e) now
 
-more_length : (h : List Entry) (e : Entry) → length (h ++ e ∷ []) ≡ length h + 1
-more_length [] e = refl
-more_length (x ∷ h) e = ap (λ (n : ℕ). n + 1) (more_length h e)
-
-later_numbers : (n m : ℕ) (hs : List _) → n ≤ m → All (λ x. x.number < n) hs → All (λ x. x.number < m) hs
-later_numbers n m hs more all = λ x at. let few = all x at in omega (arith, few, more)
+later_numbers : (n m : ℕ) (hs : List Hold) → n ≤ m → All (λ (x : Hold). x.number < n) hs → All (λ (x : Hold). x.number < m) hs
+later_numbers n m hs more all = All-weaker (λ (x : Hold). x.number < n) (λ (x : Hold). x.number < m) (λ x few. omega (arith, few, more)) hs all
 
 module _ (setup : Setup) (h : List Entry) (was now : PartsView) (branch : Files) (owed : List Owed) (told : Option Contents) (time count job : ℕ) (what : Job)
     (fills : FillLaw) (sound' : AreSound now) (same : now ≡ record was { jobs = with_job was.jobs what }) (go : GoOn was now job what) (kept : IsKept setup h was branch owed told) where
-  begun_entry : Entry
+  abbrev begun_entry : Entry
   begun_entry = begin_entry setup time count job what
 
   table_same : now.table ≡ was.table
@@ -98,11 +100,11 @@ module _ (setup : Setup) (h : List Entry) (was now : PartsView) (branch : Files)
     state = λ s fits. subst (IsState s now branch owed told) (sym (state_more s h begun_entry)) (state_begun s fits);
     clock = λ s fits. ap (λ (st : State). st.clock) (state_more s h begun_entry) ∙ kept.clock s fits;
     numbered = subst (λ (t : Rows). All (λ x. x.number < length (h ++ begun_entry ∷ []) + 1) t.holds) (sym table_same)
-        (let longer = more_length h begun_entry in later_numbers (length h + 1) (length (h ++ begun_entry ∷ []) + 1) was.table.holds (omega (arith, longer)) kept.numbered);
+        (let longer = length-append h (begun_entry ∷ []) in later_numbers (length h + 1) (length (h ++ begun_entry ∷ []) + 1) was.table.holds (omega (arith, longer)) kept.numbered);
     place = ap (λ (p : PartsView). p.jobs.place) same ∙ kept.place;
     begun =
         let few = kept.begun in
-        let longer = more_length h begun_entry in
+        let longer = length-append h (begun_entry ∷ []) in
         let one : now.jobs.begun ≡ was.jobs.begun + 1 = ap (λ (p : PartsView). p.jobs.begun) same in
         omega (arith, few, longer, one);
   }
@@ -146,3 +148,18 @@ pub seen_begun : {K : Type 0} (k : K) (parts parts' : PartsView) (branch : Files
 seen_begun {K} k parts parts' branch was ready now owed owed' job what lines n view ep none same adds eo =
     subst (λ (m : NodeView K). seen k parts' branch now owed' ≡ record (with_entry m m.keeper m.branch (Begin job what) []) { parts = record m.parts { jobs = with_job m.parts.jobs what } }) view
     (node_begun k parts parts' branch was now owed owed' job what ep (subst (λ (ls : List (List ℕ)). AddsTo (Begin job what) ls was now) none (adds_after (Begin job what) lines was ready now same adds)) eo)
+
+-- ---- the store's parts
+
+pub fed_links : (stored : Option StoredParts) (was now : PartsView) → now.sessions ≡ was.sessions → IsFed stored was → IsFed stored now
+fed_links stored was now same fed = λ q known. subst (FedAll q) (sym same) (fed q known)
+
+pub fed_after : (stored stored' : Option StoredParts) (was now : PartsView) → is_some stored' ≡ is_some stored → ForSome stored (λ q. FedAll q was.sessions → ForSome stored' (λ q'. FedAll q' now.sessions)) → IsFed stored was → IsFed stored' now
+fed_after None None was now told feeds fed = λ q known. absurd cc
+fed_after None (Some q') was now told feeds fed = absurd cc
+fed_after (Some q) stored' was now told feeds fed = feeds q refl (fed q refl)
+
+-- ---- the history
+
+pub begun_grows : (was ready now : Past) (job : ℕ) (what : Job) (lines : List (List ℕ)) → SamePast was ready → AddsTo (Begin job what) lines ready now → Grows was now
+begun_grows was ready now job what lines same adds = grows_adds (Begin job what) lines was now (adds_after (Begin job what) lines was ready now same adds)

@@ -14,3 +14,5 @@ pub mod StepLemmas
 pub mod MoveLemmas
 pub mod TurnLemmas
 pub mod BeginLemmas
+pub mod NoteLemmas
+pub mod PayLemmas

@@ -1,5 +1,5 @@
 -- What a step of the sessions or of the jobs adds to a node.
-use Rattle.std.proofs.Common.{◌≡◌, ℕ, ◌+◌, Bool, true, false, List, [], ◌∷◌, ◌++◌, Option, Some, None, length, is_some, refl, sym, ap, subst, ◌∙◌}
+use Rattle.std.proofs.Common.{◌≡◌, ℕ, ◌+◌, Bool, true, false, List, [], ◌∷◌, ◌++◌, Option, Some, None, Result, Ok, Err, IfOk, length, is_some, refl, sym, ap, subst, ◌∙◌}
 use Rattle.std.specs.Prelude.{IfSome, vec_len}
 use Rattle.std.specs.Option.{ForSome}
 use Rattle.std.proofs.lemmas.List.{append-nil}
@@ -16,7 +16,8 @@ use Rattle.object_store.specs.Stores.{Contents, Parts as StoredParts}
 use Rattle.union_merge.specs.Branch.{Files, lines_at}
 use Rattle.drop_worker.specs.Working.{failed_in}
 use Rattle.link_ring.specs.Ends.{EndView}
-use Rattle.node_model.specs.Look.{Look, Made, entry_of}
+use Rattle.annex_base.specs.declared.memory.NoMemory.{NoMemory}
+use Rattle.node_model.specs.Look.{Look, Made, entry_of, first_of}
 use Rattle.node_model.specs.SessionStep.{session_step}
 use Rattle.node_model.specs.SetUp.{SetUp}
 use Rattle.node_model.specs.State.{State}
@@ -26,7 +27,7 @@ use Rattle.node_sessions.specs.Sessions.{FedAll}
 use Rattle.node_parts.specs.declared.done.Done.{Done}
 use Rattle.node_parts.specs.declared.moment.Moment.{Moment}
 use Rattle.node_parts.specs.Parts.{PartsView}
-use Rattle.node_parts.specs.Steps.{Acts, Fails, FindsPart, Hears, Leaves, LeavesSo, SeesParts, Serves, Steps, failed_by, made_of}
+use Rattle.node_parts.specs.Steps.{Acts, Fails, FindsPart, Hears, Leaves, LeavesSo, SeesParts, Serves, Steps, failed_by, made_of, words_heard}
 use Rattle.repo_node.specs.declared.past.Past.{Past}
 use Rattle.repo_node.specs.declared.setup.Ended.{Ended}
 use Rattle.repo_node.specs.declared.setup.Setup.{Setup}
@@ -53,7 +54,7 @@ no_done x is = absurd cc
 same_length : (was ready : Past) → SamePast was ready → vec_len ready.history ≡ vec_len was.history
 same_length was ready same = ready.history.ok.0 ∙ ap (λ (h : List Entry). length h) same.history ∙ sym was.history.ok.0
 
-entry_at : ℕ → ℕ → Setup → EntryKind → Option FrameView → List FrameView → Entry
+abbrev entry_at : ℕ → ℕ → Setup → EntryKind → Option FrameView → List FrameView → Entry
 entry_at time count setup kind taken sent = record { time = time; count = count + 1; repo = Some setup.number; kind = kind; taken = taken; sent = sent; lines = [] }
 
 -- what is entered in a past that was made ready is entered in the past before
@@ -106,16 +107,16 @@ adds_entry d k k' parts parts' branch number was now owed owed' faults faults' e
   cause = cause;
 }
 
-pub adds_if : {K : Type 0} (o : Option Done) (b : Bool) (k k' : K) (parts parts' : PartsView) (branch : Files) (number : ℕ) (was ready now : Past) (debts debts' : List ℕ) (owed owed' : List Owed) (faults faults' : ℕ) (n : NodeView K)
-    → seen k parts branch was owed ≡ n → b ≡ is_some o → SamePast was ready → EntersIf o ready now debts debts' → LeavesSo number parts parts' o → IfSome (failed_by o) (λ call. Rose faults faults') → (o ≡ None → owed' ≡ owed)
-    → AddsIf b n.parts.links faults faults' n (seen k' parts' branch now owed')
+pub adds_if : {K : Type 0} (o : Option Done) (b : Bool) (k k' : K) (parts parts' : PartsView) (branch : Files) (number : ℕ) (was ready now : Past) (debts debts' : List ℕ) (owed owed' : List Owed) (faults : K → ℕ) (faults' : ℕ) (n : NodeView K)
+    → seen k parts branch was owed ≡ n → b ≡ is_some o → SamePast was ready → EntersIf o ready now debts debts' → LeavesSo number parts parts' o → IfSome (failed_by o) (λ call. Rose (faults k) faults') → (o ≡ None → owed' ≡ owed)
+    → AddsIf b n.parts.links (faults n.keeper) faults' n (seen k' parts' branch now owed')
 adds_if {K} None b k k' parts parts' branch number was ready now debts debts' owed owed' faults faults' n view made same enters leaves cause stays =
-    subst (λ (x : Bool). AddsIf x n.parts.links faults faults' n (seen k' parts' branch now owed')) (sym made)
+    subst (λ (x : Bool). AddsIf x n.parts.links (faults n.keeper) faults' n (seen k' parts' branch now owed')) (sym made)
     (seen_same k k' parts parts' branch was now owed owed' n view leaves (subst (SamePast was) (sym enters.0) same) (stays refl))
 adds_if {K} (Some d) b k k' parts parts' branch number was ready now debts debts' owed owed' faults faults' n view made same enters leaves cause stays =
-    subst (λ (x : Bool). AddsIf x n.parts.links faults faults' n (seen k' parts' branch now owed')) (sym made)
-    (subst (λ (m : NodeView K). Adds m.parts.links faults faults' m (seen k' parts' branch now owed')) view
-    (adds_entry d k k' parts parts' branch number was now owed owed' faults faults' (enters_after d was ready now same enters.0) leaves cause))
+    subst (λ (x : Bool). AddsIf x n.parts.links (faults n.keeper) faults' n (seen k' parts' branch now owed')) (sym made)
+    (subst (λ (m : NodeView K). Adds m.parts.links (faults m.keeper) faults' m (seen k' parts' branch now owed')) view
+    (adds_entry d k k' parts parts' branch number was now owed owed' (faults k) faults' (enters_after d was ready now same enters.0) leaves cause))
 
 -- ---- the step
 
@@ -145,7 +146,7 @@ some_steps step law d k k' parts parts' branch was now owed owed' cs cs' qs kept
     made = made_of d;
     same = refl;
     makes = (by.does s look fits (sees_parts law was.setup was.history.items parts branch owed (told_of cs qs) c was.time (length was.history.items + 1) s look kept told refl fits looks.ends looks.time)
-        (λ x is. fails ∙ ap (λ (y : Done). failed_in y.kind) (some_done d x is)) (λ x is. (part, right)) (λ x is. words ∙ ap (λ (y : Done). _) (some_done d x is))).made;
+        (λ x is. fails ∙ ap (λ (y : Done). failed_in y.kind) (some_done d x is)) (λ x is. (part, right)) (λ x is. words ∙ ap (λ (y : Done). words_heard parts (Some y)) (some_done d x is))).made;
     adds = enters.history ∙ ap (λ (e : Entry). was.history.items ++ e ∷ []) (entry_same s.number was.setup.number look.time was.time look.count (was.count + 1) (made_of d) fits.number looks.time looks.count);
   };
 }
@@ -216,3 +217,23 @@ acted_does m was ready parts parts' branch owed cs cs' qs i o at same law reads 
       right = false;
       does = λ s k fits sees fails finds hears. here s (state_of s was.history.items) k (sees.parts.logs ∙ settings_are was.setup was.history.items parts branch owed (told_of cs qs) i s law reads kept fits) sees fails hears;
     }
+
+-- ---- whether a step is ready
+
+pub ready_parts : {K : Type 0} (r : Result Bool NoMemory) (law : CountLaw) (m : Moment) (k : K) (parts : PartsView) (branch : Files) (was : Past) (owed : List Owed) (cs : Option Contents) (qs : Option StoredParts) (n : NodeView K)
+    → seen k parts branch was owed ≡ n → m ≡ moment_in was → IsKept was.setup was.history.items parts branch owed (told_of cs qs)
+    → IfOk r (λ b. (c : Contents) (s : SetUp) (st : State) (look : Look) → SeesParts parts c m.clock m.time m.number s st look → is_some (first_of (session_step s st look) (job_step s st look)) ≡ b)
+    → {told : Option Contents} → told_of cs qs ≡ told
+    → IfOk r (λ b. ForSome told (λ c. (s : SetUp) (look : Look) → Fits n.setup s → Looks n s look → is_some (first_of (session_step s (state_of s n.history) look) (job_step s (state_of s n.history) look)) ≡ b))
+ready_parts {K} (Ok b) law m k parts branch was owed cs qs n view at kept ready {told} same = λ c known.
+    subst (λ (x : NodeView K). (s : SetUp) (look : Look) → Fits x.setup s → Looks x s look → is_some (first_of (session_step s (state_of s x.history) look) (job_step s (state_of s x.history) look)) ≡ b) view
+    (λ s look fits looks.
+    let sees : SeesParts parts c (moment_in was).clock (moment_in was).time (moment_in was).number s (state_of s was.history.items) look =
+    sees_parts law was.setup was.history.items parts branch owed (told_of cs qs) c was.time (vec_len was.history + 1) s look kept (same ∙ known) (ap (λ (x : ℕ). x + 1) was.history.ok.0) fits looks.ends looks.time in
+    ready c s (state_of s was.history.items) look (subst (λ (x : Moment). SeesParts parts c x.clock x.time x.number s (state_of s was.history.items) look) (sym at) sees))
+ready_parts (Err e) law m k parts branch was owed cs qs n view at kept ready same = tt
+
+-- ---- at the number of a past's next entry
+
+pub leaves_at : (m : Moment) (was ready : Past) (parts parts' : PartsView) (o : Option Done) → m ≡ moment_in ready → SamePast was ready → LeavesSo m.number parts parts' o → LeavesSo (length was.history.items + 1) parts parts' o
+leaves_at m was ready parts parts' o at same leaves = subst (λ (x : Moment). LeavesSo x.number parts parts' o) (at ∙ moment_same was ready same) leaves

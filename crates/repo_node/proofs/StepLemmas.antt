@@ -1,8 +1,8 @@
 -- What stands beside a history stays so after a step of its sessions or its jobs.
-use Rattle.std.proofs.Common.{◌≡◌, ℕ, ◌<◌, ◌+◌, Bool, true, false, List, [], ◌∷◌, ◌++◌, All, Option, Some, None, length, map, reverse, find, is_some, refl, sym, ap, subst, ◌∙◌}
-use Rattle.std.specs.Prelude.{◌==◌, flat_map, option_to_list}
+use Rattle.std.proofs.Common.{◌≡◌, ℕ, ◌<◌, ◌+◌, Bool, true, false, List, [], ◌∷◌, ◌++◌, ◌≤◌, All, Option, Some, None, length, map, reverse, find, is_some, refl, sym, ap, subst, arith, ◌∙◌}
+use Rattle.std.specs.Prelude.{◌==◌, if◌then◌else◌, flat_map, option_to_list}
 use Rattle.std.specs.Option.{ForSome}
-use Rattle.std.proofs.lemmas.List.{length-reverse, reverse-append}
+use Rattle.std.proofs.lemmas.List.{length-append, length-reverse, reverse-append}
 use Rattle.annex_base.specs.Lists.{Each}
 use Rattle.annex_base.specs.declared.kinds.Call.{Call}
 use Rattle.annex_base.specs.declared.kinds.Call.TheVariants.{PutFile}
@@ -43,7 +43,7 @@ use Rattle.node_jobs.specs.Places.{PlaceView}
 use Rattle.node_jobs.specs.Running.{AreWorks, DropJob, IsDrop, work_now}
 use Rattle.node_parts.specs.declared.done.Done.{Done}
 use Rattle.node_parts.specs.Kinds.{IsQuiet}
-use Rattle.node_parts.specs.Parts.{AreParts, PartsView}
+use Rattle.node_parts.specs.Parts.{AreParts, HasContents, PartsView}
 use Rattle.node_parts.specs.Sound.{AreSound}
 use Rattle.node_parts.specs.Steps.{Fails, FindsPart, Hears, Leaves, LeavesSo, SeesParts, Steps, words_heard}
 use Rattle.repo_node.specs.declared.setup.Setup.{Setup}
@@ -161,9 +161,9 @@ sees_parts law setup h parts branch owed told c time number s k kept is count fi
   parts = ((kept.state s fits).stands c is).parts_are;
   stored = ((kept.state s fits).stands c is).stored;
   ticks = kept.clock s fits;
-  counts = count ∙ sym (ap (λ (n : ℕ). n + 1) (law s (reverse h) ∙ length-reverse h));
+  number = count ∙ sym (ap (λ (n : ℕ). n + 1) (law s (reverse h) ∙ length-reverse h));
   ends = ends;
-  at = at;
+  time = at;
 }
 
 -- ---- a step of these
@@ -186,23 +186,23 @@ pub state_more : (s : SetUp) (h : List Entry) (e : Entry) → state_of s (h ++ e
 state_more s h e = ap (states s) (reverse-append h (e ∷ []))
 
 clock_stays : (was : ℕ → ℕ) (time : ℕ) (kind : EntryKind) → ((clock : ℕ) → kind ≡ Crash clock → ⊥) → clock_after was time kind ≡ was
-clock_stays was time (Crash clock) no = absurd (no clock refl)
-clock_stays was time _ no = refl
+clock_stays was time (Crash clock) none = absurd (none clock refl)
+clock_stays was time _ none = refl
 
 module _ (step : Stepper) (setup : Setup) (h : List Entry) (was now : PartsView) (branch : Files) (cs cs' : Option Contents) (qs qs' : Option StoredParts) (time count : ℕ) (d : Done)
     (fills : FillLaw) (law : CountLaw) (sound : AreSound was) (sound' : AreSound now) (kept : IsKept setup h was branch [] (told_of cs qs))
     (leaves : Leaves (length h + 1) was now d) (quiet : IsQuiet d.kind)
     (does : ForSome (told_of cs qs) (λ c. DoesBy step was now c cs' setup h time (Some d)))
     (told_parts : is_some qs' ≡ is_some qs) (told_contents : is_some qs ≡ true → is_some cs' ≡ is_some cs) where
-  made_by : Entry
+  abbrev made_by : Entry
   made_by = entry_done setup time count d
 
   -- the step, at the node's look
   module _ (s : SetUp) (fits : Fits setup s) (c : Contents) (told : told_of cs qs ≡ Some c) where
-    by : DoesBy step was now c cs' setup h time (Some d)
+    abbrev by : DoesBy step was now c cs' setup h time (Some d)
     by = does c told
 
-    look : Look
+    abbrev look : Look
     look = look_of was.links s time count d.kind by.part by.right (words_heard was (Some d))
 
     steps : Steps step now cs' s (state_of s h) look (Some d)
@@ -230,7 +230,7 @@ module _ (step : Stepper) (setup : Setup) (h : List Entry) (was now : PartsView)
         record {
           parts_are = parts;
           fills = λ key. fills s (state_after s (state_of s h) made_by) now key sound' parts;
-          stored = subst (λ (e : Entry). _) same_entry (steps.stored c' (told_some cs' qs' c' is).0);
+          stored = subst (λ (e : Entry). HasContents c' (state_after s (state_of s h) e)) same_entry (steps.stored c' (told_some cs' qs' c' is).0);
           owed_are = owes;
         }
 
@@ -246,11 +246,40 @@ module _ (step : Stepper) (setup : Setup) (h : List Entry) (was now : PartsView)
   kept_stepped place begun = record {
     state = λ s fits. subst (IsState s now branch (owed_by setup.number d.kind) (told_of cs' qs')) (sym (state_more s h made_by)) (state_stepped s fits);
     clock = λ s fits. ap (λ (st : State). st.clock) (state_more s h made_by) ∙ clock_stays (state_of s h).clock time d.kind quiet.crashes ∙ kept.clock s fits;
-    numbered = subst (λ (n : ℕ). All (λ x. x.number < n + 1) now.table.holds) (sym (length_more h made_by)) leaves.numbers;
+    numbered = subst (λ (n : ℕ). All (λ x. x.number < n + 1) now.table.holds) (sym (length-append h (made_by ∷ []))) leaves.numbers;
     place = place ∙ kept.place;
-    begun = let few = kept.begun in let longer = length_more h made_by in omega (arith, few, begun, longer);
+    begun = let few = kept.begun in let longer = length-append h (made_by ∷ []) in omega (arith, few, begun, longer);
   }
-    where
-      length_more : (h : List Entry) (e : Entry) → length (h ++ e ∷ []) ≡ length h + 1
-      length_more [] e = refl
-      length_more (x ∷ h) e = ap (λ (n : ℕ). n + 1) (length_more h e)
+
+-- ---- no step
+
+-- the store may have been asked, and the rest is as it was
+pub kept_asked : (step : Stepper) (law : CountLaw) (setup : Setup) (h : List Entry) (was : PartsView) (branch : Files) (owed : List Owed) (cs cs' : Option Contents) (qs qs' : Option StoredParts) (time : ℕ)
+    → IsKept setup h was branch owed (told_of cs qs) → ForSome (told_of cs qs) (λ c. DoesBy step was was c cs' setup h time None) → is_some qs' ≡ is_some qs → (is_some qs ≡ true → is_some cs' ≡ is_some cs)
+    → IsKept setup h was branch owed (told_of cs' qs')
+kept_asked step law setup h was branch owed cs cs' qs qs' time kept does told_parts told_contents = record {
+  state = λ s fits.
+      let is = kept.state s fits in
+      record {
+        holds = is.holds;
+        bars = is.bars;
+        lines = is.lines;
+        stands = λ c' known.
+            let before = told_before cs cs' qs qs' c' told_parts told_contents known in
+            let stands = is.stands before.0 before.1 in
+            let look : Look = look_of was.links s time 0 (Talk None) 0 false (λ c. None) in
+            let steps = (does before.0 before.1).does s look fits
+            (sees_parts law setup h was branch owed (told_of cs qs) before.0 time (length h + 1) s look kept before.1 refl fits (look_sees was.links s time 0 (Talk None) 0 false (λ c. None)) refl)
+            (λ d is. absurd cc) (λ d is. absurd cc) (λ d is. absurd cc) in
+            record {
+              parts_are = stands.parts_are;
+              fills = stands.fills;
+              stored = steps.stored c' (told_some cs' qs' c' known).0;
+              owed_are = stands.owed_are;
+            };
+      };
+  clock = kept.clock;
+  numbered = kept.numbered;
+  place = kept.place;
+  begun = kept.begun;
+}

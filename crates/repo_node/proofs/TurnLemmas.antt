@@ -1,5 +1,5 @@
 -- A turn of a node, from its steps.
-use Rattle.std.proofs.Common.{◌≡◌, ◌≢◌, ℕ, ◌≤◌, ◌+◌, Bool, true, false, List, [], ◌∷◌, Option, Some, None, Result, Ok, Err, IfOk, OnErr, map, is_some, refl, sym, ap, subst, ◌∙◌}
+use Rattle.std.proofs.Common.{◌≡◌, ◌≢◌, ℕ, ◌≤◌, ◌+◌, Bool, true, false, List, [], ◌∷◌, Option, Some, None, Result, Ok, Err, IfOk, OnErr, map, is_some, refl, sym, ap, subst, arith, ◌∙◌}
 use Rattle.std.specs.Prelude.{IfSome}
 use Rattle.std.specs.Option.{ForSome}
 use Rattle.annex_base.specs.Causes.{Rose}
@@ -41,7 +41,7 @@ told_after cs cs' qs qs' c parts contents told =
 
 -- ---- a line that is owed comes first
 
-none_owing : (os : List Owed) → is_owing os ≡ false → os ≡ []
+pub none_owing : (os : List Owed) → is_owing os ≡ false → os ≡ []
 none_owing [] none = refl
 none_owing (o ∷ os) none = absurd cc
 
@@ -205,15 +205,15 @@ adds_dropped f f' n m adds = record {
 }
 
 -- by what the turn answers
-pub where_moved : {P : Bool → Type 0} (r : Result Bool NoMemory) → turn_made r ≡ turns.Moved → IfOk r P → P true
-where_moved (Ok true) is p = p
-where_moved (Ok false) is p = absurd cc
-where_moved (Err e) is p = absurd cc
+pub where_moved : (P : Bool → Type 0) (r : Result Bool NoMemory) → turn_made r ≡ turns.Moved → IfOk r P → P true
+where_moved P (Ok true) is p = p
+where_moved P (Ok false) is p = absurd cc
+where_moved P (Err e) is p = absurd cc
 
-pub where_idle : {P : Bool → Type 0} (r : Result Bool NoMemory) → turn_made r ≡ turns.Idle → IfOk r P → P false
-where_idle (Ok true) is p = absurd cc
-where_idle (Ok false) is p = p
-where_idle (Err e) is p = absurd cc
+pub where_idle : (P : Bool → Type 0) (r : Result Bool NoMemory) → turn_made r ≡ turns.Idle → IfOk r P → P false
+where_idle P (Ok true) is p = absurd cc
+where_idle P (Ok false) is p = p
+where_idle P (Err e) is p = absurd cc
 
 pub never_full : {P : Type 0} (r : Result Bool NoMemory) → turn_made r ≡ turns.Full → P
 never_full (Ok true) is = absurd cc
@@ -225,15 +225,15 @@ full_never (Ok true) is = absurd cc
 full_never (Ok false) is = absurd cc
 full_never (Err e) is = absurd cc
 
-pub where_full : {P : Bool → Type 0} (r : Result Bool NoMemory) → turn_full r ≡ turns.Full → IfOk r P → P true
-where_full (Ok true) is p = p
-where_full (Ok false) is p = absurd cc
-where_full (Err e) is p = absurd cc
+pub where_full : (P : Bool → Type 0) (r : Result Bool NoMemory) → turn_full r ≡ turns.Full → IfOk r P → P true
+where_full P (Ok true) is p = p
+where_full P (Ok false) is p = absurd cc
+where_full P (Err e) is p = absurd cc
 
-pub full_idle : {P : Bool → Type 0} (r : Result Bool NoMemory) → turn_full r ≡ turns.Idle → IfOk r P → P false
-full_idle (Ok true) is p = absurd cc
-full_idle (Ok false) is p = p
-full_idle (Err e) is p = absurd cc
+pub full_idle : (P : Bool → Type 0) (r : Result Bool NoMemory) → turn_full r ≡ turns.Idle → IfOk r P → P false
+full_idle P (Ok true) is p = absurd cc
+full_idle P (Ok false) is p = p
+full_idle P (Err e) is p = absurd cc
 
 pub where_stays : {K : Type 0} (r : Result Bool NoMemory) (links : List EndView) (f f' : ℕ) (n m : NodeView K) → turn_made r ≢ turns.Moved → IfOk r (λ b. AddsIf b links f f' n m) → OnErr r (m ≡ record n { keeper = m.keeper }) → m ≡ record n { keeper = m.keeper }
 where_stays (Ok true) links f f' n m other adds err = absurd (other refl)
@@ -243,16 +243,16 @@ where_stays (Err e) links f f' n m other adds err = err
 -- the clauses of a turn, of the node before its frames were dropped
 pub turn_adds : {K : Type 0} (r : Result Bool NoMemory) (f f' : ℕ) (n n' m : NodeView K) → n' ≡ dropped n → turn_made r ≡ turns.Moved → IfOk r (λ b. AddsIf b n'.parts.links f f' n' m) → Adds (map after_drop n.parts.links) f f' n m
 turn_adds {K} r f f' n n' m same is adds =
-    adds_dropped f f' n m (subst (λ (x : NodeView K). Adds x.parts.links f f' x m) same (where_moved r is adds))
+    adds_dropped f f' n m (subst (λ (x : NodeView K). Adds x.parts.links f f' x m) same (where_moved (λ b. AddsIf b n'.parts.links f f' n' m) r is adds))
 
 pub turn_steps : {K : Type 0} (r : Result Bool NoMemory) (n n' m : NodeView K) (c : Contents) (told : Option Contents) → DropLaw → n' ≡ dropped n → turn_made r ≡ turns.Moved → told ≡ Some c → IfOk r (λ b. ForSome told (λ c. MovesSo b step n' m))
     → (s : SetUp) → Fits n.setup s → TurnsSo n m s
-turn_steps {K} r n n' m c told law same is known moves = turns_dropped n m law (subst (λ (x : NodeView K). StepsBy step x m) same (where_moved r is moves c known))
+turn_steps {K} r n n' m c told law same is known moves = turns_dropped n m law (subst (λ (x : NodeView K). StepsBy step x m) same (where_moved (λ b. ForSome told (λ c. MovesSo b step n' m)) r is moves c known))
 
 pub turn_idle : {K : Type 0} (r : Result Bool NoMemory) (n n' m : NodeView K) (c : Contents) (told : Option Contents) → DropLaw → n' ≡ dropped n → turn_made r ≡ turns.Idle → told ≡ Some c → IfOk r (λ b. ForSome told (λ c. MovesSo b step n' m))
     → (s : SetUp) → Fits n.setup s → IsIdle n s
 turn_idle {K} r n n' m c told law same is known moves s fits k looks =
-    (subst (λ (x : NodeView K). NoStep step x) same (where_idle r is moves c known)) s k fits (looks_dropped n s k law looks)
+    (subst (λ (x : NodeView K). NoStep step x) same (where_idle (λ b. ForSome told (λ c. MovesSo b step n' m)) r is moves c known)) s k fits (looks_dropped n s k law looks)
 
 none_is : (o : Option Made) → is_some o ≡ false → o ≡ None
 none_is None is = refl
@@ -261,12 +261,47 @@ none_is (Some m) is = absurd cc
 pub full_idles : {K : Type 0} (r : Result Bool NoMemory) (n n' : NodeView K) (c : Contents) (told : Option Contents) → DropLaw → n' ≡ dropped n → turn_full r ≡ turns.Idle → told ≡ Some c → IfOk r (λ b. ForSome told (λ c. ReadySo b step n'))
     → (s : SetUp) → Fits n.setup s → IsIdle n s
 full_idles {K} r n n' c told law same is known ready s fits k looks =
-    none_is (step s (state_of s n.history) k) ((subst (λ (x : NodeView K). ReadySo false step x) same (full_idle r is ready c known)) s k fits (looks_dropped n s k law looks))
+    none_is (step s (state_of s n.history) k) ((subst (λ (x : NodeView K). ReadySo false step x) same (full_idle (λ b. ForSome told (λ c. ReadySo b step n')) r is ready c known)) s k fits (looks_dropped n s k law looks))
 
 pub full_steps : {K : Type 0} (r : Result Bool NoMemory) (n n' : NodeView K) (c : Contents) (told : Option Contents) → DropLaw → n' ≡ dropped n → turn_full r ≡ turns.Full → told ≡ Some c → IfOk r (λ b. ForSome told (λ c. ReadySo b step n'))
     → (s : SetUp) → Fits n.setup s → HasStep n s
 full_steps {K} r n n' c told law same is known ready s fits k looks =
-    (subst (λ (x : NodeView K). ReadySo true step x) same (where_full r is ready c known)) s k fits (looks_dropped n s k law looks)
+    (subst (λ (x : NodeView K). ReadySo true step x) same (where_full (λ b. ForSome told (λ c. ReadySo b step n')) r is ready c known)) s k fits (looks_dropped n s k law looks)
 
 pub stays_dropped : {K : Type 0} (n n' m : NodeView K) → n' ≡ dropped n → m ≡ record n' { keeper = m.keeper } → m ≡ record n { keeper = m.keeper; parts = record n.parts { links = map after_drop n.parts.links } }
 stays_dropped {K} n n' m same over = over ∙ ap (λ (x : NodeView K). record x { keeper = m.keeper }) same
+
+-- ---- whether one is ready
+
+abbrev pub ReadyElse : {K : Type 0} → Bool → NodeView K → Type 0
+ReadyElse b n = (s : SetUp) (k : Look) → Fits n.setup s → Looks n s k → is_some (first_of (session_step s (state_of s n.history) k) (job_step s (state_of s n.history) k)) ≡ b
+
+pub ready_if : {K : Type 0} (r : Result Bool NoMemory) (n : NodeView K) (told : Option Contents) → ((s : SetUp) → Fits n.setup s → IsState s n.parts n.branch n.owed told (state_of s n.history)) → is_owing n.owed ≡ false
+    → IfOk r (λ b. ForSome told (λ c. ReadyElse b n)) → IfOk r (λ b. ForSome told (λ c. ReadySo b step n))
+ready_if (Ok b) n told is none ready = λ c known. ready_else b n (owes_told n told c is known) none (ready c known)
+ready_if (Err e) n told is none ready = tt
+
+-- ---- one step of the three
+
+pub first_served : {K : Type 0} (b : Bool) (n m : NodeView K) (told : Option Contents) → ((s : SetUp) → Fits n.setup s → IsState s n.parts n.branch n.owed told (state_of s n.history)) → is_owing n.owed ≡ false → b ≡ true
+    → ForSome told (λ c. MovesSo b session_step n m) → ForSome told (λ c. StepsBy step n m)
+first_served b n m told is none made moves = λ c known.
+    served_first n m (owes_told n told c is known) none (subst (λ (x : Bool). MovesSo x session_step n m) made (moves c known))
+
+pub then_acted : {K : Type 0} (r : Result Bool NoMemory) (b : Bool) (n n' m : NodeView K) (cs cs' : Option Contents) (qs qs' : Option StoredParts) (links : List EndView) (f f' : ℕ)
+    → ((s : SetUp) → Fits n.setup s → IsState s n.parts n.branch n.owed (told_of cs qs) (state_of s n.history)) → is_owing n.owed ≡ false → b ≡ false
+    → ForSome (told_of cs qs) (λ c. MovesSo b session_step n n') → AddsIf b links f f' n n' → is_some qs' ≡ is_some qs → (is_some qs ≡ true → is_some cs' ≡ is_some cs)
+    → IfOk r (λ x. ForSome (told_of cs' qs') (λ c. MovesSo x job_step n' m)) → IfOk r (λ x. ForSome (told_of cs qs) (λ c. MovesSo x step n m))
+then_acted {K} (Ok x) b n n' m cs cs' qs qs' links f f' is none made idle adds parts contents moves = λ c known.
+    let after = told_after cs cs' qs qs' c parts contents known in
+    let over : n' ≡ record n { keeper = n'.keeper } = subst (λ (y : Bool). AddsIf y links f f' n n') made adds in
+    moves_acted x n n' m over (owes_told n (told_of cs qs) c is known) none (subst (λ (y : Bool). MovesSo y session_step n n') made (idle c known)) (moves after.0 after.1)
+then_acted (Err e) b n n' m cs cs' qs qs' links f f' is none made idle adds parts contents moves = tt
+
+pub then_adds : {K : Type 0} (r : Result Bool NoMemory) (b : Bool) (n n' m : NodeView K) (f f' f'' : ℕ) → b ≡ false → AddsIf b n.parts.links f f' n n' → f ≤ f' → IfOk r (λ x. AddsIf x n'.parts.links f' f'' n' m) → IfOk r (λ x. AddsIf x n.parts.links f f'' n m)
+then_adds {K} (Ok x) b n n' m f f' f'' made first later adds = adds_acted x f f' f'' n n' m (subst (λ (y : Bool). AddsIf y n.parts.links f f' n n') made first) later adds
+then_adds (Err e) b n n' m f f' f'' made first later adds = tt
+
+pub owed_steps : {K : Type 0} (r : Result Bool NoMemory) (n m : NodeView K) (told : Option Contents) → IfOk r (λ b. MovesSo b step n m) → IfOk r (λ b. ForSome told (λ c. MovesSo b step n m))
+owed_steps (Ok b) n m told moves = λ c known. moves
+owed_steps (Err e) n m told moves = tt

@@ -30,16 +30,6 @@ pub enum BeginRefused {
     NoMemory,
 }
 
-fn begin_refused(refused: NodeRefused) -> BeginRefused
-    ensures full { result ≡ BeginRefused.Full → refused ≡ NodeRefused.Full }
-    ensures slot { result ≡ BeginRefused.NoSlot → ⊥ }
-{
-    match refused {
-        NodeRefused::Full => BeginRefused::Full,
-        NodeRefused::StoreFault | NodeRefused::BadBundle { .. } | NodeRefused::NoMemory => BeginRefused::NoMemory,
-    }
-}
-
 /// Makes the past ready for one more entry.
 fn make_ready(past: &mut Past) -> Result<(), BeginRefused>
     ensures ready { OnOk result (IsReady past.new) }
@@ -49,7 +39,8 @@ fn make_ready(past: &mut Past) -> Result<(), BeginRefused>
 {
     match past.ready() {
         Ok(()) => Ok(()),
-        Err(refused) => Err(begin_refused(refused)),
+        Err(NodeRefused::Full) => Err(BeginRefused::Full),
+        Err(NodeRefused::StoreFault | NodeRefused::BadBundle { .. } | NodeRefused::NoMemory) => Err(BeginRefused::NoMemory),
     }
 }
 
@@ -94,9 +85,10 @@ impl<K: Keeper> Node<K> {
         ensures full { IsErrOf result BeginRefused.Full → length self.old.history ≡ most_entries }
         ensures err { OnErr result (self.new ≡ self.old) }
     {
-        // Laws, for the proof.
+        // For the proof: a law, and what the parts have of the table.
         tables_fill_as_states();
         let number = begin_parts(&mut self.parts, &mut self.past, &job)?;
+        let _ = self.parts.table();
         let lines = Items::new(self.past.alloc);
         let kind = EntryKind::Begin {
             job: number,

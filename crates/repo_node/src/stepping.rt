@@ -12,6 +12,7 @@ ghost use Rattle.repo_node.specs.Owing.{is_owing};
 ghost use Rattle.repo_node.specs.Stepping.{AddsIf, MovesSo, ReadySo};
 
 use crate::entering::{enter_if, make_room};
+use crate::indexing::make_index;
 use crate::node::Node;
 use crate::refused::NodeRefused;
 use annex_base::NoMemory;
@@ -26,8 +27,6 @@ impl<K: Keeper> Node<K> {
         ensures links { self.new ≡ record self.old { parts = record self.old.parts { links = map after_drop self.old.parts.links } } }
         ensures paired { StayPaired self.old.parts.links self.new.parts.links }
     {
-        // For the proof: what the table fills is the state's after it as well.
-        tables_fill_as_states();
         self.parts.drop_old();
     }
 
@@ -56,6 +55,8 @@ impl<K: Keeper> Node<K> {
         ensures later { K.faults self.old.keeper ≤ K.faults self.new.keeper }
         ensures err { OnErr result (self.new ≡ record self.old { keeper = self.new.keeper }) }
     {
+        // For the proof: what the history leaves is what the node has.
+        let _ = self.history();
         if self.owes() {
             return self.pay_first();
         }
@@ -80,9 +81,13 @@ impl<K: Keeper> Node<K> {
     {
         // A law, for the proof.
         ends_go_on();
+        // Written out for the proof, which names each answer.
         match self.pay() {
-            Ok(()) | Err(NodeRefused::StoreFault) => Ok(true),
-            Err(NodeRefused::Full | NodeRefused::BadBundle { .. } | NodeRefused::NoMemory) => Err(NoMemory),
+            Ok(()) => Ok(true),
+            Err(NodeRefused::StoreFault) => Ok(true),
+            Err(NodeRefused::Full) => Err(NoMemory),
+            Err(NodeRefused::BadBundle { .. }) => unreachable!(),
+            Err(NodeRefused::NoMemory) => Err(NoMemory),
         }
     }
 
@@ -97,12 +102,14 @@ impl<K: Keeper> Node<K> {
         ensures later { K.faults self.old.keeper ≤ K.faults self.new.keeper }
         ensures err { OnErr result (self.new ≡ record self.old { keeper = self.new.keeper }) }
     {
-        // Laws, for the proof.
+        // For the proof: laws, and what the parts have of the table.
         tables_fill_as_states();
         states_have_their_settings();
+        let _ = self.parts.table();
         make_room(&mut self.past, &mut self.debts)?;
         let moment = self.past.moment();
         let done = self.parts.serve(self.past.alloc, &mut self.keeper, moment)?;
+        let _ = self.parts.table();
         Ok(enter_if(&mut self.past, &mut self.debts, done))
     }
 
@@ -117,17 +124,19 @@ impl<K: Keeper> Node<K> {
         ensures later { K.faults self.old.keeper ≤ K.faults self.new.keeper }
         ensures err { OnErr result (self.new ≡ record self.old { keeper = self.new.keeper }) }
     {
-        // Laws, for the proof.
+        // For the proof: laws, and what the parts have of the table.
         tables_fill_as_states();
         states_have_their_settings();
         settings_are_those_of_the_lines_read();
+        let _ = self.parts.table();
         make_room(&mut self.past, &mut self.debts)?;
-        self.make_index()?;
+        make_index(self.past.alloc, &mut self.index, &self.branch)?;
         let moment = self.past.moment();
         let Some(settings) = &self.index else {
-            return Err(NoMemory);
+            unreachable!()
         };
         let done = self.parts.act(self.past.alloc, settings, &mut self.keeper, moment)?;
+        let _ = self.parts.table();
         Ok(enter_if(&mut self.past, &mut self.debts, done))
     }
 }

@@ -1,3 +1,32 @@
+//! The step of the running jobs, and whether there is one.
+ghost use Rattle.std.specs.Prelude.{◌≡◌, ℕ, ◌≤◌, ◌<◌, All, IfOk, IfSome, OnErr, is_some};
+ghost use Rattle.std.specs.Option.{ForSome};
+ghost use Rattle.annex_base.specs.Causes.{Rose};
+ghost use Rattle.object_store.specs.Stores.{Contents};
+ghost use Rattle.trust_groups.specs.View.{settings_of};
+ghost use Rattle.content_lock.specs.Stored.{Agrees};
+ghost use Rattle.node_model.specs.Look.{Look, first_of};
+ghost use Rattle.node_model.specs.SessionStep.{session_step};
+ghost use Rattle.node_model.specs.SetUp.{SetUp};
+ghost use Rattle.node_model.specs.State.{State};
+ghost use Rattle.node_model.specs.Turns.{job_step};
+ghost use Rattle.node_ends.specs.Joined.{StayPaired};
+ghost use Rattle.node_parts.specs.Kinds.{IsQuiet};
+ghost use Rattle.node_parts.specs.Steps.{Acts, LeavesSo, SeesParts, failed_by};
+
+use crate::acting::act;
+use crate::done::Done;
+use crate::moment::Moment;
+use crate::parts::Parts;
+use annex_base::NoMemory;
+use node_ends::ends_go_on;
+use node_jobs::{jobs_make_their_own_entries, local_drops_send_where_there_is_room, nameless_are_asked};
+use node_sessions::sessions_stay;
+use object_store::Keeper;
+use std::alloc::Global;
+use trust_groups::Settings;
+
+impl Parts {
     /// The step of the first job, in order of slot, that has one: its frames are taken and sent. A job that ends is off the list.
     /// After NoMemory all is as before.
     pub fn act<K: Keeper>(
@@ -27,7 +56,14 @@
         ensures cause { IfOk result (λ o. IfSome (failed_by o) (λ call. Rose (K.faults keeper.old) (K.faults keeper.new))) }
         ensures err { OnErr result ((self.new ≡ self.old) × (K.contents keeper.new ≡ K.contents keeper.old)) }
     {
+        // Laws, for the proof.
+        ends_go_on();
+        jobs_make_their_own_entries();
+        local_drops_send_where_there_is_room();
+        nameless_are_asked();
+        sessions_stay();
         let stamp = moment.stamp(self.jobs.number());
+        let repositories = self.jobs.repositories();
         let acted = self.jobs.step(
             alloc,
             moment.clock,
@@ -40,7 +76,7 @@
         )?;
         match acted {
             None => Ok(None),
-            Some(acted) => Ok(Some(act(&mut self.ends, stamp, acted))),
+            Some(acted) => Ok(Some(act(&mut self.ends, stamp, repositories, acted))),
         }
     }
 
@@ -49,10 +85,12 @@
         ensures ready { IfOk result (λ b. (c : Contents) (s : SetUp) (st : State) (k : Look) → SeesParts self.old c moment.clock moment.time moment.number s st k → is_some (first_of (session_step s st k) (job_step s st k)) ≡ b) }
         ensures same { self.new ≡ self.old }
     {
+        // A law, for the proof.
+        nameless_are_asked();
         if self.sessions.is_ready(&mut self.ends) {
             return Ok(true);
         }
         self.jobs
             .is_ready(alloc, moment.clock, &mut self.ends, moment.time)
     }
-
+}

@@ -1,0 +1,8 @@
+-- What the proof of `parts::Parts::drop_old` needs beside the tactics.
+use Rattle.node_parts.proofs.Sounding.{sound_ends, there_as}
+use Rattle.node_parts.proofs.parts.Parts.drop_old.Goals as goal
+
+pub invariant_of-self : goal.invariant_of-self
+invariant_of-self c =
+    sound_ends (record { table = c.self.inside.table; links = c.self.inside.ends; sessions = c.self.inside.sessions; jobs = c.self.inside.jobs }) c.drop_old.new.self c.self.invariant c.drop_old.ensures.count
+    (there_as c.self.inside.ends c.drop_old.new.self c.self.inside.sessions c.drop_old.ensures.there c.self.invariant.there)

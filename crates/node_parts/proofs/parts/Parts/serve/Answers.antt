@@ -1,0 +1,56 @@
+-- What the proof of `parts::Parts::serve` needs beside the tactics.
+use Rattle.std.proofs.Common.{List, false, length, ◌+◌, refl, sym, ap, subst, ◌∙◌, arith}
+use Rattle.std.specs.Option.{ForSome}
+use Rattle.run_data.specs.declared.entry.By.TheVariants.{Job as by_job}
+use Rattle.link_ring.specs.Ends.{EndView}
+use Rattle.node_ends.specs.Joined.{StayPaired}
+use Rattle.node_sessions.specs.Serving.{ServesIf}
+use Rattle.node_sessions.specs.Sessions.{FedAll}
+use Rattle.node_parts.specs.Parts.{PartsView}
+use Rattle.node_parts.specs.Steps.{LeavesSo, Serves}
+use Rattle.node_parts.proofs.Served.{leaves_at, step_of}
+use Rattle.node_parts.proofs.Sounding.{no_jobs, sound_after, there_still}
+use Rattle.node_parts.proofs.parts.Parts.serve.Goals as goal
+
+pub returns-in_err-served-clause-fed : goal.returns-in_err-served-clause-fed
+returns-in_err-served-clause-fed g c = λ q told fed q' told' i x at.
+    c.in_err-served.ensures.fed q told (subst (λ (p : PartsView). FedAll q p.sessions) (sym c.self.view_is) fed) q' told' i x at
+
+pub returns-clause-fed : goal.returns-clause-fed
+returns-clause-fed g c = λ q told fed q' told' i x at.
+    c.in_ok-served.ensures.fed q told (subst (λ (p : PartsView). FedAll q p.sessions) (sym c.self.view_is) fed) q' told' i x at
+
+pub serve_if-requires-clause-serves : goal.serve_if-requires-clause-serves
+serve_if-requires-clause-serves g c =
+    subst (λ (links : List EndView). ServesIf links c.in_ok-served.served) (sym c.in_ok-served.ensures.same) c.in_ok-served.ensures.serves
+
+pub invariant_of-self-2 : goal.invariant_of-self-2
+invariant_of-self-2 g c =
+    let i = c.self.inside in
+    let now = c.serve_if.new.ends in
+    let paired : StayPaired i.ends now = subst (λ (links : List EndView). StayPaired links now) c.in_ok-served.ensures.same c.serve_if.ensures.paired in
+    sound_after (record { table = i.table; links = i.ends; sessions = i.sessions; jobs = i.jobs }) c.step.new.table now c.step.new.self c.self.invariant
+    (c.serve_if.ensures.count ∙ ap (λ (links : List EndView). length links) c.in_ok-served.ensures.same) (there_still i.ends now c.step.new.self paired (c.in_ok-served.ensures.there i.ends c.self.invariant.there))
+    c.in_ok-served.ensures.owns (c.in_ok-served.ensures.filled (λ key. false) c.self.invariant.filled) c.in_ok-served.ensures.bars
+    (λ job share own. c.in_ok-served.ensures.others (by_job job) share (no_jobs i.sessions job) own)
+
+pub returns-clause-step : goal.returns-clause-step
+returns-clause-step g c =
+    let i = c.self.inside in
+    let was : PartsView = record { table = i.table; links = i.ends; sessions = i.sessions; jobs = i.jobs } in
+    let now : PartsView = record { table = c.step.new.table; links = c.serve_if.new.ends; sessions = c.step.new.self; jobs = i.jobs } in
+    let e = c.in_ok-served.ensures in
+    subst (λ (p : PartsView). ForSome (g.K.Keeper.contents c.args.keeper.now) (λ x. ForSome (g.K.Keeper.parts c.args.keeper.now) (λ q. FedAll q p.sessions
+    → Serves p now x (g.K.Keeper.contents c.step.new.keeper) c.args.moment.clock c.args.moment.time c.args.moment.number c.serve_if.result))) c.self.view_is
+    (step_of c.sessions_and_jobs_fill.ensures c.looks_see_parts.ensures c.ends_go_on.ensures.ends c.sessions_of_closed_ends_are_new.ensures c.jobs_stay.ensures c.sessions_make_their_own_entries.ensures
+    was now c.step.new.ends (g.K.Keeper.contents c.args.keeper.now) (g.K.Keeper.contents c.step.new.keeper) (g.K.Keeper.parts c.args.keeper.now) c.args.moment.clock c.args.moment.time c.args.moment.number c.read-shows.result
+    c.in_ok-served.served c.serve_if.result c.self.invariant refl e.same c.read-shows.ensures.same e.step e.serves c.serve_if.ensures.made e.after c.serve_if.ensures.after e.idle)
+
+pub returns-clause-leaves : goal.returns-clause-leaves
+returns-clause-leaves g c =
+    let i = c.self.inside in
+    let was : PartsView = record { table = i.table; links = i.ends; sessions = i.sessions; jobs = i.jobs } in
+    let now : PartsView = record { table = c.step.new.table; links = c.serve_if.new.ends; sessions = c.step.new.self; jobs = i.jobs } in
+    let e = c.in_ok-served.ensures in
+    subst (λ (p : PartsView). LeavesSo c.args.moment.number p now c.serve_if.result) c.self.view_is
+    (leaves_at c.args.moment.number was now c.step.new.ends c.in_ok-served.served c.serve_if.result refl e.same c.serve_if.ensures.made e.after (e.numbers (c.args.moment.number + 1) (omega arith)) c.serve_if.ensures.after e.idle)

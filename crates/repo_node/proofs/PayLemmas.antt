@@ -1,0 +1,107 @@
+-- The line that a node owes first, as a step.
+use Rattle.std.proofs.Common.{◌≡◌, ℕ, ◌+◌, Bool, true, false, List, [], ◌∷◌, ◌++◌, drop, Option, Some, None, Result, Ok, Err, IfErr, IsErrOf, OnOk, length, refl, sym, ap, subst, ◌∙◌}
+use Rattle.std.specs.Prelude.{IfSome}
+use Rattle.std.proofs.lemmas.List.{append-nil}
+use Rattle.annex_base.specs.Causes.{Rose}
+use Rattle.annex_base.specs.declared.kinds.Call.{Call}
+use Rattle.annex_base.specs.declared.kinds.Call.TheVariants.{PutFile}
+use Rattle.hash_dirs.specs.LogPath.{location_path}
+use Rattle.run_data.specs.declared.entry.Entry.{Entry}
+use Rattle.run_data.specs.declared.entry.EntryKind.{EntryKind}
+use Rattle.run_data.specs.declared.entry.EntryKind.TheVariants.{Fault, Log}
+use Rattle.run_data.specs.declared.entry.FrameView.{FrameView}
+use Rattle.run_data.specs.declared.entry.LogFile.TheVariants.{Location}
+use Rattle.drop_worker.specs.Working.{failed_in}
+use Rattle.link_ring.specs.Ends.{EndView}
+use Rattle.node_ends.specs.Going.{AreAfter}
+use Rattle.node_model.specs.Look.{Look, Made, entry_of, failing}
+use Rattle.node_model.specs.Owed.{Owed}
+use Rattle.node_model.specs.OwedStep.{owed_step}
+use Rattle.node_model.specs.SetUp.{SetUp}
+use Rattle.node_parts.specs.Parts.{PartsView}
+use Rattle.repo_node.specs.declared.setup.Ended.{Ended}
+use Rattle.repo_node.specs.Debts.{AddsStep, WhereMade, failed_put, with_status}
+use Rattle.repo_node.specs.Nodes.{Fits, NodeView, due_by, next_entry, state_of, with_entry}
+use Rattle.repo_node.specs.Owing.{is_owing}
+use Rattle.repo_node.specs.Refusals.{RefusesFor}
+use Rattle.repo_node.specs.declared.refused.NodeRefused.{NodeRefused}
+use Rattle.repo_node.specs.declared.refused.NodeRefused.TheVariants as refusals
+use Rattle.repo_node.specs.Stepping.{MakesAt, StepsBy}
+use Rattle.repo_node.specs.Turning.{Adds, Looks, ended_by, words_by}
+
+-- the first of the lines that are owed
+pub owing_first : (os : List Owed) → is_owing os ≡ true → (o : Owed) × (os ≡ o ∷ drop 1 os)
+owing_first [] owes = absurd cc
+owing_first (o ∷ os) owes = (o, refl)
+
+-- two lists with one more entry each: the entries are the same
+one_more : (e e' : Entry) → e ∷ [] ≡ e' ∷ [] → e ≡ e'
+one_more e e' is = cc
+
+tail_same : (x y : Entry) (xs ys : List Entry) → x ∷ xs ≡ y ∷ ys → xs ≡ ys
+tail_same x y xs ys is = cc
+
+last_same : (h : List Entry) (e e' : Entry) → h ++ e ∷ [] ≡ h ++ e' ∷ [] → e ≡ e'
+last_same [] e e' is = one_more e e' is
+last_same (x ∷ h) e e' is = last_same h e e' (tail_same x x (h ++ e ∷ []) (h ++ e' ∷ []) is)
+
+-- ---- what is added
+
+-- no frame comes or goes
+abbrev pub StayLaw : Type 0
+StayLaw = (links : List EndView) → AreAfter links links None []
+
+adds_quiet : {K : Type 0} (law : StayLaw) (n m : NodeView K) (kind : EntryKind) (lines : List (List ℕ)) (f f' : ℕ)
+    → m.setup ≡ n.setup → m.time ≡ n.time → m.count ≡ n.count + 1 → m.history ≡ n.history ++ next_entry n kind lines ∷ [] → m.outcomes ≡ n.outcomes → m.parts ≡ n.parts → ended_by kind (length n.history) ≡ [] → IfSome (failed_in kind) (λ call. Rose f f')
+    → Adds n.parts.links f f' n m
+adds_quiet law n m kind lines f f' setup time count history outcomes parts none cause = record {
+  entry = next_entry n kind lines;
+  history = history;
+  outcomes = outcomes ∙ sym (append-nil n.outcomes) ∙ ap (λ (x : List Ended). n.outcomes ++ x) (sym none);
+  time = refl;
+  count = refl;
+  repo = refl;
+  counted = count;
+  at = time;
+  setup = setup;
+  ends = subst (λ (p : PartsView). AreAfter n.parts.links p.links None []) (sym parts) (law n.parts.links);
+  cause = cause;
+}
+
+pub adds_paid : {K : Type 0} (law : StayLaw) (n m : NodeView K) (o : Owed) (f f' : ℕ) → m ≡ with_status n m.keeper o.key o.repo o.there → Adds n.parts.links f f' n m
+adds_paid {K} law n m o f f' is = adds_quiet law n m (Log (Location o.key)) (due_by n o.key o.repo o.there) f f' (ap (λ (x : NodeView K). x.setup) is) (ap (λ (x : NodeView K). x.time) is) (ap (λ (x : NodeView K). x.count) is) (ap (λ (x : NodeView K). x.history) is)
+    (ap (λ (x : NodeView K). x.outcomes) is) (ap (λ (x : NodeView K). x.parts) is) refl tt
+
+pub adds_failed : {K : Type 0} (law : StayLaw) (n m : NodeView K) (o : Owed) (f f' : ℕ) → m ≡ with_entry n m.keeper n.branch (Fault PutFile o.by) [] → Rose f f' → Adds n.parts.links f f' n m
+adds_failed {K} law n m o f f' is rose = adds_quiet law n m (Fault PutFile o.by) [] f f' (ap (λ (x : NodeView K). x.setup) is) (ap (λ (x : NodeView K). x.time) is) (ap (λ (x : NodeView K). x.count) is) (ap (λ (x : NodeView K). x.history) is)
+    (ap (λ (x : NodeView K). x.outcomes) is) (ap (λ (x : NodeView K). x.parts) is) refl rose
+
+-- ---- the step
+
+steps_by : {K : Type 0} (r : Result (Unit {0}) NodeRefused) (n m : NodeView K) (kind : EntryKind) (lines : List (List ℕ)) → m.history ≡ n.history ++ next_entry n kind lines ∷ [] → failing (failed_in kind) (PutFile ∷ []) ≡ failed_put r
+    → ((s : SetUp) (k : Look) → Fits n.setup s → k.time ≡ n.time → k.count ≡ n.count + 1 → failing k.fails (PutFile ∷ []) ≡ failed_put r → AddsStep (owed_step s (state_of s n.history) k) n.setup.number k n.history m.history)
+    → StepsBy owed_step n m
+steps_by r n m kind lines history fault pays = record {
+  kind = kind;
+  acting = None;
+  part = 0;
+  right = false;
+  makes = λ s k fits looks fails part right words.
+      let it = pays s k fits looks.time looks.count (ap (λ (o : Option Call). failing o (PutFile ∷ [])) fails ∙ fault) in
+      record {
+        made = it.made;
+        same = sym (ap (λ (e : Entry). e.kind) (last_same n.history (next_entry n kind lines) (entry_of n.setup.number k it.made) (sym history ∙ it.adds)));
+        makes = it.is;
+        adds = it.adds ∙ ap (λ (r : ℕ). n.history ++ entry_of r k it.made ∷ []) (sym fits.number);
+      };
+}
+
+pub steps_paid : {K : Type 0} (x : Unit {0}) (n m : NodeView K) (o : Owed) → m ≡ with_status n m.keeper o.key o.repo o.there
+    → ((s : SetUp) (k : Look) → Fits n.setup s → k.time ≡ n.time → k.count ≡ n.count + 1 → failing k.fails (PutFile ∷ []) ≡ failed_put (Ok x) → AddsStep (owed_step s (state_of s n.history) k) n.setup.number k n.history m.history)
+    → StepsBy owed_step n m
+steps_paid {K} x n m o is pays = steps_by (Ok x) n m (Log (Location o.key)) (due_by n o.key o.repo o.there) (ap (λ (v : NodeView K). v.history) is) refl pays
+
+pub steps_failed : {K : Type 0} (n m : NodeView K) (o : Owed) → m ≡ with_entry n m.keeper n.branch (Fault PutFile o.by) []
+    → ((s : SetUp) (k : Look) → Fits n.setup s → k.time ≡ n.time → k.count ≡ n.count + 1 → failing k.fails (PutFile ∷ []) ≡ failed_put (Err refusals.StoreFault) → AddsStep (owed_step s (state_of s n.history) k) n.setup.number k n.history m.history)
+    → StepsBy owed_step n m
+steps_failed {K} n m o is pays = steps_by (Err refusals.StoreFault) n m (Fault PutFile o.by) [] (ap (λ (v : NodeView K). v.history) is) refl pays
