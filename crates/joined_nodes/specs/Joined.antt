@@ -1,8 +1,21 @@
 -- The nodes of a run, each two of which are joined (own).
-use Rattle.std.specs.Prelude.{◌≡◌, ◌≢◌, ℕ, ◌≤◌, ◌<◌, ◌^◌, List, length, All, AllPairs, Some, slice_get}
+use Rattle.std.specs.Prelude.{◌≡◌, ◌≢◌, ℕ, ◌≤◌, ◌<◌, ◌^◌, List, length, map, All, AllPairs, Some, slice_get}
 use Rattle.node_ends.specs.Joined.{AreJoined}
+use Rattle.run_data.specs.declared.run.RepoView.{RepoView}
 use Rattle.repo_node.specs.declared.setup.Setup.{Setup}
 use Rattle.repo_node.specs.Nodes.{NodeView}
+
+-- their identifiers, in order
+abbrev pub ids_of : List RepoView → List (List ℕ)
+ids_of repos = map (λ repo. repo.id) repos
+
+-- these repositories may make a run
+pub record MayRun (repos : List RepoView) : Type 0 where
+  pub apart : AllPairs (λ a b. a ≢ b) (ids_of repos)
+  pub offsets : All (λ repo. repo.offset ≤ 100000000000) repos
+  pub oldest : All (λ repo. 1 ≤ repo.version) repos
+  pub newest : All (λ repo. repo.version ≤ 3) repos
+  pub few : length repos < 2 ^ 32
 
 -- a repository of a run of so many may be set up so: it stands at its number among identifiers that are apart
 pub record IsSetup (count : ℕ) (s : Setup) : Type 0 where

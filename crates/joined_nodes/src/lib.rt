@@ -3,5 +3,7 @@
 
 mod making;
 mod nodes;
+mod setting_up;
 
 pub use nodes::Nodes;
+pub use setting_up::{may_run, setups};

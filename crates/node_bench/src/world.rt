@@ -1,12 +1,12 @@
 //! Two nodes that both have a key, and what is done with them.
 use crate::words::{Beside, Wanted, Work};
-use annex_base::{Items, NoMemory, RepoId};
+use annex_base::{Items, NoMemory, RepoId, Text};
 use annex_key::Key;
-use joined_nodes::Nodes;
+use joined_nodes::{Nodes, may_run, setups};
 use key_verify::{Verdict, matches};
 use object_store::MemoryKeeper;
-use repo_node::{NodeRefused, Setup, Turn};
-use run_data::{Job, JobKind};
+use repo_node::{NodeRefused, Turn};
+use run_data::{Job, JobKind, RepoView};
 use std::alloc::Global;
 use union_merge::is_line;
 
@@ -35,32 +35,31 @@ fn key_of(alloc: Global, number: u32) -> Result<Key, NoMemory> {
     Ok(key)
 }
 
-fn ids(alloc: Global) -> Result<Items<RepoId>, NoMemory> {
-    let mut ids = Items::new(alloc);
+fn views(alloc: Global) -> Result<Items<RepoView>, NoMemory> {
+    let mut views = Items::new(alloc);
     for text in IDS {
         let Ok(id) = RepoId::parse(text) else {
             return Err(NoMemory);
         };
-        ids.push(id)?;
-    }
-    Ok(ids)
-}
-
-fn two_nodes(alloc: Global) -> Result<Nodes<MemoryKeeper>, NoMemory> {
-    let mut setups = Vec::new(alloc);
-    let mut keepers = Vec::new(alloc);
-    for (number, text) in IDS.iter().enumerate() {
-        let Ok(id) = RepoId::parse(text) else {
-            return Err(NoMemory);
-        };
-        setups.push(Setup {
-            number: number as u32,
+        views.push(RepoView {
+            name: Text::new(alloc, text)?,
             id,
             offset: 0,
             version: 3,
             locks: true,
-            repos: ids(alloc)?,
         })?;
+    }
+    Ok(views)
+}
+
+fn two_nodes(alloc: Global) -> Result<Nodes<MemoryKeeper>, NoMemory> {
+    let views = views(alloc)?;
+    if !may_run(views.as_slice()) {
+        return Err(NoMemory);
+    }
+    let setups = setups(alloc, views.as_slice())?;
+    let mut keepers = Vec::new(alloc);
+    for _ in 0..setups.len() {
         keepers.push(MemoryKeeper::new(alloc)?)?;
     }
     Nodes::new(alloc, setups, keepers)

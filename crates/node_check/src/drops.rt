@@ -31,10 +31,17 @@ pub fn barred(
     let Some(work) = plain.work_mut(job) else {
         return Err(Wrong::Broken(Rule::Barred));
     };
-    must(work.key == place && work.need.is_none() && !work.failed, Rule::Barred)?;
+    must(
+        work.key == place && work.need.is_none() && !work.failed,
+        Rule::Barred,
+    )?;
     work.need = Some(read);
     for other in 0..REPOS {
-        set(&mut work.trusted, other, other != repo && logs.claims(place, other));
+        set(
+            &mut work.trusted,
+            other,
+            other != repo && logs.claims(place, other),
+        );
     }
     plain.set_bar(place, Some(job));
     Ok(())
@@ -153,10 +160,12 @@ pub fn failed(plain: &mut Plain, entry: &Entry, call: Call, job: u32) -> Result<
 
 /// How many of these there are that aren't the repository itself and of which each may be relied on; none where one may not.
 fn counted(repos: &[u32], may: &[bool; REPOS], repo: usize) -> Option<u64> {
-    let right = repos
-        .iter()
-        .all(|other| *other as usize != repo && is_set(may, *other as usize));
-    if right { Some(repos.len() as u64) } else { None }
+    let right = repos.iter().all(|other| *other as usize != repo && is_set(may, *other as usize));
+    if right {
+        Some(repos.len() as u64)
+    } else {
+        None
+    }
 }
 
 /// How many items the evidence of the job has; none where the job may not rely on one.

@@ -1,12 +1,11 @@
 //! A plain judge of histories, which knows nothing of the nodes but their entries, in the order in which they were made.
-use crate::drops;
 use crate::frames::{is_silent, served};
 use crate::logs::{KEYS, REPOS, is_absence};
 use crate::plain::{Plain, is_set, set};
 use crate::rule::{Rule, Wrong, must};
-use crate::sessions;
 use crate::tally::{Tally, count};
 use crate::wires::Wires;
+use crate::{drops, sessions};
 use annex_base::{Call, Text};
 use annex_key::Key;
 use run_data::{By, Entry, EntryKind, Job, JobKind, LogFile};
@@ -66,7 +65,10 @@ impl Judge {
         count(&mut self.tally.entries);
         self.hear_stamp(repo, entry)?;
         self.hear_frames(repo, entry)?;
-        let owes = self.repos.get(repo).is_some_and(|plain| !plain.owed.is_empty());
+        let owes = self
+            .repos
+            .get(repo)
+            .is_some_and(|plain| !plain.owed.is_empty());
         must(!owes || may_precede(&entry.kind), Rule::Owed)?;
         self.hear_kind(repo, entry)?;
         if let Some(plain) = self.repos.get_mut(repo) {
@@ -182,7 +184,11 @@ impl Judge {
                     Some(frame) => frame.slot == work.slot && !frame.up,
                     None => true,
                 };
-                let says = entry.sent.as_slice().iter().all(|f| f.up && f.slot == work.slot);
+                let says = entry
+                    .sent
+                    .as_slice()
+                    .iter()
+                    .all(|f| f.up && f.slot == work.slot);
                 hears && says && work.need.is_some() && !work.gone
             }),
         };

@@ -1,10 +1,11 @@
 //! The plain reading of the log lines that a repository's entries add.
 use annex_base::parse_decimal;
-use run_data::LogFile;
 use log_lines::LogKind;
+use run_data::LogFile;
 
 /// The most repositories, and how many keys there are.
 pub const REPOS: usize = 4;
+
 pub const KEYS: usize = 2;
 
 /// The identifiers of the repositories.
@@ -56,7 +57,9 @@ fn nanos_of(digits: &[u8]) -> u64 {
     let mut nanos = 0_u64;
     let mut left = 9_u32;
     for digit in digits {
-        nanos = nanos.saturating_mul(10).saturating_add(u64::from(digit.saturating_sub(b'0')));
+        nanos = nanos
+            .saturating_mul(10)
+            .saturating_add(u64::from(digit.saturating_sub(b'0')));
         left = left.saturating_sub(1);
     }
     for _ in 0..left {

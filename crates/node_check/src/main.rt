@@ -39,8 +39,11 @@ struct Whole {
 fn act_all(world: &mut World, random: &mut Random) -> Result<(), Wrong> {
     world.fill(random)?;
     for _ in 0..ACTS {
-        let repo = random.draw(world.count() as u64) as usize;
-        world.act(repo, random)?;
+        let count = world.count() as u64;
+        if 0 < count {
+            let repo = random.draw(count) as usize;
+            world.act(repo, random)?;
+        }
     }
     world.settle()
 }
@@ -79,7 +82,11 @@ fn main(rt: HostRuntime) -> ExitCode {
     let Ok(whole) = run_all(rt.alloc()) else {
         return ExitCode::from(5);
     };
-    let Whole { tally, wrong, first } = whole;
+    let Whole {
+        tally,
+        wrong,
+        first,
+    } = whole;
     if let Some((seed, rule)) = first {
         let _ = println!(rt; "sequence {seed}: {rule:?}");
     }
@@ -93,7 +100,9 @@ fn main(rt: HostRuntime) -> ExitCode {
         expired,
         faults,
     } = tally;
-    match println!(rt; "{SEQUENCES} sequences, {entries} entries, {done} drops done, {absent} absent, {held} held, {barred} barred, {lacking} lacking, {expired} expired, {faults} faults: {wrong} wrong") {
+    match println!(rt;
+        "{SEQUENCES} sequences, {entries} entries, {done} drops done, {absent} absent, {held} held, {barred} barred, {lacking} lacking, {expired} expired, {faults} faults: {wrong} wrong"
+    ) {
         Ok(()) => ExitCode::from(0),
         Err(_) => ExitCode::from(1),
     }

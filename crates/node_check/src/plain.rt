@@ -104,9 +104,9 @@ impl Plain {
     /// Whether a hold on the key for the session of this repository's slot hasn't ended.
     pub fn holds_for(&self, repo: usize, slot: u32, key: usize, time: u64) -> bool {
         let clock = self.clock(time);
-        self.holds
-            .iter()
-            .any(|hold| is_for(hold.by, repo, slot) && hold.key == key && clock < hold.end)
+        self.holds.iter().any(|hold| is_for(hold.by, repo, slot)
+            && hold.key == key
+            && clock < hold.end)
     }
 
     /// Until when holds block the key: while one is open, without end.

@@ -54,5 +54,9 @@ impl<T: Drop> From<AllocFailed<T>> for Wrong {
 
 /// The rule is broken, unless this holds.
 pub fn must(holds: bool, rule: Rule) -> Result<(), Wrong> {
-    if holds { Ok(()) } else { Err(Wrong::Broken(rule)) }
+    if holds {
+        Ok(())
+    } else {
+        Err(Wrong::Broken(rule))
+    }
 }

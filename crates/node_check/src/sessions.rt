@@ -31,7 +31,10 @@ pub fn shared(
     let free = plain.locks && is_set(&plain.present, place) && plain.bar(place).is_none();
     let due = plain.clock(entry.time).saturating_add(HOLD_TIME);
     let numbered = number == plain.made.saturating_add(1) && end == due;
-    must(asked && free && numbered && answers(entry, b"SUCCESS"), Rule::Shared)?;
+    must(
+        asked && free && numbered && answers(entry, b"SUCCESS"),
+        Rule::Shared,
+    )?;
     plain.holds.push(Hold {
         number,
         key: place,
@@ -58,10 +61,10 @@ pub fn released(
         return Err(Wrong::Broken(Rule::Released));
     };
     let by = session_of(frame);
-    let there = plain
-        .holds
-        .iter()
-        .any(|hold| hold.number == number && hold.key == place && hold.by == by && !hold.kept);
+    let there = plain.holds.iter().any(|hold| hold.number == number
+        && hold.key == place
+        && hold.by == by
+        && !hold.kept);
     let asked = asks(frame, b"UNLOCKCONTENT ", key.text()) && entry.sent.as_slice().is_empty();
     must(asked && there, Rule::Released)?;
     plain.holds.retain(|hold| hold.number != number);
@@ -114,7 +117,11 @@ pub fn checked(
     };
     let right = look(plain, frame, key, place) == Some(found);
     let is_there = found == Found::Present;
-    let said = if is_there { answers(entry, b"SUCCESS") } else { answers(entry, b"FAILURE") };
+    let said = if is_there {
+        answers(entry, b"SUCCESS")
+    } else {
+        answers(entry, b"FAILURE")
+    };
     must(right && said, Rule::Checked)?;
     if is_there {
         see(judge, repo, frame);

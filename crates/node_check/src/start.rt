@@ -1,64 +1,60 @@
 //! Nodes before their first entry, and the judge beside them.
 use crate::logs::IDS;
 use crate::plain::Plain;
-use crate::rule::{Rule, Wrong};
+use crate::rule::{Rule, Wrong, must};
 use annex_base::{Items, RepoId, Text};
 use annex_key::Key;
-use joined_nodes::Nodes;
+use joined_nodes::{Nodes, may_run, setups};
 use object_store::MemoryKeeper;
-use repo_node::Setup;
+use run_data::RepoView;
 use std::alloc::Global;
 
 /// The keys: any three bytes match them.
 const KEYS: [&[u8]; 2] = [b"WORM-s3--abc", b"WORM-s3--def"];
 
-fn id_of(place: u32) -> Result<RepoId, Wrong> {
+/// A repository, whose clock is ahead of those before it.
+fn view(alloc: Global, place: u32, locks: bool) -> Result<RepoView, Wrong> {
     let Some(text) = IDS.get(place as usize) else {
         return Err(Wrong::Broken(Rule::Foreign));
     };
-    match RepoId::parse(text) {
-        Ok(id) => Ok(id),
-        Err(_) => Err(Wrong::Broken(Rule::Foreign)),
-    }
+    let Ok(id) = RepoId::parse(text) else {
+        return Err(Wrong::Broken(Rule::Foreign));
+    };
+    Ok(RepoView {
+        name: Text::new(alloc, text)?,
+        id,
+        offset: u64::from(place).saturating_mul(7_000),
+        version: 3,
+        locks,
+    })
 }
 
-fn ids(alloc: Global, count: u32) -> Result<Items<RepoId>, Wrong> {
-    let mut ids = Items::new(alloc);
+/// So many repositories; the last one gives no holds, unless it is asked to.
+pub fn views(alloc: Global, count: u32, last_locks: bool) -> Result<Items<RepoView>, Wrong> {
+    let mut views = Items::new(alloc);
     for place in 0..count {
-        ids.push(id_of(place)?)?;
+        let is_last = place.saturating_add(1) == count;
+        views.push(view(alloc, place, last_locks || !is_last)?)?;
     }
-    Ok(ids)
+    Ok(views)
 }
 
-/// How far the clock of a repository is ahead.
-fn offset_of(place: u32) -> u64 {
-    u64::from(place).saturating_mul(7_000)
-}
-
-/// So many nodes, each over an empty store; the last one gives no holds, where that is asked for.
-pub fn nodes(alloc: Global, count: u32, last_locks: bool) -> Result<Nodes<MemoryKeeper>, Wrong> {
-    let mut setups = Vec::new(alloc);
+/// Their nodes, each over an empty store.
+pub fn nodes(alloc: Global, views: &[RepoView]) -> Result<Nodes<MemoryKeeper>, Wrong> {
+    must(may_run(views), Rule::Foreign)?;
+    let setups = setups(alloc, views)?;
     let mut keepers = Vec::new(alloc);
-    for place in 0..count {
-        setups.push(Setup {
-            number: place,
-            id: id_of(place)?,
-            offset: offset_of(place),
-            version: 3,
-            locks: last_locks || place.saturating_add(1) < count,
-            repos: ids(alloc, count)?,
-        })?;
+    for _ in 0..views.len() {
         keepers.push(MemoryKeeper::new(alloc)?)?;
     }
     Ok(Nodes::new(alloc, setups, keepers)?)
 }
 
 /// The judge's repositories, as plain as the nodes.
-pub fn plains(alloc: Global, count: u32, last_locks: bool) -> Result<Vec<Plain>, Wrong> {
+pub fn plains(alloc: Global, views: &[RepoView]) -> Result<Vec<Plain>, Wrong> {
     let mut plains = Vec::new(alloc);
-    for place in 0..count {
-        let locks = last_locks || place.saturating_add(1) < count;
-        plains.push(Plain::new(alloc, offset_of(place), locks))?;
+    for view in views {
+        plains.push(Plain::new(alloc, view.offset, view.locks))?;
     }
     Ok(plains)
 }

@@ -55,9 +55,7 @@ fn is_frame(flight: &Flight, frame: &FrameView) -> bool {
 
 /// Where the first frame of this way and opening stands.
 fn first_of(flights: &[Flight], to: usize, frame: &FrameView) -> Option<usize> {
-    flights
-        .iter()
-        .position(|flight| is_way(flight, to, frame) && flight.epoch == frame.epoch)
+    flights.iter().position(|flight| is_way(flight, to, frame) && flight.epoch == frame.epoch)
 }
 
 /// The end after it sent the frame; none where that isn't its next one.
@@ -181,8 +179,7 @@ impl Wires {
         if first < self.flights.len() {
             self.flights.remove(first);
         }
-        self.flights
-            .retain(|flight| !(is_way(flight, repo, frame) && flight.epoch < frame.epoch));
+        self.flights.retain(|flight| !(is_way(flight, repo, frame) && flight.epoch < frame.epoch));
         let place = self.place(repo, frame.peer, frame.slot, !frame.up)?;
         let Some(end) = self.ends.get_mut(place) else {
             return Err(Wrong::Broken(Rule::Taken));

@@ -1,9 +1,11 @@
 //! Nodes that do what is drawn, beside the judge that hears their entries.
+ghost use Rattle.std.specs.Prelude.{◌≡◌, ◌<◌, length};
+
 use crate::judge::Judge;
 use crate::lines::{claim_line, level_line, number_line};
 use crate::random::Random;
 use crate::rule::{Rule, Wrong, must};
-use crate::start::{keys, nodes, plains, texts};
+use crate::start::{keys, nodes, plains, texts, views};
 use annex_base::Call;
 use annex_key::Key;
 use joined_nodes::Nodes;
@@ -22,6 +24,7 @@ const ROUNDS: u32 = 2_000;
 
 /// The most milliseconds and entries that a sequence may have.
 const MOST_TIME: u64 = 1_000_000_000;
+
 const MOST_COUNT: u64 = 1_000_000_000;
 
 /// Nodes and the judge.
@@ -67,10 +70,12 @@ fn is_remembered(answer: Result<(), NodeRefused>) -> Result<(), Wrong> {
 
 impl World {
     pub fn new(alloc: Global, count: u32, last_locks: bool) -> Result<World, Wrong> {
+        let views = views(alloc, count, last_locks)?;
         let keys = keys(alloc)?;
-        let judge = Judge::new(alloc, texts(alloc, &keys)?, plains(alloc, count, last_locks)?);
+        let plains = plains(alloc, views.as_slice())?;
+        let judge = Judge::new(alloc, texts(alloc, &keys)?, plains);
         let told = zeros(alloc, count)?;
-        let nodes = nodes(alloc, count, last_locks)?;
+        let nodes = nodes(alloc, views.as_slice())?;
         Ok(World {
             alloc,
             nodes,
@@ -84,7 +89,10 @@ impl World {
     }
 
     /// The judge hears the entries that a node has made since.
-    fn tell(&mut self, repo: usize) -> Result<(), Wrong> {
+    fn tell(&mut self, repo: usize) -> Result<(), Wrong>
+        requires there { repo < length self.old.nodes }
+        ensures stay { length self.new.nodes ≡ length self.old.nodes }
+    {
         let history = self.nodes.node(repo).history();
         let from = self.told.get(repo).copied().unwrap_or(0);
         for entry in history.iter().skip(from) {
@@ -98,14 +106,20 @@ impl World {
     }
 
     /// Raises the time and the count of a node.
-    fn raise(&mut self, repo: usize) {
+    fn raise(&mut self, repo: usize)
+        requires there { repo < length self.old.nodes }
+        ensures stay { length self.new.nodes ≡ length self.old.nodes }
+    {
         let time = self.time.min(MOST_TIME);
         let count = self.count.min(MOST_COUNT);
         self.nodes.advance(repo, time, count);
     }
 
     /// One turn of a node; whether it moved.
-    fn turn(&mut self, repo: usize) -> Result<bool, Wrong> {
+    fn turn(&mut self, repo: usize) -> Result<bool, Wrong>
+        requires there { repo < length self.old.nodes }
+        ensures stay { length self.new.nodes ≡ length self.old.nodes }
+    {
         self.raise(repo);
         let turn = self.nodes.turn(repo);
         self.tell(repo)?;
@@ -117,7 +131,9 @@ impl World {
         }
     }
 
-    fn round(&mut self) -> Result<bool, Wrong> {
+    fn round(&mut self) -> Result<bool, Wrong>
+        ensures { length self.new.nodes ≡ length self.old.nodes }
+    {
         let mut moved = false;
         for repo in 0..self.nodes.count() {
             if self.turn(repo)? {
@@ -128,7 +144,9 @@ impl World {
     }
 
     /// Turns until none moves; nothing is left to be done then.
-    pub fn settle(&mut self) -> Result<(), Wrong> {
+    pub fn settle(&mut self) -> Result<(), Wrong>
+        ensures { length self.new.nodes ≡ length self.old.nodes }
+    {
         for _ in 0..ROUNDS {
             if !self.round()? {
                 return must(self.judge.is_settled(), Rule::Left);
@@ -137,7 +155,10 @@ impl World {
         Err(Wrong::Broken(Rule::Left))
     }
 
-    fn place(&mut self, repo: usize, key: usize) -> Result<(), Wrong> {
+    fn place(&mut self, repo: usize, key: usize) -> Result<(), Wrong>
+        requires there { repo < length self.old.nodes }
+        ensures stay { length self.new.nodes ≡ length self.old.nodes }
+    {
         let Some(key) = self.keys.get(key) else {
             return Ok(());
         };
@@ -148,7 +169,10 @@ impl World {
         }
     }
 
-    fn begin(&mut self, repo: usize, key: usize) -> Result<(), Wrong> {
+    fn begin(&mut self, repo: usize, key: usize) -> Result<(), Wrong>
+        requires there { repo < length self.old.nodes }
+        ensures stay { length self.new.nodes ≡ length self.old.nodes }
+    {
         let Some(key) = self.keys.get(key) else {
             return Ok(());
         };
@@ -165,7 +189,10 @@ impl World {
         }
     }
 
-    fn write(&mut self, repo: usize, path: &[u8], line: &[u8]) -> Result<(), Wrong> {
+    fn write(&mut self, repo: usize, path: &[u8], line: &[u8]) -> Result<(), Wrong>
+        requires there { repo < length self.old.nodes }
+        ensures stay { length self.new.nodes ≡ length self.old.nodes }
+    {
         if is_line(path) && is_line(line) {
             return is_remembered(self.nodes.write_raw(repo, path, line));
         }
@@ -173,7 +200,10 @@ impl World {
     }
 
     /// A line about another repository, or about the whole: its level, a number of copies, or that it has a key.
-    fn write_drawn(&mut self, repo: usize, key: usize, random: &mut Random) -> Result<(), Wrong> {
+    fn write_drawn(&mut self, repo: usize, key: usize, random: &mut Random) -> Result<(), Wrong>
+        requires there { repo < length self.old.nodes }
+        ensures stay { length self.new.nodes ≡ length self.old.nodes }
+    {
         self.stamps = self.stamps.saturating_add(1);
         let stamp = self.stamps.saturating_add(1_600_000_000);
         let other = random.draw(4) as usize;
@@ -198,7 +228,10 @@ impl World {
         }
     }
 
-    fn claim(&mut self, repo: usize, key: usize, line: &[u8]) -> Result<(), Wrong> {
+    fn claim(&mut self, repo: usize, key: usize, line: &[u8]) -> Result<(), Wrong>
+        requires there { repo < length self.old.nodes }
+        ensures stay { length self.new.nodes ≡ length self.old.nodes }
+    {
         let Some(key) = self.keys.get(key) else {
             return Ok(());
         };
@@ -207,7 +240,10 @@ impl World {
     }
 
     /// Does what is drawn at a node.
-    pub fn act(&mut self, repo: usize, random: &mut Random) -> Result<(), Wrong> {
+    pub fn act(&mut self, repo: usize, random: &mut Random) -> Result<(), Wrong>
+        requires there { repo < length self.old.nodes }
+        ensures stay { length self.new.nodes ≡ length self.old.nodes }
+    {
         self.raise(repo);
         let key = random.draw(2) as usize;
         match random.draw(24) {
@@ -229,7 +265,9 @@ impl World {
     }
 
     /// The time rises, by up to ten minutes.
-    fn wait(&mut self, place: u64) {
+    fn wait(&mut self, place: u64)
+        ensures { length self.new.nodes ≡ length self.old.nodes }
+    {
         let ms = match place {
             0 => 1,
             1 => 1_000,
@@ -240,7 +278,9 @@ impl World {
     }
 
     /// Each node has the first key's content at first, or some have.
-    pub fn fill(&mut self, random: &mut Random) -> Result<(), Wrong> {
+    pub fn fill(&mut self, random: &mut Random) -> Result<(), Wrong>
+        ensures { length self.new.nodes ≡ length self.old.nodes }
+    {
         for repo in 0..self.nodes.count() {
             for key in 0..2_usize {
                 if random.draw(4) != 0 {
@@ -254,7 +294,9 @@ impl World {
     }
 
     /// How many nodes there are.
-    pub fn count(&self) -> usize {
+    pub fn count(&self) -> usize
+        ensures { result ≡ length self.now.nodes }
+    {
         self.nodes.count()
     }
 

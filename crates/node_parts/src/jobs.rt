@@ -16,7 +16,7 @@ ghost use Rattle.node_parts.specs.Steps.{Acts, LeavesSo, SeesParts, failed_by};
 
 use crate::acting::act;
 use crate::done::Done;
-use crate::moment::Moment;
+use crate::moment::{Moment, stamp_at};
 use crate::parts::Parts;
 use annex_base::NoMemory;
 use node_ends::ends_go_on;
@@ -62,7 +62,7 @@ impl Parts {
         local_drops_send_where_there_is_room();
         nameless_are_asked();
         sessions_stay();
-        let stamp = moment.stamp(self.jobs.number());
+        let stamp = stamp_at(moment.time, moment.count, self.jobs.number());
         let repositories = self.jobs.repositories();
         let acted = self.jobs.step(
             alloc,

@@ -73,7 +73,11 @@ fn said<'a>(line: &'a [u8], word: &[u8]) -> Option<&'a [u8]> {
     let blank = line.iter().position(|byte| *byte == b' ')?;
     let (_stamp, rest) = line.split_at(blank + 1);
     let (_repo, from) = rest.split_at_checked(2)?;
-    if from.starts_with(word) { Some(rest) } else { None }
+    if from.starts_with(word) {
+        Some(rest)
+    } else {
+        None
+    }
 }
 
 /// The lines of faults and of ends, without their stamps.

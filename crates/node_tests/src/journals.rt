@@ -230,7 +230,8 @@ pub const RACE: &[u8] = b"0.1 a gain by=script size=3 key=WORM-s3--abc\n\
 ";
 
 /// The first of two peers gives the lock, and the second one is not asked.
-pub const THREE_REPOSITORIES: &[u8] = b"0.1 a gain by=script size=3 key=SHA256-s3--ba7816bf8f01cfea414140de5dae2223b00361a396177a9cb410ff61f20015ad\n\
+pub const THREE_REPOSITORIES: &[u8] =
+    b"0.1 a gain by=script size=3 key=SHA256-s3--ba7816bf8f01cfea414140de5dae2223b00361a396177a9cb410ff61f20015ad\n\
 0.2 a log 1 location SHA256-s3--ba7816bf8f01cfea414140de5dae2223b00361a396177a9cb410ff61f20015ad\n\
 | 1700000000s 1 11111111-1111-4111-8111-111111111111\n\
 0.3 b gain by=script size=3 key=SHA256-s3--ba7816bf8f01cfea414140de5dae2223b00361a396177a9cb410ff61f20015ad\n\

@@ -6,6 +6,8 @@ mod drop_tests;
 #[cfg(test)]
 mod fault_tests;
 #[cfg(test)]
+mod job_tests;
+#[cfg(test)]
 mod journals;
 #[cfg(test)]
 mod log_tests;

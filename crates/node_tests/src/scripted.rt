@@ -1,12 +1,14 @@
 //! Nodes that do what a test says, and the journal of what they did.
+ghost use Rattle.std.specs.Prelude.{◌≡◌, ◌<◌, length};
+
 use annex_base::{Call, Failed, Items, NoMemory, RepoId, Text};
 use annex_key::Key;
 use content_lock::Look;
-use joined_nodes::Nodes;
+use joined_nodes::{Nodes, may_run, setups};
 use journal_text::put_entry;
 use key_verify::{Verdict, matches};
 use object_store::{Keeper, MemoryKeeper};
-use repo_node::{BeginRefused, Node, NodeRefused, Setup, Turn};
+use repo_node::{BeginRefused, Node, NodeRefused, Turn};
 use run_data::{Entry, EntryKind, Job, JobKind, RepoView};
 use std::alloc::Global;
 use std::test::Fail;
@@ -19,6 +21,11 @@ const IDS: [&[u8]; 3] = [
 ];
 
 const NAMES: [&[u8]; 3] = [b"a", b"b", b"c"];
+
+/// The latest time of the tests, and the most entries.
+const MOST_TIME: u64 = 1_000_000_000;
+
+const MOST_COUNT: u64 = 1_000_000;
 
 /// The content of each key of these tests.
 const CONTENT: &[u8] = b"abc";
@@ -85,52 +92,41 @@ pub struct Scripted {
     count: u64,
 }
 
-/// The identifier of a repository.
-fn id_of(repo: u32) -> Result<RepoId, NoMemory> {
-    match RepoId::parse(IDS[repo as usize]) {
-        Ok(id) => Ok(id),
-        Err(_) => Err(NoMemory),
-    }
-}
-
-fn ids(alloc: Global, count: u32) -> Result<Items<RepoId>, NoMemory> {
-    let mut ids = Items::new(alloc);
-    for i in 0..count {
-        ids.push(id_of(i)?)?;
-    }
-    Ok(ids)
-}
-
-fn setups(alloc: Global, count: u32, locks: bool) -> Result<Vec<Setup>, NoMemory> {
-    let mut setups = Vec::new(alloc);
-    for number in 0..count {
-        setups.push(Setup {
-            number,
-            id: id_of(number)?,
-            offset: 0,
-            version: 3,
-            locks,
-            repos: ids(alloc, count)?,
-        })?;
-    }
-    Ok(setups)
+fn view(alloc: Global, repo: u32, locks: bool) -> Result<RepoView, NoMemory> {
+    let (Some(name), Some(id)) = (NAMES.get(repo as usize), IDS.get(repo as usize)) else {
+        return Err(NoMemory);
+    };
+    let Ok(id) = RepoId::parse(id) else {
+        return Err(NoMemory);
+    };
+    Ok(RepoView {
+        name: Text::new(alloc, name)?,
+        id,
+        offset: 0,
+        version: 3,
+        locks,
+    })
 }
 
 fn views(alloc: Global, count: u32, locks: bool) -> Result<Items<RepoView>, NoMemory> {
     let mut views = Items::new(alloc);
-    for i in 0..count {
-        views.push(RepoView {
-            name: Text::new(alloc, NAMES[i as usize])?,
-            id: id_of(i)?,
-            offset: 0,
-            version: 3,
-            locks,
-        })?;
+    for repo in 0..count {
+        views.push(view(alloc, repo, locks)?)?;
     }
     Ok(views)
 }
 
-fn keepers(alloc: Global, count: u32) -> Result<Vec<MemoryKeeper>, NoMemory> {
+/// Nodes of these repositories, over stores that are empty.
+fn nodes_of(alloc: Global, repos: &[RepoView]) -> Result<Nodes<MemoryKeeper>, NoMemory> {
+    if !may_run(repos) {
+        return Err(NoMemory);
+    }
+    let setups = setups(alloc, repos)?;
+    let keepers = keepers(alloc, repos.len())?;
+    Nodes::new(alloc, setups, keepers)
+}
+
+fn keepers(alloc: Global, count: usize) -> Result<Vec<MemoryKeeper>, NoMemory> {
     let mut keepers = Vec::new(alloc);
     for _ in 0..count {
         keepers.push(MemoryKeeper::new(alloc)?)?;
@@ -152,6 +148,12 @@ fn lens(alloc: Global, key: &Key) -> Result<MemoryKeeper, NoMemory> {
         return Err(NoMemory);
     }
     Ok(keeper)
+}
+
+/// So many nodes.
+pub fn some_nodes(alloc: Global, count: u32, locks: bool) -> Result<Nodes<MemoryKeeper>, NoMemory> {
+    let repos = views(alloc, count, locks)?;
+    nodes_of(alloc, repos.as_slice())
 }
 
 fn zeros(alloc: Global, count: u32) -> Result<Vec<usize>, NoMemory> {
@@ -206,9 +208,7 @@ impl Scripted {
         let key = key_of(alloc, key)?;
         let told = zeros(alloc, count)?;
         let lens = lens(alloc, &key)?;
-        let setups = setups(alloc, count, locks)?;
-        let keepers = keepers(alloc, count)?;
-        let nodes = Nodes::new(alloc, setups, keepers)?;
+        let nodes = nodes_of(alloc, repos.as_slice())?;
         Ok(Scripted {
             nodes,
             repos,
@@ -223,14 +223,22 @@ impl Scripted {
     }
 
     /// Raises the time and the count of a node.
-    fn raise(&mut self, repo: usize) {
-        self.nodes.advance(repo, self.time, self.count);
+    fn raise(&mut self, repo: usize)
+        requires there { repo < length self.old.nodes }
+        ensures stay { length self.new.nodes ≡ length self.old.nodes }
+    {
+        let time = self.time.min(MOST_TIME);
+        let count = self.count.min(MOST_COUNT);
+        self.nodes.advance(repo, time, count);
     }
 
     /// Tells the entries that a node has made since; once more, where memory ran out in their midst.
-    fn tell(&mut self, repo: usize) -> Result<(), NoMemory> {
+    fn tell(&mut self, repo: usize) -> Result<(), NoMemory>
+        requires there { repo < length self.old.nodes }
+        ensures stay { length self.new.nodes ≡ length self.old.nodes }
+    {
         let history = self.nodes.node(repo).history();
-        let from = self.told[repo];
+        let from = self.told.get(repo).copied().unwrap_or(0);
         let length = self.text.len();
         if put_from(&mut self.text, self.repos.as_slice(), history, from).is_err() {
             self.text.truncate(length);
@@ -239,16 +247,24 @@ impl Scripted {
         if let Some(last) = history.last() {
             self.count = self.count.max(last.count);
         }
-        self.told[repo] = history.len();
+        if let Some(told) = self.told.get_mut(repo) {
+            *told = history.len();
+        }
         Ok(())
     }
 
-    fn seen(&mut self, repo: usize) -> Seen {
+    fn seen(&mut self, repo: usize) -> Seen
+        requires there { repo < length self.old.nodes }
+        ensures stay { length self.new.nodes ≡ length self.old.nodes }
+    {
         see(self.nodes.node(repo), &mut self.lens, &self.key)
     }
 
     /// One turn; once more, where memory ran out, which changed nothing.
-    fn turn(&mut self, repo: usize) -> Result<Turn, NoMemory> {
+    fn turn(&mut self, repo: usize) -> Result<Turn, NoMemory>
+        requires there { repo < length self.old.nodes }
+        ensures stay { length self.new.nodes ≡ length self.old.nodes }
+    {
         self.raise(repo);
         let was = self.seen(repo);
         let mut turn = self.nodes.turn(repo);
@@ -262,7 +278,9 @@ impl Scripted {
     }
 
     /// A turn of each node; whether one of them moved.
-    fn round(&mut self) -> Result<bool, NoMemory> {
+    fn round(&mut self) -> Result<bool, NoMemory>
+        ensures { length self.new.nodes ≡ length self.old.nodes }
+    {
         let mut moved = false;
         for repo in 0..self.nodes.count() {
             let turn = self.turn(repo)?;
@@ -273,19 +291,24 @@ impl Scripted {
         Ok(moved)
     }
 
-    fn settle(&mut self) -> Result<(), NoMemory> {
-        let mut idle = 0;
+    fn settle(&mut self) -> Result<(), NoMemory>
+        ensures { length self.new.nodes ≡ length self.old.nodes }
+    {
+        let mut idle = false;
         for _ in 0..1_000 {
             let moved = self.round()?;
-            idle = if moved { 0 } else { idle + 1 };
-            if idle == 2 {
+            if !moved && idle {
                 return Ok(());
             }
+            idle = !moved;
         }
         Ok(())
     }
 
-    fn have(&mut self, alloc: Global, repo: usize) -> Result<(), NoMemory> {
+    fn have(&mut self, alloc: Global, repo: usize) -> Result<(), NoMemory>
+        requires there { repo < length self.old.nodes }
+        ensures stay { length self.new.nodes ≡ length self.old.nodes }
+    {
         let verdict = matches(alloc, &self.key, CONTENT)?;
         if verdict == Verdict::Right {
             memory_of(self.nodes.place(repo, &self.key, CONTENT))?;
@@ -293,14 +316,20 @@ impl Scripted {
         Ok(())
     }
 
-    fn write(&mut self, repo: usize, path: &[u8], line: &[u8]) -> Result<(), NoMemory> {
+    fn write(&mut self, repo: usize, path: &[u8], line: &[u8]) -> Result<(), NoMemory>
+        requires there { repo < length self.old.nodes }
+        ensures stay { length self.new.nodes ≡ length self.old.nodes }
+    {
         if is_line(path) && is_line(line) {
             memory_of(self.nodes.write_raw(repo, path, line))?;
         }
         Ok(())
     }
 
-    fn begin_once(&mut self, repo: usize) -> Result<(), NoMemory> {
+    fn begin_once(&mut self, repo: usize) -> Result<(), NoMemory>
+        requires there { repo < length self.old.nodes }
+        ensures stay { length self.new.nodes ≡ length self.old.nodes }
+    {
         let job = Job {
             kind: JobKind::Drop,
             key: self.key.clone()?,
@@ -314,7 +343,10 @@ impl Scripted {
     }
 
     /// Begins a drop; once more, where memory ran out, which changed nothing.
-    fn begin(&mut self, repo: usize) -> Result<(), NoMemory> {
+    fn begin(&mut self, repo: usize) -> Result<(), NoMemory>
+        requires there { repo < length self.old.nodes }
+        ensures stay { length self.new.nodes ≡ length self.old.nodes }
+    {
         let was = self.seen(repo);
         if self.begin_once(repo).is_err() {
             self.stays = self.stays && self.seen(repo) == was;
@@ -323,9 +355,11 @@ impl Scripted {
         Ok(())
     }
 
-    fn wait(&mut self, alloc: Global, ms: u64) -> Result<(), NoMemory> {
-        self.time += ms;
-        self.count += 1;
+    fn wait(&mut self, alloc: Global, ms: u64) -> Result<(), NoMemory>
+        ensures { length self.new.nodes ≡ length self.old.nodes }
+    {
+        self.time = self.time.saturating_add(ms);
+        self.count = self.count.saturating_add(1);
         let entry = Entry {
             time: self.time,
             count: self.count,
@@ -345,6 +379,9 @@ impl Scripted {
 
     /// A node does this, and tells its entries.
     fn single(&mut self, alloc: Global, repo: usize, act: &Act) -> Result<(), NoMemory> {
+        if self.nodes.count() <= repo {
+            return Err(NoMemory);
+        }
         self.raise(repo);
         match act {
             Act::Have(_) => self.have(alloc, repo)?,
@@ -356,18 +393,22 @@ impl Scripted {
         self.tell(repo)
     }
 
+    fn turns(&mut self, repo: usize, times: u32) -> Result<(), NoMemory> {
+        for _ in 0..times {
+            if repo < self.nodes.count() {
+                let _ = self.turn(repo)?;
+            }
+        }
+        Ok(())
+    }
+
     /// Does this.
     fn does(&mut self, alloc: Global, act: &Act) -> Result<(), NoMemory> {
         match act {
             Act::Have(repo) | Act::Write(repo, _, _) | Act::Drop(repo) | Act::Fail(repo, _) => {
                 self.single(alloc, *repo, act)
             }
-            Act::Turn(repo, times) => {
-                for _ in 0..*times {
-                    let _ = self.turn(*repo)?;
-                }
-                Ok(())
-            }
+            Act::Turn(repo, times) => self.turns(*repo, *times),
             Act::Settle => self.settle(),
             Act::Wait(ms) => self.wait(alloc, *ms),
         }
@@ -421,7 +462,10 @@ fn prepared(alloc: Global, case: Case, acts: &[Act]) -> Result<Scripted, NoMemor
 
 /// The journal of nodes that do this, whose memory may be refused once.
 pub fn journal_of(alloc: Global, case: Case, acts: &[Act]) -> Result<Vec<u8>, Fail> {
-    let first = acts.iter().position(|act| !act.prepares()).unwrap_or(acts.len());
+    let first = acts
+        .iter()
+        .position(|act| !act.prepares())
+        .unwrap_or(acts.len());
     let (before, after) = acts.split_at(first);
     let mut nodes = prepared(alloc, case, before)?;
     let done = nodes.does_all(alloc, after);
