@@ -1,5 +1,5 @@
 -- A step that ends the job.
-use Rattle.std.proofs.Common.{◌≡◌, ℕ, Bool, true, false, not, List, [], ◌∷◌, filter, map, Option, None, Vec, Global, refl, sym, ap, ◌∙◌, subst}
+use Rattle.std.proofs.Common.{◌≡◌, ℕ, Bool, true, false, not, List, [], ◌∷◌, filter, map, Option, None, refl, sym, ap, ◌∙◌, subst}
 use Rattle.std.specs.Prelude.{◌||◌, if◌then◌else◌, flat_map}
 use Rattle.annex_base.specs.declared.kinds.Call.{Call}
 use Rattle.run_data.specs.declared.entry.By.{By}
@@ -19,7 +19,7 @@ use Rattle.content_lock.specs.Rows.{AreAfter, Rows, bar_at}
 use Rattle.content_lock.specs.Tokens.{Owns, ShareView}
 use Rattle.drop_worker.specs.declared.phase.Token.{Token}
 use Rattle.drop_worker.specs.declared.turn.Output.{Output}
-use Rattle.drop_worker.specs.declared.turn.Parcel.{Parcel}
+use Rattle.drop_worker.specs.Sends.{SendsView}
 use Rattle.drop_worker.specs.Worker.{Worker}
 use Rattle.drop_worker.specs.Working.{Rest, Sight, end_in, frames_of, made_of, parting, partings, turn_in}
 use Rattle.drop_worker.specs.Doing.{Does, HasToken, is_barring, share_in}
@@ -66,7 +66,7 @@ ends_rows job key token rows rows' outcome plain bare own off same filling =
     }
 
 pub ends_does : (x : Sight) (rows rows' : Rows) (p : List ℕ → Bool) (w w' : Worker) (taken : Option FrameView) (asked : Turn → Made) (outcome : Outcome)
-    (sends : Vec Parcel Global) (out : Output) → out ≡ record { kind = ends_job w.number outcome; sends = sends; ended = true }
+    (sends : SendsView) (out : Output) → out ≡ record { kind = ends_job w.number outcome; sends = sends; ended = true }
     → frames_of x.ends w.slot sends.items ≡ partings x.read x.ends w (is_lost_ordered outcome) → AreAfter (ends_job w.number outcome) rows rows'
     → ((rest : Rest) → ends (turn_in x rows p None rest w) taken outcome ≡ asked (turn_in x rows p None rest w)) → Does x rows rows' p w w' taken asked out
 ends_does x rows rows' p w w' taken asked outcome sends out is sent after f =
@@ -81,7 +81,7 @@ ends_does x rows rows' p w w' taken asked outcome sends out is sent after f =
     made rest = λ i. record { kind = ends_job w.number outcome; taken = taken; sent = (sent ∙ partings_same x rows p None rest w (is_lost_ordered outcome)) i; lines = [] }
 
 -- a refusal of a job that has nothing of its row
-pub refused_does : (x : Sight) (rows rows' : Rows) (p : List ℕ → Bool) (w w' : Worker) (asked : Turn → Made) (why : DropRefusal) (sends : Vec Parcel Global) (out : Output)
+pub refused_does : (x : Sight) (rows rows' : Rows) (p : List ℕ → Bool) (w w' : Worker) (asked : Turn → Made) (why : DropRefusal) (sends : SendsView) (out : Output)
     → out ≡ record { kind = ends_job w.number (Refused why); sends = sends; ended = true } → frames_of x.ends w.slot sends.items ≡ partings x.read x.ends w (lost_ordered why) → lost_ordered why ≡ false
     → w.token ≡ tokens.Nothing → HasToken w.number w.job.key w.token rows → rows' ≡ rows
     → ((rest : Rest) → ends (turn_in x rows p None rest w) None (Refused why) ≡ asked (turn_in x rows p None rest w)) → Does x rows rows' p w w' None asked out

@@ -1,5 +1,5 @@
 -- The ends of a local drop, and what they leave.
-use Rattle.std.proofs.Common.{◌≡◌, ℕ, true, false, List, None, Result, Ok, Vec, Global, refl, sym, ap, ◌∙◌, arith}
+use Rattle.std.proofs.Common.{◌≡◌, ℕ, true, false, List, None, Result, Ok, refl, sym, ap, ◌∙◌, arith}
 use Rattle.std.specs.Prelude.{if◌then◌else◌}
 use Rattle.annex_base.specs.declared.memory.NoMemory.{NoMemory}
 use Rattle.run_data.specs.declared.entry.EntryKind.TheVariants.{End as ends_job}
@@ -11,7 +11,7 @@ use Rattle.drop_worker.specs.declared.phase.Ending.{Ending}
 use Rattle.drop_worker.specs.declared.phase.Phase.TheVariants as phases
 use Rattle.drop_worker.specs.declared.phase.Token.TheVariants as tokens
 use Rattle.drop_worker.specs.declared.turn.Output.{Output}
-use Rattle.drop_worker.specs.declared.turn.Parcel.{Parcel}
+use Rattle.drop_worker.specs.Sends.{SendsView}
 use Rattle.drop_worker.specs.Worker.{Worker}
 use Rattle.drop_worker.specs.Working.{Sight, frames_of, outcome_as, partings, present_in}
 use Rattle.drop_worker.specs.Doing.{HasToken, OthersStay, is_barring}
@@ -21,7 +21,7 @@ use Rattle.drop_worker.proofs.Doings.{local_shares}
 use Rattle.drop_worker.proofs.Endings.{ends_does, ends_rows}
 use Rattle.drop_worker.proofs.Leavings.{goes_did, leaves_so}
 
-pub finish_did : (x : Sight) (rows rows' : Rows) (k : Store) (w w' : Worker) (outcome : Outcome) (sends : Vec Parcel Global) (out : Output) → is_lost_ordered outcome ≡ false → IsOfLocal w.token
+pub finish_did : (x : Sight) (rows rows' : Rows) (k : Store) (w w' : Worker) (outcome : Outcome) (sends : SendsView) (out : Output) → is_lost_ordered outcome ≡ false → IsOfLocal w.token
     → HasToken w.number w.job.key w.token rows → w' ≡ record w { token = tokens.Nothing } → ((key : List ℕ) → bar_at rows' key ≡ (if is_barring w.token key then None else bar_at rows key))
     → rows'.holds ≡ rows.holds → rows'.fills ≡ rows.fills → HasToken w.number w.job.key tokens.Nothing rows' → OthersStay w.number rows rows'
     → out ≡ record { kind = ends_job w.number outcome; sends = sends; ended = true } → frames_of x.ends w.slot sends.items ≡ partings x.read x.ends w false

@@ -1,5 +1,5 @@
 -- The first step of a local drop: its bar, or the refusal by its row.
-use Rattle.std.proofs.Common.{◌≡◌, ◌≤◌, ℕ, true, false, List, [], filter, Option, Some, None, Result, Ok, Err, Vec, Global, refl, sym, ap, ◌∙◌, subst}
+use Rattle.std.proofs.Common.{◌≡◌, ◌≤◌, ℕ, true, false, List, [], filter, Option, Some, None, Result, Ok, Err, refl, sym, ap, ◌∙◌, subst}
 use Rattle.annex_base.specs.Causes.{Rose}
 use Rattle.annex_base.specs.declared.kinds.Call.TheVariants as calls
 use Rattle.annex_base.specs.declared.memory.NoMemory.{NoMemory}
@@ -28,7 +28,7 @@ use Rattle.drop_worker.specs.declared.phase.Phase.TheVariants as phases
 use Rattle.drop_worker.specs.declared.phase.Token.{Token}
 use Rattle.drop_worker.specs.declared.phase.Token.TheVariants as tokens
 use Rattle.drop_worker.specs.declared.turn.Output.{Output}
-use Rattle.drop_worker.specs.declared.turn.Parcel.{Parcel}
+use Rattle.drop_worker.specs.Sends.{SendsView}
 use Rattle.drop_worker.specs.Worker.{Worker}
 use Rattle.drop_worker.specs.Working.{Rest, Sight, frames_of, partings, phase_as, present_in, turn_in, work_of}
 use Rattle.drop_worker.specs.Doing.{HasToken}
@@ -79,7 +79,7 @@ module _ (x : Sight) (rows rows' : Rows) (k k' : Store) (w w' : Worker) (local :
 
   -- ---- a refusal
 
-  module _ (sends : Vec Parcel Global) (sent : frames_of x.ends w.slot sends.items ≡ partings x.read x.ends w false) (same : rows' ≡ rows) (contents : k'.contents ≡ k.contents) (records : k'.records ≡ k.records)
+  module _ (sends : SendsView) (sent : frames_of x.ends w.slot sends.items ≡ partings x.read x.ends w false) (same : rows' ≡ rows) (contents : k'.contents ≡ k.contents) (records : k'.records ≡ k.records)
       (later : k.faults ≤ k'.faults) where
     own' : HasToken w.number w.job.key w.token rows'
     own' = subst (λ (r : Rows). HasToken w.number w.job.key w.token r) (sym same) own

@@ -15,7 +15,7 @@ use Rattle.drop_worker.specs.declared.phase.Phase.TheVariants as phases
 use Rattle.drop_worker.specs.declared.phase.Token.{Token}
 use Rattle.drop_worker.specs.declared.phase.Token.TheVariants as tokens
 use Rattle.drop_worker.specs.declared.turn.Output.{Output}
-use Rattle.drop_worker.specs.declared.turn.Parcel.{Parcel}
+use Rattle.drop_worker.specs.Sends.{SendsView}
 use Rattle.content_lock.specs.declared.refusals.BarRefused.{BarRefused}
 use Rattle.content_lock.specs.declared.refusals.BarRefused.TheVariants as bars
 use Rattle.drop_worker.specs.Worker.{Worker}
@@ -112,7 +112,7 @@ refusal_gone r w w' made result bare ended last same is =
     }
     )
 
-pub unbarred_gone : (r : Reading) (w w' : Worker) (sends : Vec Parcel Global) (why : BarRefused) (result : Result Output NoMemory) → w.token ≡ tokens.Nothing → Unbarred why w w' sends result → IfOk result (HasGone r w w')
+pub unbarred_gone : (r : Reading) (w w' : Worker) (sends : SendsView) (why : BarRefused) (result : Result Output NoMemory) → w.token ≡ tokens.Nothing → Unbarred why w w' sends result → IfOk result (HasGone r w w')
 unbarred_gone r w w' sends bars.Absent result bare is = refusal_gone r w w' _ result bare refl refl is.0 is.1
 unbarred_gone r w w' sends (bars.Barred job) result bare is = refusal_gone r w w' _ result bare refl refl is.0 is.1
 unbarred_gone r w w' sends (bars.Held hold until) result bare is = refusal_gone r w w' _ result bare refl refl is.0 is.1

@@ -1,5 +1,5 @@
 -- The ends of a remote drop, and what they leave.
-use Rattle.std.proofs.Common.{◌≡◌, ◌≤◌, inl, ℕ, Bool, true, false, not, List, [], ◌∷◌, map, filter, Option, Some, None, Ok, Vec, Global, refl, sym, ap, ◌∙◌, subst, arith}
+use Rattle.std.proofs.Common.{◌≡◌, ◌≤◌, inl, ℕ, Bool, true, false, not, List, [], ◌∷◌, map, filter, Option, Some, None, Ok, refl, sym, ap, ◌∙◌, subst, arith}
 use Rattle.std.specs.Prelude.{◌==◌, ◌&&◌, ◌||◌, find, if◌then◌else◌}
 use Rattle.std.specs.List.{list_any}
 use Rattle.std.specs.Option.{option_map}
@@ -26,7 +26,7 @@ use Rattle.drop_worker.specs.declared.phase.Phase.{Phase}
 use Rattle.drop_worker.specs.declared.phase.Phase.TheVariants as phases
 use Rattle.drop_worker.specs.declared.phase.Token.TheVariants as tokens
 use Rattle.drop_worker.specs.declared.turn.Output.{Output}
-use Rattle.drop_worker.specs.declared.turn.Parcel.{Parcel}
+use Rattle.drop_worker.specs.Sends.{SendsView}
 use Rattle.drop_worker.specs.Worker.{Worker}
 use Rattle.drop_worker.specs.Working.{Rest, failed_in, frames_of, partings, phase_as, sight, turn_in, work_of}
 use Rattle.drop_worker.specs.Doing.{HasToken, OthersStay, moved}
@@ -69,7 +69,7 @@ released_rows job key share rows rows' outcome plain own after ended = record {
 
 -- ---- the job ends
 
-ended_did : (read : Reading) (ends_at : EndName → End) (time : ℕ) (rows rows' : Rows) (k k' : Store) (w w' : Worker) (outcome : Outcome) (sends : Vec Parcel Global) (out : Output)
+ended_did : (read : Reading) (ends_at : EndName → End) (time : ℕ) (rows rows' : Rows) (k k' : Store) (w w' : Worker) (outcome : Outcome) (sends : SendsView) (out : Output)
     → out ≡ record { kind = ends_job w.number outcome; sends = sends; ended = true } → frames_of ends_at w.slot sends.items ≡ partings read ends_at w (is_lost_ordered outcome)
     → w' ≡ record w { token = tokens.Nothing } → AreAfter (ends_job w.number outcome) rows rows' → HasToken w.number w.job.key tokens.Nothing rows' → OthersStay w.number rows rows'
     → k'.contents ≡ k.contents → Agrees k'.records rows'.holds → k.faults ≤ k'.faults → DidRemote rows rows' k k' w w' (EndsSo read ends_at time rows rows' w w' outcome) (Ok out)
@@ -90,7 +90,7 @@ own_of job key share rows own = subst (λ (by : By). Owns by (Some share) rows.h
 abbrev pub KeepsOthers : ShareView → Rows → Rows → Type 0
 KeepsOthers share rows rows' = (by : By) (other : Option ShareView) → same_owner share.owner by ≡ false → Owns by other rows.holds → Owns by other rows'.holds
 
-module _ (read : Reading) (ends_at : EndName → End) (time : ℕ) (rows rows' : Rows) (k k' : Store) (w w' : Worker) (outcome : Outcome) (sends : Vec Parcel Global) (out : Output)
+module _ (read : Reading) (ends_at : EndName → End) (time : ℕ) (rows rows' : Rows) (k k' : Store) (w w' : Worker) (outcome : Outcome) (sends : SendsView) (out : Output)
     (is : out ≡ record { kind = ends_job w.number outcome; sends = sends; ended = true }) (sent : frames_of ends_at w.slot sends.items ≡ partings read ends_at w (is_lost_ordered outcome))
     (next : w' ≡ record w { token = tokens.Nothing }) (contents : k'.contents ≡ k.contents) (agrees : Agrees k'.records rows'.holds) (later : k.faults ≤ k'.faults) where
   -- it had nothing

@@ -1,8 +1,6 @@
 -- What a step of a local drop does and leaves, in one fact, for private contracts (the project's own).
 use Rattle.std.specs.Prelude.{◌≡◌, ◌≤◌, ℕ, true, false, List, [], Option, None, IfSome, IfOk, OnErr, Result, Ok, Err}
 use Rattle.std.specs.Option.{ForSome}
-use Rattle.std.specs.declared.vec.Vec.{Vec}
-use Rattle.std.specs.declared.alloc.Global.{Global}
 use Rattle.annex_base.specs.Causes.{Rose}
 use Rattle.annex_base.specs.declared.kinds.Call.TheVariants as calls
 use Rattle.annex_base.specs.declared.kinds.Word.{Word}
@@ -25,7 +23,7 @@ use Rattle.content_lock.specs.declared.refusals.BarRefused.TheVariants as bars
 use Rattle.drop_worker.specs.declared.phase.Ending.TheVariants as endings
 use Rattle.drop_worker.specs.declared.phase.Phase.TheVariants as phases
 use Rattle.drop_worker.specs.declared.turn.Output.{Output}
-use Rattle.drop_worker.specs.declared.turn.Parcel.{Parcel}
+use Rattle.drop_worker.specs.Sends.{SendsView}
 use Rattle.drop_worker.specs.declared.turn.Taken.{Taken}
 use Rattle.drop_worker.specs.Worker.{Worker}
 use Rattle.drop_worker.specs.Working.{Sight, failed_in, phase_as, present_in}
@@ -89,7 +87,7 @@ pub record Advances (x : Sight) (known : Option Contents) (rows rows' : Rows) (w
 -- ---- a bar that was refused
 
 -- the job ends with this refusal
-abbrev pub IsRefusal : DropRefusal → Worker → Worker → Vec Parcel Global → Result Output NoMemory → Type 0
+abbrev pub IsRefusal : DropRefusal → Worker → Worker → SendsView → Result Output NoMemory → Type 0
 IsRefusal why w w' sends r = (w' ≡ w) × (r ≡ Ok (record { kind = kinds.End w.number (Refused why); sends = sends; ended = true }))
 
 -- the store failed: the job ends next
@@ -100,7 +98,7 @@ pub record Fails (w w' : Worker) (out : Output) : Type 0 where
   pub next : w' ≡ record w { phase = phases.Ends endings.StoreFault }
 
 -- what follows a bar that wasn't put
-abbrev pub Unbarred : BarRefused → Worker → Worker → Vec Parcel Global → Result Output NoMemory → Type 0
+abbrev pub Unbarred : BarRefused → Worker → Worker → SendsView → Result Output NoMemory → Type 0
 Unbarred bars.Absent w w' sends r = IsRefusal refusals.NotPresent w w' sends r
 Unbarred (bars.Barred job) w w' sends r = IsRefusal (refusals.Barred job) w w' sends r
 Unbarred (bars.Held hold until) w w' sends r = IsRefusal (refusals.Held until) w w' sends r

@@ -1,5 +1,6 @@
 -- What contracts of a drop's worker cite.
 pub mod Worker
+pub mod Sends
 pub mod Standings
 pub mod Working
 pub mod Doing

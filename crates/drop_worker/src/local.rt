@@ -20,8 +20,9 @@ use crate::here::Here;
 use crate::judging::{Verdict, gather, judge, others};
 use crate::phase::{Ending, Phase, Token};
 use crate::said::Said;
+use crate::sends::Sends;
 use crate::time::Time;
-use crate::turn::{Input, Output, Parcel, ParcelBody};
+use crate::turn::{Input, Output, ParcelBody};
 use crate::worker::{Worker, ending, quietly, reads, telling};
 use annex_base::{Call, Items, NoMemory};
 use content_lock::{BarRefused, LockTable};
@@ -99,7 +100,7 @@ fn unbarred(
     worker: &mut Worker,
     alloc: Global,
     why: BarRefused,
-    sends: Vec<Parcel>,
+    sends: Sends,
 ) -> Result<Output, NoMemory>
     ensures { Unbarred why worker.old worker.new sends result }
 {
@@ -115,7 +116,7 @@ fn unbarred(
 }
 
 /// The job ends with a refusal.
-fn refused(worker: &Worker, why: DropRefusal, sends: Vec<Parcel>) -> Output
+fn refused(worker: &Worker, why: DropRefusal, sends: Sends) -> Output
     ensures { result ≡ record { kind = EntryKind.End worker.now.number (Outcome.Refused why); sends = sends; ended = true } }
 {
     ending(worker.number(), Outcome::Refused(why), sends)

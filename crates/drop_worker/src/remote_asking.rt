@@ -7,6 +7,7 @@ ghost use Rattle.drop_worker.specs.Remote.{ReadsAll, Says, first_request, order_
 use crate::here::Here;
 use crate::phase::{Ending, Phase};
 use crate::said::Said;
+use crate::sends::Sends;
 use crate::time::Time;
 use crate::turn::{Output, Parcel, ParcelBody};
 use crate::worker::{Worker, quietly, telling};
@@ -125,7 +126,7 @@ fn saying(alloc: Global, kind: EntryKind, peer: u32, said: Message) -> Result<Ou
     ensures { IfOk result (λ out. (out.kind ≡ kind) × (out.sends.items ≡ record { peer = peer; body = ParcelBody.Message said } ∷ []) × (out.ended ≡ false)) }
 {
     let said = Said::new(alloc, said)?;
-    let mut sends = Vec::new(alloc);
+    let mut sends = Sends::new(alloc);
     sends.push(Parcel {
         peer,
         body: ParcelBody::Message(said),

@@ -1,5 +1,6 @@
 //! What a step takes and gives.
 use crate::said::Said;
+use crate::sends::Sends;
 use crate::time::Time;
 use annex_base::Word;
 use p2p_wire::Message;
@@ -46,6 +47,6 @@ pub enum ParcelBody {
 #[derive(Debug, Drop)]
 pub struct Output {
     pub kind: EntryKind,
-    pub sends: Vec<Parcel>,
+    pub sends: Sends,
     pub ended: bool,
 }

@@ -12,6 +12,7 @@ ghost use Rattle.drop_worker.specs.Working.{frames_of, heard_in, is_lock, learnt
 use crate::here::Here;
 use crate::phase::{Ending, Heard, Phase, Token};
 use crate::said::Said;
+use crate::sends::Sends;
 use crate::turn::{Output, Parcel, ParcelBody};
 use annex_base::{Call, NoMemory, Word};
 use annex_key::{Key, key_texts_have_no_fault};
@@ -223,10 +224,10 @@ impl Worker {
         alloc: Global,
         here: &H,
         lost: bool,
-    ) -> Result<Vec<Parcel>, NoMemory>
+    ) -> Result<Sends, NoMemory>
         ensures { IfOk result (λ ps. frames_of (H.ends here.now) self.now.slot ps.items ≡ partings (H.reading here.now) (H.ends here.now) self.now lost) }
     {
-        let mut parcels = Vec::new(alloc);
+        let mut parcels = Sends::new(alloc);
         let count = here.count();
         let repo = here.repo();
         for peer in 0..count {
@@ -248,7 +249,7 @@ impl Worker {
                 call,
                 by: By::Job(self.number()),
             },
-            sends: Vec::new(alloc),
+            sends: Sends::new(alloc),
             ended: false,
         }
     }
@@ -347,7 +348,7 @@ fn is_lock(heard: Option<Heard>) -> bool
 }
 
 /// The job ends so.
-pub(crate) fn ending(number: u32, outcome: Outcome, sends: Vec<Parcel>) -> Output
+pub(crate) fn ending(number: u32, outcome: Outcome, sends: Sends) -> Output
     ensures { result ≡ record { kind = EntryKind.End number outcome; sends = sends; ended = true } }
 {
     Output {
@@ -369,7 +370,7 @@ pub(crate) fn telling(
 ) -> Result<Output, NoMemory>
     ensures { IfOk result (λ out. (out.kind ≡ EntryKind.Talk (Some number)) × (out.sends.items ≡ record { peer = peer; body = body } ∷ []) × (out.ended ≡ false)) }
 {
-    let mut sends = Vec::new(alloc);
+    let mut sends = Sends::new(alloc);
     sends.push(Parcel { peer, body })?;
     Ok(Output {
         kind: EntryKind::Talk { job: Some(number) },
@@ -384,7 +385,7 @@ pub(crate) fn quietly(alloc: Global, kind: EntryKind) -> Output
 {
     Output {
         kind,
-        sends: Vec::new(alloc),
+        sends: Sends::new(alloc),
         ended: false,
     }
 }

@@ -112,6 +112,25 @@ impl Ends {
         listed
     }
 
+    /// Sends it where the end may.
+    pub fn post(
+        &mut self,
+        id: EndId,
+        sender: EntryStamp,
+        word: Option<Word>,
+        said: Sending,
+    ) -> Option<FrameView> {
+        let may = match &said {
+            Sending::Close => self.is_open(id),
+            Sending::Open | Sending::Line { .. } | Sending::Bytes(_) => self.room(id),
+        };
+        if may {
+            Some(self.send(id, sender, word, said))
+        } else {
+            None
+        }
+    }
+
     /// Drops, at each end, the frames that are never taken: of an older epoch, or of one that the end has closed. It takes no
     /// memory.
     pub fn drop_old(&mut self)

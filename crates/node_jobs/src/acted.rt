@@ -1,5 +1,5 @@
 //! What a job's step does.
-use drop_worker::Parcel;
+use drop_worker::Sends;
 use run_data::EntryKind;
 
 /// What a job's step does: an entry, and what is taken and sent with it. The last step ends the job (own).
@@ -11,6 +11,6 @@ pub struct Acted {
     /// The peer from whose end the frame that waits there is taken.
     pub takes: Option<u32>,
     pub kind: EntryKind,
-    pub sends: Vec<Parcel>,
+    pub sends: Sends,
     pub ended: bool,
 }

@@ -114,6 +114,11 @@ impl Sessions {
         end_all(list, table);
     }
 
+    /// Whether a session has a step.
+    pub fn is_ready(&self, ends: &mut Ends) -> bool {
+        first_turn(&self.list, ends).is_some()
+    }
+
     /// The step of the sessions: the first that has a step makes it, and the answer says what is to be done at its end. A session
     /// has a step where its end has room and a frame waits there, or it is sending a content on an open connection. The clock is
     /// the repository's, in milliseconds; the number is that of the entry that is to be made. After NoMemory all is as before.

@@ -3,3 +3,5 @@
 
 #[cfg(test)]
 mod log_tests;
+#[cfg(test)]
+mod race_tests;

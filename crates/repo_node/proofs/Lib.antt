@@ -8,3 +8,4 @@ pub mod WalkLemmas
 pub mod DebtLemmas
 pub mod SetLemmas
 pub mod GainLemmas
+pub mod IndexLemmas

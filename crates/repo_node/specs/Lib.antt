@@ -6,5 +6,6 @@ pub mod Logs
 pub mod Walks
 pub mod Debts
 pub mod Placing
+pub mod Indexed
 pub mod Refusals
 pub mod Pasts

@@ -17,7 +17,7 @@ use crate::logs::copies;
 use crate::node::Node;
 use crate::refused::NodeRefused;
 use annex_base::{Items, Line, NoMemory, Text};
-use log_lines::{LogKind, compact, has_outdated};
+use log_lines::{LogKind, compact, compaction_keeps_the_reading, has_outdated};
 use object_store::Keeper;
 use run_data::{By, EntryKind, LogFile, files_have_their_paths};
 use std::alloc::Global;
@@ -63,6 +63,7 @@ impl<K: Keeper> Node<K> {
         requires line { IsLine path.now }
         requires here { path.now ≡ file_path file }
         requires kind { kind_of file ≡ Some kind }
+        requires named { file ≡ file_of path.now }
         ensures ok { OnOk result (self.new ≡ with_entry self.old self.new.keeper (with_file self.old.branch (file_path file) (current self.old file)) (kinds.Compact file) []) }
         ensures err { IfErr result (λ e. RefusesSo e calls.PutFile self.old self.new) }
         ensures contents { K.contents self.new.keeper ≡ K.contents self.old.keeper }
@@ -70,14 +71,15 @@ impl<K: Keeper> Node<K> {
         ensures later { K.faults self.old.keeper ≤ K.faults self.new.keeper }
         ensures cause { IsErrOf result NodeRefused.StoreFault → Rose (K.faults self.old.keeper) (K.faults self.new.keeper) }
     {
-        // A law, for the proof: only the file of this path changes.
+        // Laws, for the proof: only the file of this path changes, and a compaction keeps what its lines say.
         files_are_changed_alone();
+        compaction_keeps_the_reading();
         let alloc = self.allocator();
         let branch = self.branch();
         let lines = lines_of(branch, path);
         let all = current_lines(alloc, kind, lines)?;
         let none = Items::new(alloc);
-        self.write(path, all, EntryKind::Compact { file }, none, By::Script)
+        self.write(path, all, EntryKind::Compact { file }, none, &[], By::Script)
     }
 
     /// Takes the outdated lines of the file of this path away, by one entry, where it has some.

@@ -10,7 +10,7 @@ use crate::refused::NodeRefused;
 use crate::setup::Setup;
 use annex_base::{Call, Items, Line};
 use object_store::KeeperFault;
-use run_data::{By, Entry, EntryKind};
+use run_data::{By, Entry, EntryKind, FrameView};
 use std::alloc::Global;
 
 /// How many entries a history has at most.
@@ -90,6 +90,25 @@ impl Past {
             taken: None,
             sent: Items::new(self.alloc),
             lines,
+        };
+        self.history.push(entry).unwrap();
+        self.count += 1;
+    }
+
+    pub(crate) fn is_full(&self) -> bool {
+        self.history.len() >= MOST_ENTRIES
+    }
+
+    /// Adds the entry of a step that took and sent these frames.
+    pub(crate) fn enter(&mut self, kind: EntryKind, taken: Option<FrameView>, sent: Items<FrameView>) {
+        let entry = Entry {
+            time: self.time,
+            count: self.count + 1,
+            repo: Some(self.setup.number),
+            kind,
+            taken,
+            sent,
+            lines: Items::new(self.alloc),
         };
         self.history.push(entry).unwrap();
         self.count += 1;

@@ -3,6 +3,7 @@
 
 mod compacting;
 mod entries;
+mod indexing;
 mod logs;
 mod merging;
 mod node;
@@ -12,8 +13,10 @@ mod placing;
 mod refused;
 mod setup;
 mod stamped;
+mod turn;
 mod writing;
 
 pub use node::Node;
 pub use refused::NodeRefused;
 pub use setup::{Ended, Setup};
+pub use turn::{BeginRefused, Turn, carry_nodes};

@@ -13,10 +13,11 @@ ghost use Rattle.repo_node.specs.Refusals.{RefusesFor, RefusesSo};
 use crate::node::Node;
 use crate::refused::NodeRefused;
 use annex_base::{Items, Line, NoMemory};
+use log_lines::readings_depend_on_the_set;
 use object_store::Keeper;
 use run_data::{By, EntryKind, LogFile};
 use std::alloc::Global;
-use union_merge::{Branch, LineSet, files_are_changed_alone};
+use union_merge::{Branch, LineSet, files_are_changed_alone, unions_have_the_lines_of_both};
 
 /// Those of the lines that a file of the branch lacks.
 fn new_lines(
@@ -101,12 +102,27 @@ impl<K: Keeper> Node<K> {
         ensures later { K.faults self.old.keeper ≤ K.faults self.new.keeper }
         ensures cause { IsErrOf result NodeRefused.StoreFault → Rose (K.faults self.old.keeper) (K.faults self.new.keeper) }
     {
-        // A law, for the proof: only the file of this path changes.
+        // Laws, for the proof: only the file of this path changes, and what lines say depends on which they are.
         files_are_changed_alone();
+        unions_have_the_lines_of_both();
+        readings_depend_on_the_set();
         let alloc = self.allocator();
+        let pays = self.is_due(path, new.lines())?;
         let all = all_lines(alloc, self.branch(), path, new)?;
         let lines = listed(alloc, new.lines())?;
-        self.write(path, all, EntryKind::Log { file }, lines, by)
+        let written = self.write(
+            path,
+            all,
+            EntryKind::Log { file },
+            lines,
+            new.lines(),
+            by,
+        );
+        let lost = matches!(written, Err(NodeRefused::StoreFault)) && by != By::Script;
+        if lost || (written.is_ok() && pays) {
+            let _ = self.debts.remove(0);
+        }
+        written
     }
 
     /// Adds those of these lines that the file lacks, by one log entry; where it lacks none, nothing is done.

@@ -1,6 +1,9 @@
 //! A node, and what it shows of itself.
 ghost use Rattle.std.specs.Prelude.{◌≡◌, ◌≢◌, ◌≤◌, ◌<◌, ◌^◌, ◌*◌, ℕ, [], Some, max, length, replicate, slice_get, AllPairs, IfOk, OnOk, OnErr};
-ghost use Rattle.std.specs.Option.{ForSome, option_map};
+ghost use Rattle.std.specs.Option.{ForSome, option_copied, option_map};
+ghost use Rattle.trust_groups.specs.Settings.{settings};
+ghost use Rattle.trust_groups.specs.View.{settings_of};
+ghost use Rattle.union_merge.specs.Branch.{lines_at};
 ghost use Rattle.content_lock.specs.Stored.{Agrees};
 ghost use Rattle.link_ring.specs.Ends.{fresh};
 ghost use Rattle.object_store.specs.Calls.{one_more};
@@ -11,35 +14,50 @@ ghost use Rattle.repo_node.specs.Stored.{HasNothing};
 
 use crate::past::Past;
 use crate::setup::{Ended, Setup};
-use annex_base::{Call, NoMemory};
+use annex_base::{Call, Items, NoMemory, RepoId};
 use content_lock::LockTable;
 use link_ring::Links;
+use node_parts::Parts;
 use object_store::{FailingKeeper, Keeper};
 use run_data::Entry;
 use std::alloc::Global;
 use std::marker::Model;
+use trust_groups::{Settings, settings_are_those_of_the_lines_read};
 use union_merge::Branch;
 
 /// A repository of a run (own). It knows its own store, rows and branch, and of the others what reaches it over its ends. What
 /// it has is the state that its history leaves. It has tokens to spend, so it is dissolved and never dropped.
 pub struct Node<K: Keeper> {
     pub(crate) keeper: K,
-    pub(crate) table: LockTable,
     pub(crate) branch: Branch,
     pub(crate) past: Past,
-    links: Links,
+    /// The index of the branch's settings; none after a line couldn't be added to it for want of memory.
+    pub(crate) index: Option<Settings>,
+    pub(crate) parts: Parts,
+    /// The places of the entries whose lines it owes.
+    pub(crate) debts: Vec<usize>,
 }
 
 impl<K: Keeper> Model for Node<K> {
     ghost use Rattle.repo_node.specs.Nodes.{NodeView, HasFiles};
     ghost use Rattle.repo_node.specs.Idle.{IsKept};
+    ghost use Rattle.repo_node.specs.Indexed.{IsIndexed};
     ghost use Rattle.content_lock.specs.Stored.{Agrees};
 
     ghost Value = { NodeView K };
 
-    ghost view = { λ n. record { setup = n.past.setup; keeper = n.keeper; table = n.table; branch = n.branch; time = n.past.time; count = n.past.count; history = n.past.history.items; outcomes = n.past.outcomes.items } };
+    ghost view = { λ n. record { setup = n.past.setup; keeper = n.keeper; table = n.parts.table; branch = n.branch; time = n.past.time; count = n.past.count; history = n.past.history.items; outcomes = n.past.outcomes.items } };
 
-    ghost invariant = { λ n. IsKept n.past.setup n.past.history.items n.table n.branch (K.contents n.keeper) × HasFiles (K.files n.keeper) n.branch × Agrees (K.records n.keeper) n.table.holds };
+    ghost invariant = { λ n. IsKept n.past.setup n.past.history.items n.parts.table n.branch (K.contents n.keeper) × HasFiles (K.files n.keeper) n.branch × Agrees (K.records n.keeper) n.parts.table.holds × IsIndexed n.index n.branch };
+}
+
+/// Copies of identifiers.
+fn copied(alloc: Global, ids: &[RepoId]) -> Result<Items<RepoId>, NoMemory> {
+    let mut all = Items::new(alloc);
+    for id in ids {
+        all.push(*id)?;
+    }
+    Ok(all)
 }
 
 impl<K: Keeper> Node<K> {
@@ -55,13 +73,23 @@ impl<K: Keeper> Node<K> {
         requires links { links.ends.items ≡ replicate (length setup.repos * 8) fresh }
         ensures { IfOk result (λ n. n ≡ record { setup = setup; keeper = keeper; table = record { holds = []; bars = []; fills = [] }; branch = []; time = 0; count = 0; history = []; outcomes = [] }) }
     {
-        let table = LockTable::new(alloc)?;
+        let ids = copied(alloc, setup.repos.as_slice())?;
+        let parts = Parts::new(
+            alloc,
+            setup.number,
+            setup.id,
+            ids,
+            setup.version,
+            setup.locks,
+            links,
+        )?;
         Ok(Node {
             keeper,
-            table,
             branch: Branch::new(alloc),
             past: Past::new(alloc, setup),
-            links,
+            index: Some(Settings::new(alloc)),
+            parts,
+            debts: Vec::new(alloc),
         })
     }
 
@@ -104,10 +132,33 @@ impl<K: Keeper> Node<K> {
         &self.branch
     }
 
+    /// What it knows from its branch, unless memory ran out for it; `make_index` reads it anew then.
+    pub(crate) fn settings(&self) -> Option<&Settings>
+        ensures { ForSome (option_copied result) (λ i. settings_of i ≡ settings (lines_at self.now.branch)) }
+    {
+        // A law, for the proof: an index that has read lines has their settings.
+        settings_are_those_of_the_lines_read();
+        self.index.as_ref()
+    }
+
     pub fn table(&self) -> &LockTable
         ensures { result.now ≡ self.now.table }
     {
-        &self.table
+        self.parts.table()
+    }
+
+    /// (for trials) its entries.
+    pub fn into_history(self) -> Vec<Entry> {
+        let Node {
+            keeper: _,
+            branch: _,
+            past,
+            index: _,
+            parts,
+            debts: _,
+        } = self;
+        parts.dissolve();
+        past.history
     }
 
     /// Spends what its jobs and sessions have of it, and hands its store back.
@@ -116,11 +167,13 @@ impl<K: Keeper> Node<K> {
     {
         let Node {
             keeper,
-            table: _,
             branch: _,
             past: _,
-            links: _,
+            index: _,
+            parts,
+            debts: _,
         } = self;
+        parts.dissolve();
         keeper
     }
 }

@@ -21,7 +21,7 @@ use annex_base::{Line, NoMemory, RepoId, Stamp};
 use annex_key::Key;
 use log_lines::{Entry, LogKind, Topic, Value};
 use object_store::Keeper;
-use run_data::{By, LogFile};
+use run_data::{By, EntryKind, LogFile};
 use std::alloc::Global;
 use union_merge::{Branch, LineSet};
 
@@ -82,7 +82,72 @@ fn has_line(branch: &Branch, path: &[u8], line: &[u8]) -> bool
     }
 }
 
+/// Whether the lines are the same.
+fn same_lines(some: &[Line], other: &[Line]) -> bool {
+    if some.len() != other.len() {
+        return false;
+    }
+    for (i, line) in some.iter().enumerate() {
+        if line.bytes() != other[i].bytes() {
+            return false;
+        }
+    }
+    true
+}
+
 impl<K: Keeper> Node<K> {
+    /// The first line that is owed.
+    fn first_debt(&self) -> Result<Option<Debt>, NoMemory> {
+        let Some(place) = self.debts.first() else {
+            return Ok(None);
+        };
+        match &self.past.history[*place].kind {
+            EntryKind::Gain { by, key, .. } => Ok(Some(Debt {
+                by: *by,
+                repo: self.past.number(),
+                there: true,
+                key: key.clone()?,
+            })),
+            EntryKind::Gone { by, key } => Ok(Some(Debt {
+                by: *by,
+                repo: self.past.number(),
+                there: false,
+                key: key.clone()?,
+            })),
+            _ => Ok(None),
+        }
+    }
+
+    /// Whether these lines of the file of this path are those that the first owed line is due.
+    pub(crate) fn is_due(&self, path: &[u8], lines: &[Line]) -> Result<bool, NoMemory> {
+        let Some(debt) = self.first_debt()? else {
+            return Ok(false);
+        };
+        let alloc = self.allocator();
+        let id = self.id_of(debt.repo);
+        let clock = self.past.stamp();
+        let file = LogFile::Location(debt.key);
+        let due_path = file.path(alloc)?;
+        if due_path.bytes() != path {
+            return Ok(false);
+        }
+        let branch = self.branch();
+        let line = status_line(alloc, branch, path, id, debt.there, clock)?;
+        let new = if_new(alloc, branch, path, line.bytes())?;
+        Ok(same_lines(new.lines(), lines))
+    }
+
+    pub(crate) fn owes(&self) -> bool {
+        !self.debts.is_empty()
+    }
+
+    pub(crate) fn pay_first(&mut self) -> Result<(), NodeRefused> {
+        let Some(debt) = self.first_debt()? else {
+            return Ok(());
+        };
+        self.pay(&debt)
+    }
+
     /// The identifier of a repository of the run.
     fn id_of(&self, repo: u32) -> RepoId
         requires { repo < length self.now.setup.repos }

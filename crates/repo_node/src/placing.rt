@@ -221,7 +221,7 @@ impl<K: Keeper> Node<K> {
         ensures later { K.faults self.old.keeper ≤ K.faults self.new.keeper }
         ensures cause { IsErrOf result NodeRefused.StoreFault → Rose (K.faults self.old.keeper) (K.faults self.new.keeper) }
     {
-        bring(&mut self.keeper, &self.table, &mut self.past, key, bytes)
+        bring(&mut self.keeper, self.parts.table(), &mut self.past, key, bytes)
     }
 
     /// Makes the key's part its content, by one entry.

@@ -1,6 +1,5 @@
 //! What a node is given before its first entry, and how its jobs end.
 use annex_base::{Items, RepoId};
-use run_data::Outcome;
 
 /// A repository as it is set up, and the identifiers of all repositories of its run in order of number (own).
 #[derive(Debug, Drop)]
@@ -24,5 +23,4 @@ pub struct Ended {
     pub number: u32,
     /// The place of the entry that ended it in the history of its repository, from 0.
     pub place: usize,
-    pub outcome: Outcome,
 }

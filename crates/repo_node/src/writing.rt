@@ -7,18 +7,25 @@ ghost use Rattle.run_data.specs.declared.entry.By.{By};
 ghost use Rattle.union_merge.specs.Branch.{file_at, lines_at, with_back, with_file};
 ghost use Rattle.union_merge.specs.LineSet.{IsLine, text_of};
 ghost use Rattle.node_model.specs.Files.{lines_after};
+ghost use Rattle.std.specs.Option.{ForSome};
+ghost use Rattle.trust_groups.specs.Adding.{lines_and};
+ghost use Rattle.trust_groups.specs.Reads.{Reads};
+ghost use Rattle.trust_groups.specs.Settings.{Lines};
 ghost use Rattle.repo_node.specs.Idle.{IsOfFiles};
+ghost use Rattle.repo_node.specs.Indexed.{ReadsAlike};
 ghost use Rattle.repo_node.specs.Nodes.{with_entry};
 ghost use Rattle.repo_node.specs.Pasts.{AddsTo, FailsFor, IsReady, SamePast};
 ghost use Rattle.repo_node.specs.Refusals.{RefusesFor};
 ghost use Rattle.repo_node.specs.Stored.{LeavesRest};
 
+use crate::indexing::grown;
 use crate::node::Node;
 use crate::past::Past;
 use crate::refused::NodeRefused;
 use annex_base::{Call, Items, Line, NoMemory};
 use object_store::Keeper;
 use run_data::{By, EntryKind};
+use trust_groups::Settings;
 use union_merge::{Branch, LineSet, files_are_changed_alone};
 
 /// What a file of a branch has, as a copy.
@@ -139,6 +146,41 @@ fn write_file<K: Keeper>(
     }
 }
 
+/// The same, with the index of settings beside the branch: it gets the new lines.
+fn write_indexed<K: Keeper>(
+    keeper: &mut K,
+    branch: &mut Branch,
+    past: &mut Past,
+    index: &mut Option<Settings>,
+    path: &[u8],
+    all: LineSet,
+    kind: EntryKind,
+    lines: Items<Line>,
+    new: &[Line],
+    by: By,
+) -> Result<(), NodeRefused>
+    requires { IsLine path.now }
+    ensures index { OnOk result ((was : Lines) → ForSome index.old (λ i. Reads i was) → ForSome index.new (λ i. Reads i (lines_and was path.now new.now))) }
+    ensures err_index { OnErr result (index.new ≡ index.old) }
+    ensures branch { OnOk result (branch.new ≡ with_file branch.old path.now all) }
+    ensures past { OnOk result (AddsTo kind lines past.old past.new) }
+    ensures files { OnOk result (K.files keeper.new ≡ option_map (λ f. with_at f path.now (Some (text_of all))) (K.files keeper.old)) }
+    ensures err { IfErr result (λ e. FailsFor by e calls.PutFile past.old past.new) }
+    ensures err_branch { OnErr result (branch.new ≡ branch.old) }
+    ensures err_files { OnErr result (K.files keeper.new ≡ K.files keeper.old) }
+    ensures rest { LeavesRest (K.contents keeper.old) (K.contents keeper.new) (K.parts keeper.old) (K.parts keeper.new) (K.records keeper.old) (K.records keeper.new) }
+    ensures later { K.faults keeper.old ≤ K.faults keeper.new }
+    ensures cause { IsErrOf result NodeRefused.StoreFault → Rose (K.faults keeper.old) (K.faults keeper.new) }
+{
+    match write_file(keeper, branch, past, path, all, kind, lines, by) {
+        Ok(()) => {
+            *index = grown(index.take(), path, new);
+            Ok(())
+        }
+        Err(refused) => Err(refused),
+    }
+}
+
 impl<K: Keeper> Node<K> {
     /// Gives a file of the branch these lines, by an entry of this kind with those that are new.
     pub(crate) fn write(
@@ -147,10 +189,12 @@ impl<K: Keeper> Node<K> {
         all: LineSet,
         kind: EntryKind,
         lines: Items<Line>,
+        new: &[Line],
         by: By,
     ) -> Result<(), NodeRefused>
         requires line { IsLine path.now }
         requires kind { IsOfFiles kind }
+        requires reads { ReadsAlike (lines_and (lines_at self.old.branch) path.now new.now) (lines_at (with_file self.old.branch path.now all)) }
         requires lines { (p : List ℕ) → lines_at (with_file self.old.branch path.now all) p ≡ lines_after p (lines_at self.old.branch p) kind lines }
         ensures ok { OnOk result (self.new ≡ with_entry self.old self.new.keeper (with_file self.old.branch path.now all) kind lines) }
         ensures err { IfErr result (λ e. RefusesFor by e calls.PutFile self.old self.new) }
@@ -161,14 +205,16 @@ impl<K: Keeper> Node<K> {
     {
         // A law, for the proof: only the file of this path changes.
         files_are_changed_alone();
-        write_file(
+        write_indexed(
             &mut self.keeper,
             &mut self.branch,
             &mut self.past,
+            &mut self.index,
             path,
             all,
             kind,
             lines,
+            new,
             by,
         )
     }

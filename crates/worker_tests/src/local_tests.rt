@@ -70,7 +70,7 @@ fn run<K: Keeper>(
         if out.ended {
             return Ok(Some(out.kind));
         }
-        if let Some(parcel) = out.sends.first() {
+        if let Some(parcel) = out.sends.parcels().first() {
             pending = reply(peer, &parcel.body, me);
         }
     }

@@ -12,7 +12,7 @@ loop-peer-preserved g c =
     let r = c.repo-repo.result in
     let n = c.loop-peer.peer in
     elim c.if-peer-repo.branch [
-      | then-peer-repo+then-is_open+in_ok-parting+in_ok-push v ↦ rw (v.parcels-is, v.in_ok-push.ensures.items)
+      | then-peer-repo+then-is_open+in_ok-parting+in_ok-push v ↦ rw (v.parcels-is, v.in_ok-push.ensures.ok)
           (upto_parted ends w c.args.lost r n c.loop-peer.parcels.items v.in_ok-parting.field-0 v.if-peer-repo.true (rw v.slot.ensures at (sym v.is_open.ensures ∙ v.if-is_open.true)) v.in_ok-parting.ensures.0 v.in_ok-parting.ensures.1 c.loop-peer.invariant)
       | else-peer-repo v ↦ elim v.else-peer-repo.branch [
         | else-peer-repo-via-then-peer-repo+else-is_open u ↦ rw v.parcels-is (c.loop-peer.invariant ∙ sym (upto_shut ends w c.args.lost r n u.if-peer-repo.true (rw u.slot.ensures at (sym u.is_open.ensures ∙ u.if-is_open.false))))

@@ -22,4 +22,5 @@ invariant_of-self g c =
       kept_brought w.result i.past w.new.past i.table i.branch (g.K.Keeper.contents i.keeper) (g.K.Keeper.contents w.new.keeper) w.ensures.same w.ensures.err w.ensures.contents c.self.invariant.0,
       λ f told. c.self.invariant.1 f (sym w.ensures.files ∙ told),
       λ x told. c.self.invariant.2 x (sym w.ensures.records ∙ told),
+      c.self.invariant.3,
     )

@@ -8,6 +8,9 @@ use Rattle.repo_node.proofs.node.Node.compact_file.Goals as goal
 pub shrink-requires-clause-here : goal.shrink-requires-clause-here
 shrink-requires-clause-here g c = sym (ap file_path c.in_ok-file.ensures.value ∙ c.files_have_their_paths.ensures.path c.args.path.now)
 
+pub shrink-requires-clause-named : goal.shrink-requires-clause-named
+shrink-requires-clause-named g c = c.in_ok-file.ensures.value
+
 pub returns-then-outdated-clause-ok : goal.returns-then-outdated-clause-ok
 returns-then-outdated-clause-ok g c =
     let here = sym (ap file_path c.in_ok-file.ensures.value ∙ c.files_have_their_paths.ensures.path c.args.path.now) in

@@ -26,4 +26,5 @@ invariant_of-self g c =
           w.ensures.past w.ensures.err w.ensures.content w.ensures.err_contents (λ p told. c.requires.part p (sym (ap (λ v. g.K.Keeper.parts v.keeper) c.self.view_is) ∙ told)) c.self.invariant.0,
       λ f told. c.self.invariant.1 f (sym w.ensures.files ∙ told),
       λ x told. c.self.invariant.2 x (sym w.ensures.records ∙ told),
+      c.self.invariant.3,
     )

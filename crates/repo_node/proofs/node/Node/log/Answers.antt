@@ -1,8 +1,11 @@
 -- What the proof of `node::Node::log` needs beside the tactics.
-use Rattle.std.proofs.Common.{ap, ◌∙◌}
-use Rattle.union_merge.specs.Branch.{Files, lines_at}
+use Rattle.std.proofs.Common.{ℕ, if◌then◌else◌, List, bytes_eq, sym, ap, subst, ◌∙◌}
+use Rattle.union_merge.specs.Branch.{Files, lines_at, with_file}
 use Rattle.union_merge.specs.LineSet.{union}
-use Rattle.repo_node.proofs.LogLemmas.{logged_listed, ok_entry, ok_some}
+use Rattle.trust_groups.specs.Adding.{lines_and}
+use Rattle.repo_node.specs.Indexed.{ReadsAlike}
+use Rattle.repo_node.proofs.IndexLemmas.{log_alike}
+use Rattle.repo_node.proofs.LogLemmas.{logged, logged_listed, ok_entry, ok_some}
 use Rattle.repo_node.proofs.node.Node.log.Goals as goal
 
 pub write-requires-clause-lines : goal.write-requires-clause-lines
@@ -26,3 +29,17 @@ returns-clause-some g c =
     let path = c.args.path.now in
     ok_some c.write.result c.args.self.now c.write.new.self c.args.file path c.args.new.now c.in_ok-lines.lines c.in_ok-all.all (c.in_ok-lines.ensures ∙ c.lines.ensures.value) c.requires.here
     (c.in_ok-all.ensures ∙ ap (λ (x : Files). union (lines_at x path) c.args.new.now) c.branch-self.ensures) c.write.ensures.ok
+
+pub write-requires-clause-reads : goal.write-requires-clause-reads
+write-requires-clause-reads g c =
+    let law = c.files_are_changed_alone.ensures in
+    let b = c.args.self.now.branch in
+    let path = c.args.path.now in
+    let all = c.in_ok-all.all in
+    let new = c.args.new.now in
+    subst (λ (ls : List (List ℕ)). ReadsAlike (lines_and (lines_at b) path ls) (lines_at (with_file b path all))) (sym c.lines-2.ensures.value)
+    (log_alike (lines_at b) (lines_at (with_file b path all)) path new c.readings_depend_on_the_set.ensures c.unions_have_the_lines_of_both.ensures.either
+      (λ q.
+        logged b path c.args.file new all c.requires.here (law.there b path all) (λ p differ. law.other b path p all differ)
+          (c.in_ok-all.ensures ∙ ap (λ (x : Files). union (lines_at x path) new) c.branch-self.ensures) q
+        ∙ ap (λ (w : List ℕ). if bytes_eq w q then union (lines_at b q) new else lines_at b q) (sym c.requires.here)))

@@ -17,4 +17,5 @@ invariant_of-result g c =
       kept_new past.setup past.history.items table branch known c.new-3.ensures.history c.in_ok-table.ensures c.new-2.ensures empty.contents,
       λ x told path. ap (λ (o : Option (List ℕ)). unwrap_or o []) (empty.files x told path) ∙ sym (ap (λ (b : Files). text_of (lines_at b path)) c.new-2.ensures),
       λ x told. no_records table.holds x (ap (λ (r : Rows). r.holds) c.in_ok-table.ensures) (empty.records x told),
+      ?,
     )
