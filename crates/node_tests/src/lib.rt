@@ -1,7 +1,9 @@
-//! Tests of a node, which call its public functions as a user would; nothing else stands here.
+//! Tests of nodes, which call public functions as a user would; nothing else stands here.
 #![tactic(auto)]
 
 #[cfg(test)]
+mod drop_tests;
+#[cfg(test)]
 mod log_tests;
 #[cfg(test)]
-mod race_tests;
+mod scripted;

@@ -1,0 +1,85 @@
+//! The nodes of a run.
+
+use crate::making::{make, spend};
+use annex_base::{Call, NoMemory};
+use annex_key::Key;
+use object_store::{FailingKeeper, Keeper};
+use repo_node::{BeginRefused, Node, NodeRefused, Setup, Turn, carry_nodes};
+use run_data::Job;
+use std::alloc::Global;
+
+/// The nodes of a run, in order of number, each two of them joined (own). They have tokens to spend, so they are dissolved and
+/// never dropped.
+pub struct Nodes<K: Keeper> {
+    nodes: Vec<Node<K>>,
+}
+
+/// Carries frames between a node and each other one.
+fn carry_all<K: Keeper>(nodes: &mut Vec<Node<K>>, repo: usize) {
+    let mut node = nodes.remove(repo);
+    for other in nodes.iter_mut() {
+        carry_nodes(&mut node, other);
+    }
+    match nodes.insert(repo, node) {
+        Ok(()) => {}
+        Err(_node) => unreachable!(),
+    }
+}
+
+impl<K: Keeper> Nodes<K> {
+    /// Nodes with these set-ups, each over the keeper at its place.
+    pub fn new(alloc: Global, setups: Vec<Setup>, keepers: Vec<K>) -> Result<Nodes<K>, NoMemory> {
+        let nodes = make(alloc, setups, keepers)?;
+        Ok(Nodes { nodes })
+    }
+
+    /// How many there are.
+    pub fn count(&self) -> usize {
+        self.nodes.len()
+    }
+
+    /// The node of this number.
+    pub fn node(&self, repo: usize) -> &Node<K> {
+        &self.nodes[repo]
+    }
+
+    /// Raises the time and the count of a node.
+    pub fn advance(&mut self, repo: usize, time: u64, count: u64) {
+        self.nodes[repo].advance(time, count);
+    }
+
+    /// Begins a drop at a node.
+    pub fn begin(&mut self, repo: usize, job: Job) -> Result<u32, BeginRefused> {
+        self.nodes[repo].begin(job)
+    }
+
+    /// One turn of a node. What it sent is carried, and so is what was on its way to it.
+    pub fn turn(&mut self, repo: usize) -> Turn {
+        let turn = self.nodes[repo].turn();
+        carry_all(&mut self.nodes, repo);
+        turn
+    }
+
+    /// Places a content at a node.
+    pub fn place(&mut self, repo: usize, key: &Key, bytes: &[u8]) -> Result<(), NodeRefused> {
+        self.nodes[repo].place(key, bytes)
+    }
+
+    /// Adds a line to a file of a node.
+    pub fn write_raw(&mut self, repo: usize, path: &[u8], line: &[u8]) -> Result<(), NodeRefused> {
+        self.nodes[repo].write_raw(path, line)
+    }
+
+    /// Spends the nodes.
+    pub fn dissolve(self) {
+        let Nodes { nodes } = self;
+        spend(nodes);
+    }
+}
+
+impl<K: FailingKeeper> Nodes<K> {
+    /// Lets one more of the next calls of this kind of a node's store fail.
+    pub fn fail_next(&mut self, repo: usize, call: Call) -> Result<(), NoMemory> {
+        self.nodes[repo].fail_next(call)
+    }
+}
