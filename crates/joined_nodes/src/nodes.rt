@@ -3,6 +3,7 @@
 use crate::making::{make, spend};
 use annex_base::{Call, NoMemory};
 use annex_key::Key;
+use log_lines::{Entry, LogKind};
 use object_store::{FailingKeeper, Keeper};
 use repo_node::{BeginRefused, Node, NodeRefused, Setup, Turn, carry_nodes};
 use run_data::Job;
@@ -60,6 +61,11 @@ impl<K: Keeper> Nodes<K> {
         turn
     }
 
+    /// Replaces the part of a key at a node.
+    pub fn place_part(&mut self, repo: usize, key: &Key, bytes: &[u8]) -> Result<(), NodeRefused> {
+        self.nodes[repo].place_part(key, bytes)
+    }
+
     /// Places a content at a node.
     pub fn place(&mut self, repo: usize, key: &Key, bytes: &[u8]) -> Result<(), NodeRefused> {
         self.nodes[repo].place(key, bytes)
@@ -68,6 +74,27 @@ impl<K: Keeper> Nodes<K> {
     /// Adds a line to a file of a node.
     pub fn write_raw(&mut self, repo: usize, path: &[u8], line: &[u8]) -> Result<(), NodeRefused> {
         self.nodes[repo].write_raw(path, line)
+    }
+
+    /// Adds an entry to the log of this kind of a node, that of the key where it is a location log.
+    pub fn write_log(
+        &mut self,
+        repo: usize,
+        kind: LogKind,
+        key: Option<&Key>,
+        entry: &Entry,
+    ) -> Result<(), NodeRefused> {
+        self.nodes[repo].write_log(kind, key, entry)
+    }
+
+    /// Merges a branch, which travels as a bundle, into a node's.
+    pub fn merge_bundle(&mut self, repo: usize, bytes: &[u8]) -> Result<(), NodeRefused> {
+        self.nodes[repo].merge_bundle(bytes)
+    }
+
+    /// Takes the outdated lines of a node's files away.
+    pub fn compact(&mut self, repo: usize) -> Result<(), NodeRefused> {
+        self.nodes[repo].compact()
     }
 
     /// Spends the nodes.

@@ -1,0 +1,44 @@
+//! Jobs that begin, store calls that will fail, and time that passes.
+use crate::fleet::Fleet;
+use crate::stop::{FleetStop, after_begin};
+use annex_base::{Call, Items};
+use object_store::FailingKeeper;
+use run_data::{Entry, EntryKind, Job};
+
+impl<K: FailingKeeper> Fleet<K> {
+    /// A job begins where fewer than four run.
+    pub(crate) fn begins(&mut self, repo: u32, job: &Job) -> Result<(), FleetStop> {
+        let job = job.clone()?;
+        let had = self.raise(repo);
+        let begun = self.nodes.begin(repo as usize, job);
+        self.tell(repo, had)?;
+        after_begin(repo, begun)
+    }
+
+    /// A job begins, and then all settles.
+    pub(crate) fn begins_and_settles(&mut self, repo: u32, job: &Job) -> Result<(), FleetStop> {
+        self.begins(repo, job)?;
+        self.settles()
+    }
+
+    /// The next call of this kind of a node's store fails.
+    pub(crate) fn fails(&mut self, repo: u32, call: Call) -> Result<(), FleetStop> {
+        self.nodes.fail_next(repo as usize, call)?;
+        Ok(())
+    }
+
+    /// The time rises by so many milliseconds.
+    pub(crate) fn waits(&mut self, milliseconds: u64) -> Result<(), FleetStop> {
+        let entry = Entry {
+            time: self.now() + milliseconds,
+            count: self.newest_count() + 1,
+            repo: None,
+            kind: EntryKind::Wait(milliseconds),
+            taken: None,
+            sent: Items::new(self.alloc),
+            lines: Items::new(self.alloc),
+        };
+        self.run.entries.push(entry)?;
+        Ok(())
+    }
+}
