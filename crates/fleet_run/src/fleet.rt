@@ -13,8 +13,8 @@ pub struct Fleet<K: FailingKeeper> {
     pub(crate) alloc: Global,
     pub(crate) nodes: Nodes<K>,
     pub(crate) run: Run,
-    /// Whether the run lacks entries of a node, for which memory ran out. No line is done from then on.
-    pub(crate) behind: bool,
+    /// Whether a line was refused. No line is done from then on, since the run may lack entries of a node.
+    pub(crate) stopped: bool,
 }
 
 /// The run before the first line.
@@ -48,18 +48,14 @@ impl<K: FailingKeeper> Fleet<K> {
     }
 
     /// These repositories before the first line, each over the keeper at its place.
-    fn over(
-        alloc: Global,
-        repos: Items<RepoView>,
-        keepers: Vec<K>,
-    ) -> Result<Fleet<K>, NoMemory> {
+    fn over(alloc: Global, repos: Items<RepoView>, keepers: Vec<K>) -> Result<Fleet<K>, NoMemory> {
         let setups = setups(alloc, repos.as_slice())?;
         let nodes = Nodes::new(alloc, setups, keepers)?;
         Ok(Fleet {
             alloc,
             nodes,
             run: empty_run(alloc, repos),
-            behind: false,
+            stopped: false,
         })
     }
 
@@ -74,7 +70,7 @@ impl<K: FailingKeeper> Fleet<K> {
             alloc: _,
             nodes,
             run,
-            behind: _,
+            stopped: _,
         } = self;
         nodes.dissolve();
         run

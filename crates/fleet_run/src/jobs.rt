@@ -29,9 +29,10 @@ impl<K: FailingKeeper> Fleet<K> {
 
     /// The time rises by so many milliseconds.
     pub(crate) fn waits(&mut self, milliseconds: u64) -> Result<(), FleetStop> {
+        let count = self.next_count()?;
         let entry = Entry {
             time: self.now() + milliseconds,
-            count: self.newest_count() + 1,
+            count,
             repo: None,
             kind: EntryKind::Wait(milliseconds),
             taken: None,

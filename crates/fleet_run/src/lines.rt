@@ -6,11 +6,22 @@ use object_store::FailingKeeper;
 use script_lang::Command;
 
 impl<K: FailingKeeper> Fleet<K> {
-    /// Does what the line says, and marks how many entries stand after it. What stands after a refusal is a run too.
+    /// Does what the line says, and marks how many entries stand after it. After a refusal the entries made so far stand, and are
+    /// a run; from then on each line is refused as for want of memory.
     pub fn line(&mut self, command: &Command) -> Result<(), FleetStop> {
-        if self.behind {
+        if self.stopped {
             return Err(FleetStop::NoMemory);
         }
+        match self.does_and_marks(command) {
+            Ok(()) => Ok(()),
+            Err(stop) => {
+                self.stopped = true;
+                Err(stop)
+            }
+        }
+    }
+
+    fn does_and_marks(&mut self, command: &Command) -> Result<(), FleetStop> {
         self.does(command)?;
         self.mark()
     }

@@ -35,7 +35,9 @@ impl<K: FailingKeeper> Fleet<K> {
     ) -> Result<(), FleetStop> {
         let path = file.path(self.alloc)?;
         let had = self.raise(repo);
-        let done = self.nodes.write_raw(repo as usize, path.bytes(), line.bytes());
+        let done = self
+            .nodes
+            .write_raw(repo as usize, path.bytes(), line.bytes());
         self.tell(repo, had)?;
         after_step(repo, done)
     }

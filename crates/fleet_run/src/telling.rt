@@ -5,6 +5,9 @@ use annex_base::{Items, NoMemory};
 use object_store::FailingKeeper;
 use run_data::Entry;
 
+/// No machine makes so many entries.
+const COUNT_LIMIT: u64 = 4_611_686_018_427_387_904;
+
 /// Adds copies of the entries.
 fn add_copies(entries: &mut Items<Entry>, made: &[Entry]) -> Result<(), NoMemory> {
     for entry in made {
@@ -43,6 +46,15 @@ impl<K: FailingKeeper> Fleet<K> {
         }
     }
 
+    /// The count of the next entry.
+    pub(crate) fn next_count(&self) -> Result<u64, NoMemory> {
+        let count = self.newest_count() + 1;
+        if count >= COUNT_LIMIT {
+            return Err(NoMemory);
+        }
+        Ok(count)
+    }
+
     /// Raises a node's time to that of the script and its count to the newest, and tells how many entries it has.
     pub(crate) fn raise(&mut self, repo: u32) -> usize {
         let time = self.now();
@@ -54,13 +66,8 @@ impl<K: FailingKeeper> Fleet<K> {
     /// Adds copies of the entries that a node has made since it had so many.
     pub(crate) fn tell(&mut self, repo: u32, had: usize) -> Result<(), FleetStop> {
         let (_, made) = self.nodes.node(repo as usize).history().split_at(had);
-        match add_copies(&mut self.run.entries, made) {
-            Ok(()) => Ok(()),
-            Err(NoMemory) => {
-                self.behind = true;
-                Err(FleetStop::NoMemory)
-            }
-        }
+        add_copies(&mut self.run.entries, made)?;
+        Ok(())
     }
 
     /// Marks how many entries stand after a line.

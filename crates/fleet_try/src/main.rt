@@ -5,10 +5,13 @@ use annex_base::NoMemory;
 use fleet_run::{Fleet, FleetStop, first_missing};
 use journal_text::journal;
 use object_store::FailingKeeper;
+use report_text::report;
+use run_data::Run;
 use script_lang::{Command, Script, ScriptFault};
 use std::alloc::Global;
 use std::io::{self, Read, Write};
 use std::process::ExitCode;
+use thin_script::thin_lines;
 
 /// Does the lines up to the first that stops the fleet.
 fn drive<K: FailingKeeper>(fleet: &mut Fleet<K>, lines: &[Command]) -> Result<(), FleetStop> {
@@ -18,7 +21,17 @@ fn drive<K: FailingKeeper>(fleet: &mut Fleet<K>, lines: &[Command]) -> Result<()
     Ok(())
 }
 
-/// The journal of a script.
+/// Adds the report, where it can be made today: its lines are those of thin runs.
+fn put_report(out: &mut Vec<u8>, script: &Script, run: &Run) -> Result<(), NoMemory> {
+    let alloc = *out.allocator();
+    if let Ok(lines) = thin_lines(alloc, script.lines())? {
+        out.extend_from_slice(b"==== report\n")?;
+        out.extend_from_slice(&report(alloc, &lines, run)?)?;
+    }
+    Ok(())
+}
+
+/// The journal of a script, and its report.
 fn journal_of(alloc: Global, script: &Script) -> Result<Vec<u8>, NoMemory> {
     let mut fleet = Fleet::new(alloc, script)?;
     let driven = drive(&mut fleet, script.lines());
@@ -29,6 +42,7 @@ fn journal_of(alloc: Global, script: &Script) -> Result<Vec<u8>, NoMemory> {
         Err(FleetStop::Full { .. }) => text.extend_from_slice(b"full\n")?,
         Err(FleetStop::NoMemory) => text.extend_from_slice(b"no memory\n")?,
     }
+    put_report(&mut text, script, &run)?;
     Ok(text)
 }
 
