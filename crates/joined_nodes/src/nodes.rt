@@ -15,15 +15,19 @@ pub struct Nodes<K: Keeper> {
     nodes: Vec<Node<K>>,
 }
 
+/// Carries frames between two nodes, of which the first stands before the other.
+fn carry_two<K: Keeper>(nodes: &mut [Node<K>], first: usize, other: usize) {
+    let (before, behind) = nodes.split_at_mut(other);
+    carry_nodes(&mut before[first], &mut behind[0]);
+}
+
 /// Carries frames between a node and each other one.
-fn carry_all<K: Keeper>(nodes: &mut Vec<Node<K>>, repo: usize) {
-    let mut node = nodes.remove(repo);
-    for other in nodes.iter_mut() {
-        carry_nodes(&mut node, other);
+fn carry_all<K: Keeper>(nodes: &mut [Node<K>], repo: usize) {
+    for other in 0..repo {
+        carry_two(nodes, other, repo);
     }
-    match nodes.insert(repo, node) {
-        Ok(()) => {}
-        Err(_node) => unreachable!(),
+    for other in repo + 1..nodes.len() {
+        carry_two(nodes, repo, other);
     }
 }
 
