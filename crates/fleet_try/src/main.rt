@@ -1,8 +1,11 @@
 //! Runs scripts from standard input by fleets, and prints their journals (a trial). A line `#### NAME` begins a script.
 #![tactic(auto)]
 
+mod forms;
+
 use annex_base::NoMemory;
 use fleet_run::{Fleet, FleetStop, first_missing};
+use forms::can_try_all;
 use journal_text::journal;
 use object_store::FailingKeeper;
 use report_text::report;
@@ -42,6 +45,9 @@ fn journal_of(alloc: Global, script: &Script) -> Result<Vec<u8>, NoMemory> {
         Err(FleetStop::Full { .. }) => text.extend_from_slice(b"full\n")?,
         Err(FleetStop::NoMemory) => text.extend_from_slice(b"no memory\n")?,
     }
+    if first_missing(script.lines()).is_some() {
+        text.extend_from_slice(b"unbuilt\n")?;
+    }
     put_report(&mut text, script, &run)?;
     Ok(text)
 }
@@ -50,7 +56,7 @@ fn journal_of(alloc: Global, script: &Script) -> Result<Vec<u8>, NoMemory> {
 fn text_of(alloc: Global, bytes: &[u8]) -> Result<Vec<u8>, NoMemory> {
     match Script::parse(alloc, bytes) {
         Ok(script) => {
-            if first_missing(script.lines()).is_some() {
+            if !can_try_all(script.lines()) {
                 return Ok(Vec::from_slice(alloc, b"missing\n")?);
             }
             journal_of(alloc, &script)
