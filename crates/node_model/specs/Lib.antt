@@ -25,3 +25,4 @@ pub mod Turns
 pub mod Step
 pub mod AnyTime
 pub mod Found
+pub mod Words

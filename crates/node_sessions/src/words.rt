@@ -2,7 +2,8 @@
 ghost use Rattle.std.specs.Prelude.{◌≡◌};
 ghost use Rattle.run_data.specs.declared.entry.FrameText.{FrameText};
 ghost use Rattle.p2p_server.specs.Talking.{Brings};
-ghost use Rattle.node_sessions.specs.Words.{asks_word, word_beside, word_found, word_of_kind};
+ghost use Rattle.node_model.specs.Words.{word_found, word_of_kind};
+ghost use Rattle.node_sessions.specs.Words.{asks_word, word_beside};
 
 use annex_base::{Found, Word};
 use p2p_server::Incoming;

@@ -23,7 +23,8 @@ use Rattle.run_model.specs.Causes.{Answers, FillsByPut, FoundFilled, Hears, Sent
 use Rattle.node_model.specs.SetUp.{SetUp, served_connections}
 use Rattle.run_model.specs.States.{state_of, works}
 use Rattle.node_model.specs.Ends.{server_end}
-use Rattle.run_model.specs.Words.{word_of, word_of_kind, word_told}
+use Rattle.node_model.specs.Words.{word_of_kind}
+use Rattle.run_model.specs.Words.{word_of, word_told}
 use Rattle.node_model.specs.Jobs.{running}
 use Rattle.node_model.specs.Knows.{denial_of}
 use Rattle.node_model.specs.DropStep

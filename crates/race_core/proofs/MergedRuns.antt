@@ -23,7 +23,8 @@ use Rattle.node_model.specs.Slots.{job_of}
 use Rattle.race_core.proofs.OwnPasts.{Bare, bare, mine, own_by, own_sent}
 use Rattle.node_model.specs.SetUp.{SetUp}
 use Rattle.run_model.specs.States.{works}
-use Rattle.run_model.specs.Words.{awaits_of, word_of, word_of_kind, word_taken, word_told}
+use Rattle.node_model.specs.Words.{word_of_kind}
+use Rattle.run_model.specs.Words.{awaits_of, word_of, word_taken, word_told}
 use Rattle.run_model.specs.Run.{FramesPart, IsRun, MayBe, OnlyWaits, Ordered, OwnPart, RunPast, RunStep, paths_at, paths_begun, set_up, tree_at}
 use Rattle.race_core.specs.Merged.{Came, IsMerge, KeptStep, Letter, MayMerge, Rising, TakesNext, earlier, history, letter_of, letters, merge_all, merged_run, new_of, paths_with, set_up_with, stamp_of, stands_before, word_got, word_in, word_read}
 use Rattle.race_core.proofs.OwnState.{state_own}

@@ -37,7 +37,8 @@ use Rattle.run_model.specs.States.{end_at, rows_at, works}
 use Rattle.node_model.specs.Jobs
 use Rattle.node_model.specs.Jobs.{AsksLook, Drops, Fresh, Heard, Lacks, Orders, Part, Phase, Unseen, Work, job_end, partner, running, side_of, target_of, work_kind}
 use Rattle.node_model.specs.Knows.{cause_heard, cause_of_word, heard_offer}
-use Rattle.run_model.specs.Words.{awaits_word, word_of, word_of_kind, word_told}
+use Rattle.node_model.specs.Words.{word_of_kind}
+use Rattle.run_model.specs.Words.{awaits_word, word_of, word_told}
 use Rattle.run_model.specs.Run.{OwnPart, OwnPast, OwnRun, RunPast, RunStep, set_up}
 use Rattle.race_core.proofs.BySteps.{earlier}
 use Rattle.race_core.proofs.SaidDown.{is_said, said_is}

@@ -18,7 +18,8 @@ use Rattle.run_model.specs.Frames.{Flying, Way, sender_of, frames_sent, taken_co
 use Rattle.node_model.specs.Slots.{job_of}
 use Rattle.node_model.specs.SetUp.{SetUp}
 use Rattle.run_model.specs.States.{works}
-use Rattle.run_model.specs.Words.{awaits_of, word_of_kind}
+use Rattle.node_model.specs.Words.{word_of_kind}
+use Rattle.run_model.specs.Words.{awaits_of}
 use Rattle.run_model.specs.Run.{IsSmall, Ordered, OwnPart, paths_at, paths_begun, repo_number, tree_at}
 
 -- when an entry was made, and by which repository

@@ -1,33 +1,17 @@
 -- The words beside the answers that a job took: what their senders found.
 use Rattle.std.specs.Prelude.{ℕ, Bool, false, ◌&&◌, if◌then◌else◌, ◌==◌, List, [], ◌∷◌, find, slice_get, Option, Some, None}
-use Rattle.annex_base.specs.declared.kinds.Found.{Found}
-use Rattle.annex_base.specs.declared.kinds.Found.TheVariants as found
 use Rattle.annex_base.specs.declared.kinds.Word.{Word}
-use Rattle.annex_base.specs.declared.kinds.Word.TheVariants as words
 use Rattle.run_data.specs.declared.entry.Entry.{Entry}
-use Rattle.run_data.specs.declared.entry.EntryKind.{EntryKind}
-use Rattle.run_data.specs.declared.entry.EntryKind.TheVariants.{Check, Fault}
 use Rattle.run_data.specs.declared.entry.FrameView.{FrameView}
 use Rattle.run_model.specs.Past.{is_of}
 use Rattle.node_model.specs.Rows.{option_is}
 use Rattle.run_model.specs.Frames.{Flying, frames_sent, taken_count, way_of}
 use Rattle.node_model.specs.Slots.{job_of}
 use Rattle.node_model.specs.Jobs.{Phase, AsksLook, Orders, Work}
+use Rattle.node_model.specs.Words.{word_of_kind}
 use Rattle.run_model.specs.States.{works}
 
--- the word beside an answer, by what its sender found
-abbrev pub word_found : Found → Option Word
-word_found found.Absent = Some words.Absent
-word_found found.Barred = Some words.Barred
-word_found found.Held = Some words.Held
-word_found found.Late = Some words.Late
-word_found _ = None
-
-abbrev pub word_of_kind : EntryKind → Option Word
-word_of_kind (Check what key) = word_found what
-word_of_kind (Fault call by) = Some words.Fault
-word_of_kind _ = None
-
+-- the word beside the frame
 abbrev pub word_of : Option Flying → Option Word
 word_of None = None
 word_of (Some x) = word_of_kind x.entry.kind

@@ -21,7 +21,7 @@ use Rattle.node_model.specs.Slots.{free_slot}
 use Rattle.node_model.specs.Ends.{End, EndName, frames, may_take, never, sends_at, server_end, takes_at, end_takes}
 use Rattle.run_model.specs.Past.{bar, holds, jobs as running, present}
 use Rattle.run_model.specs.Drops.{cause_of_found}
-use Rattle.run_model.specs.Words.{word_found}
+use Rattle.node_model.specs.Words.{word_found}
 use Rattle.step_claims.specs.Claims.{down, end, entry, job, need, up}
 
 abbrev k : List ℕ
