@@ -26,7 +26,7 @@ use Rattle.repo_node.specs.Owing.{rest_if}
 
 pub record NodeView (K : Type 0) : Type 0 where
   pub setup : Setup
-  pub keeper : K  -- its store, its rows and its branch
+  pub keeper : K  -- its store
   pub parts : PartsView  -- its rows, ends, sessions and jobs
   pub branch : Files
   pub time : ℕ  -- of the script, in milliseconds, and the count of its last entry, or a greater one
