@@ -23,8 +23,9 @@ use Rattle.driver_model.specs.Turning.{turn}
 use Rattle.driver_model.specs.Rounds.{Agenda, Blocked, Going, Taken, agenda, block_round, block_rounds, blocks, came_to, goes_round, is_over, is_settled, lines_for, may_begin, most_rounds, numbers, round, rounds, settles, takes, takes_all, takes_each, turns_of, with_round}
 use Rattle.driver_model.specs.Driving.{does, driven, drives, with_mark, run_of, run_with, turns}
 use Rattle.driver_model.specs.Scripts.{Fits, IsAgendum, IsBlockLine, IsOne}
+use Rattle.driver_model.specs.Sound.{IsSound}
 use Rattle.driver_model.proofs.EndsAlike.{ends_alike}
-use Rattle.driver_model.proofs.Holding.{Holds, Keeps}
+use Rattle.driver_model.proofs.Holding.{Keeps}
 use Rattle.driver_model.proofs.Premises.{Laws}
 use Rattle.driver_model.proofs.Logged.{OwedKeys, keeps_compacts, keeps_merges, keeps_status, keeps_writes}
 use Rattle.driver_model.proofs.Scripted.{keeps_begins, keeps_calling, keeps_closes, keeps_crashes, keeps_enters, keeps_faults, keeps_notes, keeps_waits, keeps_will_fail}
@@ -60,10 +61,10 @@ module _ (laws : Laws) (g : Given) (r : ℕ) (known : r < length g.repos) where
       go false = keeps_calling laws g (puts_part r key bytes d) r calls.Commit (gains g r key bytes (puts_part r key bytes d)) known refl (keeps_puts g d r key bytes k)
           (λ i. keeps_gains (puts_part r key bytes d) key bytes text fits free (keeps_puts g d r key bytes k))
 
-  keeps_has : (d : Driver) (key bytes : List ℕ) → IsKeyText key → fits_size (size_part key) (length bytes) ≡ true → Keeps g d → Keeps g (has g r key bytes d)
+  pub keeps_has : (d : Driver) (key bytes : List ℕ) → IsKeyText key → fits_size (size_part key) (length bytes) ≡ true → Keeps g d → Keeps g (has g r key bytes d)
   keeps_has d key bytes text fits k = keeps_busy d (fills_up g r key bytes (drops_part r key d)) key k (λ free. keeps_fills (drops_part r key d) key bytes text fits free (keeps_drops g d r key k))
 
-  keeps_part : (d : Driver) (key bytes : List ℕ) → Keeps g d → Keeps g (sets_part g r key bytes d)
+  pub keeps_part : (d : Driver) (key bytes : List ℕ) → Keeps g d → Keeps g (sets_part g r key bytes d)
   keeps_part d key bytes k = keeps_busy d (begins_part r key bytes (drops_part r key d)) key k
       (λ free. keeps_calling laws g (drops_part r key d) r calls.Append (puts_part r key bytes (drops_part r key d)) known refl (keeps_drops g d r key k) (λ i. keeps_puts g (drops_part r key d) r key bytes (keeps_drops g d r key k)))
 
@@ -190,14 +191,14 @@ module _ (laws : Laws) (g : Given) where
   keeps_line keys (Fail r call) d x k = keeps_will_fail g d r call k
   keeps_line keys (Par lines) d x k = keeps_blocks lines x d k
 
-  keeps_marked : (d : Driver) → Keeps g d → Keeps g (with_mark d)
+  pub keeps_marked : (d : Driver) → Keeps g d → Keeps g (with_mark d)
   keeps_marked d k fits = let h = k fits in record { run = laws.command (run_with g d) (with_mark d).marks h.run; flies = h.flies; order = h.order; down = h.down; parts = h.parts }
 
   keeps_drives : OwedKeys → (lines : List Line) (d : Driver) → Each (IsOne g) lines → Keeps g d → Keeps g (drives g lines d)
   keeps_drives keys [] d all k = k
   keeps_drives keys (line ∷ lines) d all k = keeps_drives keys lines (with_mark (does g line d)) all.1 (keeps_marked (does g line d) (keeps_line keys line d all.0 k))
 
-  first_holds : Each IsSetUp g.repos → Holds g at_first
+  pub first_holds : Each IsSetUp g.repos → IsSound g at_first
   first_holds repos = record { run = laws.first (run_with g at_first) repos refl; flies = λ r a n. inr (record { inside = omega arith; same = refl }); order = λ r a n. order_begins r a n; down = tt; parts = tt }
 
 -- what the driver makes of a script within bounds is a run

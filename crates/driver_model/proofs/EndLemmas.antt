@@ -34,6 +34,7 @@ use Rattle.run_model.specs.Past.{is_of}
 use Rattle.run_model.specs.Run.{ComesAnyTime, IsStep, OwnPart}
 use Rattle.run_model.specs.States.{end_at, state_of}
 use Rattle.driver_model.specs.Driver.{end_to}
+use Rattle.driver_model.specs.Ways.{way_out}
 use Rattle.driver_model.proofs.Premises.{StepsFind}
 
 -- ---- names of ends
@@ -97,10 +98,6 @@ may_epoch c f n may = go f.body n may
     go body n may = let two = and_parts c.opened (f.epoch == c.epoch) (rw n at may) in (two.0, same_number f.epoch c.epoch two.1)
 
 -- ---- the way out of an end
-
--- what r sends at an end, in one epoch
-abbrev pub way_out : ℕ → EndName → ℕ → Way
-way_out r a n = record { client = if a.client then r else a.peer; server = if a.client then a.peer else r; slot = a.slot; up = a.client; epoch = n }
 
 out_sender : (r : ℕ) (p : ℕ) (b : Bool) → (if b then (if b then r else p) else (if b then p else r)) ≡ r
 out_sender r p true = refl

@@ -24,11 +24,13 @@ use Rattle.driver_model.specs.Stores.{Stored}
 use Rattle.driver_model.specs.Driver.{Driver, Flight, Given, adds, but_first, but_taken, flight, is_at, newest_count, set_up_of}
 use Rattle.driver_model.specs.Driving.{run_with}
 use Rattle.driver_model.specs.Scripts.{Fit, Fits}
+use Rattle.driver_model.specs.Sound.{ComesDown, IsSound}
+use Rattle.driver_model.specs.Ways.{Flies, InOrder}
 use Rattle.driver_model.proofs.EndLemmas.{own_down}
 use Rattle.driver_model.proofs.FrameNumbers.{TakesWell}
-use Rattle.driver_model.proofs.InFlight.{Flies, IsFirst, flies_adds, may_be_taken}
+use Rattle.driver_model.proofs.InFlight.{IsFirst, flies_adds, may_be_taken}
 use Rattle.driver_model.proofs.Premises.{Laws}
-use Rattle.driver_model.proofs.WayNumbers.{InOrder, order_other, order_own}
+use Rattle.driver_model.proofs.WayNumbers.{order_other, order_own}
 
 -- ---- the run so far
 
@@ -56,19 +58,9 @@ steps_on g tree marks past run = subst (RunPast (set_up (run_on g tree marks pas
 
 -- ---- what holds
 
-abbrev pub ComesDown : Flight → Type 0
-ComesDown x = x.frame.up ≡ false → is_opening x.frame.body ≡ false
-
-pub record Holds (g : Given) (d : Driver) : Type 0 where
-  pub run : IsRun (run_with g d)
-  pub flies : (r : ℕ) (a : EndName) (n : ℕ) → Flies d.past d.flights r a n
-  pub order : (r : ℕ) (a : EndName) (n : ℕ) → InOrder d.past r a n
-  pub down : Each ComesDown d.flights
-  pub parts : Each (λ (x : Stored). length x.bytes ≤ d.largest) d.parts
-
 -- what holds of the driver, where it is within bounds
 abbrev pub Keeps : Given → Driver → Type 0
-Keeps g d = Fits d → Holds g d
+Keeps g d = Fits d → IsSound g d
 
 -- ---- one more entry of a repository
 
@@ -103,7 +95,7 @@ pub record NewEntry (g : Given) (d : Driver) (r : ℕ) (e : Entry) : Type 0 wher
   pub first : (f : FrameView) → e.taken ≡ Some f → IsFirst r f d.flights
   pub tells : (j : ℕ) (outcome : Outcome) → e.kind ≡ ends_job j outcome → (c : ℕ) → words c ≡ word_told d.past r j c
 
-module _ (laws : Laws) (g : Given) (d : Driver) (h : Holds g d) (r : ℕ) (e : Entry) (x : NewEntry g d r e) where
+module _ (laws : Laws) (g : Given) (d : Driver) (h : IsSound g d) (r : ℕ) (e : Entry) (x : NewEntry g d r e) where
   takes_well : TakesWell e.taken
   takes_well f i u =
       let y = x.first f i in
@@ -145,7 +137,7 @@ module _ (laws : Laws) (g : Given) (d : Driver) (h : Holds g d) (r : ℕ) (e : E
           same_number : (a b : ℕ) → (a == b) ≡ true → a ≡ b
           same_number a b e = grind (arith, nat_tests)
 
-  pub adds_holds : (st : State) → Fit d.past e → Holds g (adds st r e d)
+  pub adds_holds : (st : State) → Fit d.past e → IsSound g (adds st r e d)
   adds_holds st fit = record {
     run = entry_on laws g d.tree d.marks d.past e h.run (entry_step fit);
     flies = λ q a n. flies_adds laws.finds (set_up_of g d r) d.past x.words e x.own x.repo_is d.flights x.first q a n d st (h.flies q a n);
@@ -156,7 +148,7 @@ module _ (laws : Laws) (g : Given) (d : Driver) (h : Holds g d) (r : ℕ) (e : E
   }
 
 -- one more entry
-pub keeps_adds : Laws → (g : Given) (d : Driver) (r : ℕ) (st : State) (e : Entry) → Keeps g d → (Holds g d → Fits d → Fit d.past e → NewEntry g d r e) → Keeps g (adds st r e d)
+pub keeps_adds : Laws → (g : Given) (d : Driver) (r : ℕ) (st : State) (e : Entry) → Keeps g d → (IsSound g d → Fits d → Fit d.past e → NewEntry g d r e) → Keeps g (adds st r e d)
 keeps_adds laws g d r st e k new fits =
     let before : Fits d = (fits.0.1, fits.1) in
     adds_holds laws g d (k before) r e (new (k before) before fits.0.0) st fits.0.0

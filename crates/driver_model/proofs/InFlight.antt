@@ -20,16 +20,13 @@ use Rattle.node_model.specs.SetUp.{SetUp}
 use Rattle.run_model.specs.States.{end_at}
 use Rattle.node_model.specs.State.{State}
 use Rattle.run_model.specs.Run.{OwnPart}
-use Rattle.driver_model.proofs.EndLemmas.{end_own, may_epoch, out_sender-is, out_taker-is, own_takes, sends_all, takes_end, way_out}
+use Rattle.driver_model.proofs.EndLemmas.{end_own, may_epoch, out_sender-is, out_taker-is, own_takes, sends_all, takes_end}
 use Rattle.driver_model.proofs.Premises.{StepsFind}
 use Rattle.driver_model.specs.Driver.{Driver, Flight, but_first, but_taken, end_to, flight, frames_to, is_at, is_old, old_at}
-use Rattle.driver_model.proofs.WayNumbers.{InOrder, follow_at, views_sent, sent_more, sent_same_as}
+use Rattle.driver_model.specs.Ways.{Flies, InOrder, Live, Over, Told, flying_on, is_flight, other_end, told, told_sent, views_sent, way_out}
+use Rattle.driver_model.proofs.WayNumbers.{follow_at, sent_more, sent_same_as}
 
 -- ---- ends that are past an epoch
-
--- it takes none of that epoch any more
-abbrev pub Over : End → ℕ → Type 0
-Over c n = (n < c.epoch) ⊎ ((n ≡ c.epoch) × (c.opened ≡ false))
 
 same_number : (a b : ℕ) → (a == b) ≡ true → a ≡ b
 same_number a b e = grind (arith, nat_tests)
@@ -109,38 +106,6 @@ over_own finds s past words e a n is own o = subst (λ (c : End). Over c n) (sym
     go : (t : Option FrameView) → e.taken ≡ t → Over (end_took (end_at past s.number a) (taken_at a e.taken)) n
     go None i = subst (λ (t : Option FrameView). Over (end_took (end_at past s.number a) (taken_at a t)) n) (sym i) o
     go (Some f) i = subst (λ (t : Option FrameView). Over (end_took (end_at past s.number a) (taken_at a t)) n) (sym i) (at f i (takes_at a f) refl)
-
--- ---- the frames of a way
-
--- the end that the frames go to which r sends at an end
-abbrev pub other_end : ℕ → EndName → EndName
-other_end r a = record { peer = r; slot = a.slot; client = if a.client then false else true }
-
--- a frame on the way
-abbrev pub is_flight : ℕ → EndName → ℕ → Flight → Bool
-is_flight r a n x = (x.to == a.peer) && is_on (way_out r a n) r x.frame
-
--- what both ends say of a frame
-pub record Told : Type 0 where
-  pub seq : ℕ
-  pub body : FrameText
-
-abbrev pub told : FrameView → Told
-told f = record { seq = f.seq; body = f.body }
-
-abbrev pub flying_on : ℕ → EndName → ℕ → List Flight → List Told
-flying_on r a n xs = map (λ x. told x.frame) (filter (is_flight r a n) xs)
-
-abbrev pub told_sent : List Entry → Way → List Told
-told_sent past w = map told (views_sent past w)
-
-pub record Live (past : List Entry) (xs : List Flight) (r : ℕ) (a : EndName) (n : ℕ) : Type 0 where
-  pub inside : taken_count past (way_out r a n) ≤ length (told_sent past (way_out r a n))
-  pub same : flying_on r a n xs ≡ drop (taken_count past (way_out r a n)) (told_sent past (way_out r a n))
-
--- they are those that were sent and not yet taken, unless the end that they go to is past their epoch
-abbrev pub Flies : List Entry → List Flight → ℕ → EndName → ℕ → Type 0
-Flies past xs r a n = Over (end_at past a.peer (other_end r a)) n ⊎ Live past xs r a n
 
 -- ---- lists
 

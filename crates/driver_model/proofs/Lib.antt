@@ -16,3 +16,4 @@ pub mod OwedKeys
 pub mod EndsAlike
 pub mod Driven
 pub mod Settles
+pub mod Adding

@@ -25,11 +25,11 @@ use Rattle.run_model.specs.Run.{ComesAfter, IsSmall}
 use Rattle.driver_model.specs.Driver.{Driver, Flight, Given, answers, entry, fails_at, newest_count, notes, set_up_of, state_at}
 use Rattle.driver_model.specs.ScriptSteps.{begins, calling, closes, closes_each, closes_end, crashes, enters, faults, sends, waits, will_fail}
 use Rattle.driver_model.specs.Scripts.{IsJob}
-use Rattle.driver_model.proofs.EndLemmas.{way_out}
+use Rattle.driver_model.specs.Sound.{ComesDown, IsSound}
+use Rattle.driver_model.specs.Ways.{Flies, Over, other_end, told, told_sent, way_out}
 use Rattle.driver_model.proofs.Premises.{Laws}
 use Rattle.driver_model.proofs.WayNumbers.{order_other, sent_same_as}
-use Rattle.driver_model.proofs.InFlight.{Flies, Over, other_end, told, told_sent}
-use Rattle.driver_model.proofs.Holding.{ComesDown, Holds, Keeps, NewEntry, entry_on, keeps_adds, tree_on}
+use Rattle.driver_model.proofs.Holding.{Keeps, NewEntry, entry_on, keeps_adds, tree_on}
 use Rattle.driver_model.proofs.Turned.{keeps_answers}
 
 -- ---- one entry
@@ -51,11 +51,11 @@ come_entry g d r kind lines frames_sent known may = record {
 }
 
 -- an entry that only sends
-pub keeps_sends : Laws → (g : Given) (d : Driver) (r : ℕ) (kind : EntryKind) (frames_sent : List FrameView) → r < length g.repos → (Holds g d → MayCome (set_up_of g d r) (state_at g d r) [] frames_sent kind) → Keeps g d → Keeps g (sends g r kind frames_sent d)
+pub keeps_sends : Laws → (g : Given) (d : Driver) (r : ℕ) (kind : EntryKind) (frames_sent : List FrameView) → r < length g.repos → (IsSound g d → MayCome (set_up_of g d r) (state_at g d r) [] frames_sent kind) → Keeps g d → Keeps g (sends g r kind frames_sent d)
 keeps_sends laws g d r kind frames_sent known may k = keeps_adds laws g d r (state_at g d r) (record (entry d r kind []) { sent = frames_sent }) k (λ h fits fit. come_entry g d r kind [] frames_sent known (may h))
 
 -- an entry that sends nothing
-pub keeps_notes : Laws → (g : Given) (d : Driver) (r : ℕ) (kind : EntryKind) (lines : List (List ℕ)) → r < length g.repos → (Holds g d → IsSmall kind → MayCome (set_up_of g d r) (state_at g d r) lines [] kind) → Keeps g d → Keeps g (notes r kind lines d)
+pub keeps_notes : Laws → (g : Given) (d : Driver) (r : ℕ) (kind : EntryKind) (lines : List (List ℕ)) → r < length g.repos → (IsSound g d → IsSmall kind → MayCome (set_up_of g d r) (state_at g d r) lines [] kind) → Keeps g d → Keeps g (notes r kind lines d)
 keeps_notes laws g d r kind lines known may k fits =
     let h = keeps_adds laws g d r (state_at g d r) (entry d r kind lines) k (λ h fits fit. come_entry g d r kind lines [] known (may h fit.small)) fits in
     record {

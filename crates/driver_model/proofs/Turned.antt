@@ -23,12 +23,13 @@ use Rattle.run_model.specs.Words.{word_told}
 use Rattle.driver_model.proofs.EndLemmas.{takes_end}
 use Rattle.driver_model.proofs.Premises.{Laws}
 use Rattle.driver_model.specs.Scripts.{Fits}
+use Rattle.driver_model.specs.Sound.{ComesDown, IsSound}
 use Rattle.driver_model.specs.Stores.{Stored, bytes_in, is_stored, stored_bytes}
 use Rattle.driver_model.specs.Driver.{Driver, Given, adds, answers, without_old_flights, commits, drops_part, end_to, fails_at, frames_to, old_at, part_at, puts_part, removes_content, set_up_of, state_at}
 use Rattle.driver_model.specs.Turning.{all_calls, asked_key, bytes_taken, calm_look, fails_in, is_failure, is_valid, is_fault, look_for, looks, makes, makes_fault, meets, part_right, part_size, plain_look, steps, store_after, takes_frame, takes_into, told_words, turn}
 use Rattle.driver_model.proofs.AtHand.{taken_at_hand}
 use Rattle.driver_model.proofs.InFlight.{first_found, flies_cleared}
-use Rattle.driver_model.proofs.Holding.{ComesDown, Holds, Keeps, NewEntry, keeps_adds}
+use Rattle.driver_model.proofs.Holding.{Keeps, NewEntry, keeps_adds}
 
 -- ---- contents and parts
 
@@ -131,7 +132,7 @@ part_in r key n (x ∷ xs) a = go (part_in r key n xs a.1) (is_stored r key x)
     go more true = a.0
     go more false = more
 
-size_small : (g : Given) (d : Driver) (r : ℕ) (o : Option (List ℕ)) → Holds g d → Fits d → part_size d r o < 2 ^ 62
+size_small : (g : Given) (d : Driver) (r : ℕ) (o : Option (List ℕ)) → IsSound g d → Fits d → part_size d r o < 2 ^ 62
 size_small g d r None h fits = omega arith
 size_small g d r (Some key) h fits = let i = part_in r key d.largest d.parts h.parts in let j = fits.1 in omega (arith, i, j)
 
@@ -168,7 +169,7 @@ module _ (laws : Laws) (alike : EndsAlike) (g : Given) (r : ℕ) (known : r < le
       let same = alike s st (plain_look s d) (part_size d r (asked_key st m)) (part_right g d r (asked_key st m)) (told_words d.past r m.kind) m m' j outcome refl plain quiet is in
       ap (λ kind. told_words d.past r kind c) same.1
 
-  new_entry : (m m' : Made) → step s st (plain_look s d) ≡ Some m → step s st (look_for g d r s st m) ≡ Some m' → Holds g d → Fits d → NewEntry g d r (entry_of r (look_for g d r s st m) m')
+  new_entry : (m m' : Made) → step s st (plain_look s d) ≡ Some m → step s st (look_for g d r s st m) ≡ Some m' → IsSound g d → Fits d → NewEntry g d r (entry_of r (look_for g d r s st m) m')
   new_entry m m' plain e h fits = record {
     words = told_words d.past r m.kind;
     repo_is = refl;

@@ -14,19 +14,10 @@ use Rattle.node_model.specs.SetUp.{SetUp}
 use Rattle.node_model.specs.Ends.{End, EndName, end_sends, end_takes, end_took, is_opening, may_take, sent_at, taken_at, takes_at}
 use Rattle.run_model.specs.States.{end_at}
 use Rattle.run_model.specs.Run.{OwnPart}
-use Rattle.driver_model.proofs.EndLemmas.{end_own, on_out, out_sender-is, own_takes, sends_all, takes_end, way_out}
+use Rattle.driver_model.specs.Ways.{Counted, Follow, InOrder, views_sent, way_out}
+use Rattle.driver_model.proofs.EndLemmas.{end_own, on_out, out_sender-is, own_takes, sends_all, takes_end}
 use Rattle.driver_model.proofs.Premises.{StepsFind}
 use Rattle.driver_model.proofs.FrameNumbers.{Numbered, TakesWell, numbered, took_like}
-
--- an end that stands so has sent so many frames of an epoch, where it isn't past that
-pub record Counted (c : End) (n len : ℕ) : Type 0 where
-  pub not_yet : c.epoch < n → len ≡ 0
-  pub at_it : c.epoch ≡ n → len ≡ c.sent
-
--- these frames have the numbers after this one
-abbrev pub Follow : ℕ → List FrameView → Type 0
-Follow k [] = Unit {0}
-Follow k (g ∷ gs) = (g.seq ≡ k + 1) × Follow (k + 1) gs
 
 follow_append : (k : ℕ) (xs ys : List FrameView) → Follow k xs → Follow (k + length xs) ys → Follow k (xs ++ ys)
 follow_append k [] ys a b = subst (λ i. Follow i ys) (omega arith) b
@@ -101,13 +92,6 @@ counted_takes c f n len may x = go (is_opening f.body) refl
     go false i = let y = took_like c f i in record { not_yet = λ j. x.not_yet (subst (λ k. k < n) (sym y.0) j); at_it = λ j. x.at_it (y.0 ∙ j) ∙ y.1 }
 
 -- ---- the frames of a way
-
-abbrev pub views_sent : List Entry → Way → List FrameView
-views_sent past w = map (λ x. x.frame) (frames_sent past w)
-
-pub record InOrder (past : List Entry) (r : ℕ) (a : EndName) (n : ℕ) : Type 0 where
-  pub counted : Counted (end_at past r a) n (length (views_sent past (way_out r a n)))
-  pub follow : Follow 0 (views_sent past (way_out r a n))
 
 map_append : {X Y : Type 0} (f : X → Y) (xs ys : List X) → map f (xs ++ ys) ≡ map f xs ++ map f ys
 map_append f [] ys = refl

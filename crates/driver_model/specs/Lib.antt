@@ -7,3 +7,7 @@ pub mod Turning
 pub mod Rounds
 pub mod Driving
 pub mod Scripts
+pub mod Ways
+pub mod Sound
+pub mod WordsRead
+pub mod Finding

@@ -2,6 +2,10 @@
 #![tactic(auto)]
 
 mod laws;
+mod steps;
+mod turns;
 
 pub use laws::{driven_runs_are_runs, settlings_come_to_rest};
 pub use run_data;
+pub use steps::{drivers_only_add, drivers_stay_sound};
+pub use turns::{turns_are_found, words_where_unseen};

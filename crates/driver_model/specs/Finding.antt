@@ -1,0 +1,49 @@
+-- What a turn of the driver finds and leaves, told from the step that the repository makes (own).
+use Rattle.std.specs.Prelude.{◌≡◌, true, false, ℕ, if◌then◌else◌, List, [], ◌∷◌, Option, Some, None}
+use Rattle.annex_base.specs.Calls.{same_call}
+use Rattle.annex_base.specs.declared.kinds.Call.{Call}
+use Rattle.annex_base.specs.Lists.{Each}
+use Rattle.run_data.specs.declared.entry.EntryKind.{EntryKind}
+use Rattle.run_data.specs.declared.entry.EntryKind.TheVariants.{Fault}
+use Rattle.node_model.specs.Look.{Look, Made, entry_of}
+use Rattle.node_model.specs.SetUp.{SetUp}
+use Rattle.node_model.specs.State.{State}
+use Rattle.node_model.specs.Step.{step}
+use Rattle.driver_model.specs.Driver.{Driver, Given, adds, fails_at, set_up_of, state_at, without_old_flights}
+use Rattle.driver_model.specs.Turning.{all_calls, bytes_taken, calm_look, meets, plain_look, store_after}
+
+-- the driver as a turn of r finds it
+abbrev pub found : Given → ℕ → Driver → Driver
+found g r d = without_old_flights (state_at g d r) r d
+
+-- the store call that an entry of this kind tells as failed
+abbrev pub failed_call : EntryKind → Option Call
+failed_call (Fault call by) = Some call
+failed_call kind = None
+
+-- The driver's look for this step: the time, the count, the frames at hand and the rooms are the driver's; the part is the one that the
+-- step asks for, and whether it matches; the words are those told to the job that the step ends; the call fails that it tells.
+abbrev pub look_told : Given → Driver → ℕ → SetUp → State → Made → Look
+look_told g d r s st m = record (calm_look g d r s st m) { fails = failed_call m.kind }
+
+-- the calls before this one, or all where there is none
+abbrev pub calls_before : Option Call → List Call → List Call
+calls_before None cs = cs
+calls_before (Some call) [] = []
+calls_before (Some call) (c ∷ cs) = if same_call c call then [] else c ∷ calls_before (Some call) cs
+
+-- a `fail` line waits for the call that failed, if one did; and none waits for a call that the step would have made before
+pub record FailsFirst (d : Driver) (r : ℕ) (s : SetUp) (st : State) (k : Look) (failed : Option Call) : Type 0 where
+  pub waits : (call : Call) → failed ≡ Some call → fails_at d r call ≡ true
+  pub before : Each (λ call. fails_at d r call ≡ true → meets s st k call ≡ false) (calls_before failed all_calls)
+
+-- r makes this step at the driver's look for it, where the call that fails is the first that is to fail
+pub record MakesStep (g : Given) (r : ℕ) (d : Driver) (m : Made) : Type 0 where
+  pub steps : step (set_up_of g d r) (state_at g d r) (look_told g (found g r d) r (set_up_of g d r) (state_at g d r) m) ≡ Some m
+  pub fails : FailsFirst (found g r d) r (set_up_of g d r) (state_at g d r) (look_told g (found g r d) r (set_up_of g d r) (state_at g d r) m) (failed_call m.kind)
+
+-- the driver after this step of r: its entry stands, its frames are taken and sent, and the store is as it leaves it
+abbrev pub after_step : Given → ℕ → Driver → Made → Driver
+after_step g r d m =
+    store_after (state_at g d r) r m (bytes_taken r m.taken (found g r d)) m.kind
+    (adds (state_at g d r) r (entry_of r (plain_look (set_up_of g d r) (found g r d)) m) (found g r d))

@@ -1,0 +1,84 @@
+//! The laws of each step of the driver. Each is the contract of a function that does nothing.
+
+ghost use Rattle.std.specs.Prelude.{◌≡◌, ◌≢◌, ℕ, List, None};
+ghost use Rattle.annex_base.specs.declared.kinds.Call.{Call};
+ghost use Rattle.annex_base.specs.Lists.{Each};
+ghost use Rattle.log_lines.specs.declared.entry.LogKind.{LogKind};
+ghost use Rattle.log_lines.specs.declared.entry.LogKind.TheVariants.{Location};
+ghost use Rattle.log_lines.specs.declared.entry.Topic.{Topic};
+ghost use Rattle.log_lines.specs.declared.entry.Value.{Value};
+ghost use Rattle.run_data.specs.declared.entry.LogFile.{LogFile};
+ghost use Rattle.run_data.specs.declared.job.Job.{Job};
+ghost use Rattle.run_data.specs.Files.{HasPath, kind_of};
+ghost use Rattle.run_data.specs.Repos.{IsSetUp};
+ghost use Rattle.union_merge.specs.LineSet.{IsLine};
+ghost use Rattle.driver_model.specs.Driver.{Driver, Given, at_first};
+ghost use Rattle.driver_model.specs.Driving.{does, turns, with_mark};
+ghost use Rattle.driver_model.specs.Lines.{Agendum, Line};
+ghost use Rattle.driver_model.specs.Rounds.{blocks, round, settles};
+ghost use Rattle.driver_model.specs.Scripts.{IsContent, IsJob, IsKnown, IsOne, IsOther, IsPlainTopic, IsPlainValue};
+ghost use Rattle.driver_model.specs.ScriptSteps.{begins, closes, compacts, crashes, enters, has, merges, sets, sets_part, waits, will_fail, writes};
+ghost use Rattle.driver_model.specs.Sound.{IsSound, OnlyAdds, StaysSound};
+ghost use Rattle.driver_model.specs.Turning.{turn};
+
+use annex_key::key_texts_have_no_fault;
+use race_core::{runs_grow, steps_find_their_cause};
+use run_data::files_have_their_paths;
+use union_merge::{differences_make_the_union, unions_have_the_lines_of_both};
+
+/// The driver is sound at first, and each of its steps keeps it so, where the step is one of the script's and stays within the
+/// bounds of a run; so does each whole line. Without a condition of its own are steps that make no entry of a repository (own).
+pub fn drivers_stay_sound()
+    ensures first { (g : Given) → Each IsSetUp g.repos → IsSound g at_first }
+    ensures turn { (g : Given) (r : ℕ) (d : Driver) → IsKnown g r → StaysSound g d (turn g r d) }
+    ensures has { (g : Given) (r : ℕ) (key bytes : List ℕ) (d : Driver) → IsKnown g r → IsContent key bytes
+        → StaysSound g d (has g r key bytes d) }
+    ensures part { (g : Given) (r : ℕ) (key bytes : List ℕ) (d : Driver) → IsKnown g r → StaysSound g d (sets_part g r key bytes d) }
+    ensures sets { (g : Given) (r : ℕ) (kind : LogKind) (topic : Topic) (value : Value) (d : Driver) → IsKnown g r → kind ≢ Location
+        → IsPlainTopic topic → IsPlainValue value → StaysSound g d (sets g r kind topic value d) }
+    ensures writes { (g : Given) (r : ℕ) (file : LogFile) (line : List ℕ) (d : Driver) → IsKnown g r → HasPath file
+        → kind_of file ≢ None → IsLine line → StaysSound g d (writes r file line d) }
+    ensures merges { (g : Given) (r other : ℕ) (d : Driver) → IsKnown g r → StaysSound g d (merges r other d) }
+    ensures compacts { (g : Given) (r : ℕ) (d : Driver) → IsKnown g r → StaysSound g d (compacts r d) }
+    ensures begins { (g : Given) (r : ℕ) (job : Job) (d : Driver) → IsKnown g r → IsJob g r job → StaysSound g d (begins r job d) }
+    ensures closes { (g : Given) (r other : ℕ) (d : Driver) → IsKnown g r → IsOther g r other → StaysSound g d (closes g r other d) }
+    ensures crashes { (g : Given) (r clock : ℕ) (d : Driver) → IsKnown g r → StaysSound g d (crashes g r clock d) }
+    ensures waits { (g : Given) (milliseconds : ℕ) (d : Driver) → StaysSound g d (waits milliseconds d) }
+    ensures enters { (g : Given) (path key : List ℕ) (d : Driver) → StaysSound g d (enters path key d) }
+    ensures will_fail { (g : Given) (r : ℕ) (call : Call) (d : Driver) → StaysSound g d (will_fail r call d) }
+    ensures mark { (g : Given) (d : Driver) → StaysSound g d (with_mark d) }
+    ensures line { (g : Given) (line : Line) (d : Driver) → IsOne g line → StaysSound g d (does g line d) }
+{
+    // For the proof, which cites them.
+    steps_find_their_cause();
+    runs_grow();
+    files_have_their_paths();
+    unions_have_the_lines_of_both();
+    differences_make_the_union();
+    key_texts_have_no_fault();
+}
+
+/// Each step of the driver leaves the entries that it finds as they are, in their places: it only adds entries behind them. So
+/// do turns, rounds, settlings and blocks, and each whole line (own).
+pub fn drivers_only_add()
+    ensures turn { (g : Given) (r : ℕ) (d : Driver) → OnlyAdds d (turn g r d) }
+    ensures has { (g : Given) (r : ℕ) (key bytes : List ℕ) (d : Driver) → OnlyAdds d (has g r key bytes d) }
+    ensures part { (g : Given) (r : ℕ) (key bytes : List ℕ) (d : Driver) → OnlyAdds d (sets_part g r key bytes d) }
+    ensures sets { (g : Given) (r : ℕ) (kind : LogKind) (topic : Topic) (value : Value) (d : Driver)
+        → OnlyAdds d (sets g r kind topic value d) }
+    ensures writes { (r : ℕ) (file : LogFile) (line : List ℕ) (d : Driver) → OnlyAdds d (writes r file line d) }
+    ensures merges { (r other : ℕ) (d : Driver) → OnlyAdds d (merges r other d) }
+    ensures compacts { (r : ℕ) (d : Driver) → OnlyAdds d (compacts r d) }
+    ensures begins { (r : ℕ) (job : Job) (d : Driver) → OnlyAdds d (begins r job d) }
+    ensures closes { (g : Given) (r other : ℕ) (d : Driver) → OnlyAdds d (closes g r other d) }
+    ensures crashes { (g : Given) (r clock : ℕ) (d : Driver) → OnlyAdds d (crashes g r clock d) }
+    ensures waits { (milliseconds : ℕ) (d : Driver) → OnlyAdds d (waits milliseconds d) }
+    ensures enters { (path key : List ℕ) (d : Driver) → OnlyAdds d (enters path key d) }
+    ensures will_fail { (r : ℕ) (call : Call) (d : Driver) → OnlyAdds d (will_fail r call d) }
+    ensures mark { (d : Driver) → OnlyAdds d (with_mark d) }
+    ensures turns { (g : Given) (r n : ℕ) (d : Driver) → OnlyAdds d (turns g r n d) }
+    ensures round { (g : Given) (d : Driver) → OnlyAdds d (round g d) }
+    ensures settles { (g : Given) (d : Driver) → OnlyAdds d (settles g d) }
+    ensures blocks { (g : Given) (lines : List Agendum) (d : Driver) → OnlyAdds d (blocks g lines d) }
+    ensures line { (g : Given) (line : Line) (d : Driver) → OnlyAdds d (does g line d) }
+{}
