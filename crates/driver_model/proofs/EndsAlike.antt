@@ -18,6 +18,7 @@ use Rattle.run_data.specs.declared.job.DropRefusal.{DropRefusal}
 use Rattle.run_data.specs.declared.job.Outcome.{Outcome}
 use Rattle.run_data.specs.declared.job.Proof.{Proof}
 use Rattle.node_model.specs.Evidence.{Asked, Claimed, Ignored, Standing}
+use Rattle.node_model.specs.Slots.{job_of}
 use Rattle.node_model.specs.Look.{Look, Made, first_of, failing, first_some, waiting}
 use Rattle.p2p_wire.specs.declared.message.Message.{Message}
 use Rattle.p2p_wire.specs.declared.message.Message.TheVariants.{AlreadyHave, AuthSuccess, CheckPresent, Data, Error, Failure, Get, GetTimestamp, Invalid, LockContent, Put, PutFrom, Remove, RemoveBefore, Success, Timestamp, UnlockContent, Valid, Version}
@@ -42,7 +43,8 @@ use Rattle.node_model.specs.Requests.{asks, goes_to}
 use Rattle.node_model.specs.TransferStep.{content_of, first_get, first_put, gains, next_get, next_source, takes_bytes, takes_get, takes_put}
 use Rattle.node_model.specs.Turns.{awaits, by_partner, first_step, goes, goes_on, has_room, is_awaiting, job_step, judge_needs, judges, needs, next_needs, next_step, outcome_of, peer_needs, slot_step, takes, takes_answer, takes_frame, takes_text, target_needs, with_partner}
 use Rattle.node_model.specs.Step.{step}
-use Rattle.driver_model.proofs.AtHand.{unless_found}
+use Rattle.driver_model.proofs.Alike.{Alike, first_alike, if_alike, list_alike, some_alike}
+use Rattle.driver_model.proofs.MadeBy.{Never, frame_ends, given_next, gives_ends}
 use Rattle.driver_model.proofs.Turned.{EndsAlike}
 
 -- the job that an entry of this kind ends
@@ -53,106 +55,12 @@ ended kind = None
 abbrev E : Made → Made → Type 0
 E m m' = ended m.kind ≡ ended m'.kind
 
-abbrev Alike : Option Made → Option Made → Type 0
-Alike None None = Unit {0}
-Alike (Some m) (Some m') = E m m'
-Alike o p = ⊥
-
-if_alike : (b : Bool) (x x' y y' : Made) → E x x' → E y y' → E (if b then x else y) (if b then x' else y')
-if_alike true x x' y y' e f = e
-if_alike false x x' y y' e f = f
-
-some_alike : (b : Bool) (x x' : Made) → E x x' → Alike (if b then Some x else None) (if b then Some x' else None)
-some_alike true x x' e = e
-some_alike false x x' e = tt
-
-first_alike : (x x' y y' : Option Made) → Alike x x' → Alike y y' → Alike (first_of x y) (first_of x' y')
-first_alike None None y y' a b = b
-first_alike (Some m) (Some m') y y' a b = a
-first_alike None (Some m') y y' a b = absurd a
-first_alike (Some m) None y y' a b = absurd a
-
-list_alike : {X : Type 0} (f g : X → Option Made) → ((x : X) → Alike (f x) (g x)) → (xs : List X) → Alike (first_some f xs) (first_some g xs)
-list_alike f g all [] = tt
-list_alike f g all (x ∷ xs) = first_alike (f x) (g x) (first_some f xs) (first_some g xs) (all x) (list_alike f g all xs)
-
--- ---- a session ends no job
-
-abbrev Never : Reply → Type 0
-Never x = ended x.kind ≡ None
-
-module _ (h : Here) where
-  tries_ends : (cs : List Call) (says : List FrameText) (good : Reply) → Never good → Never (tries h cs says good)
-  tries_ends cs says good e = unless_found Never (failing h.fails cs) (λ call. record { kind = Fault call (by_of h); says = says }) good (λ call. refl) e
-
-  check_ends : (key : List ℕ) (there : Bool) (bar : Option ℕ) → Never (check_answer key there bar)
-  check_ends key false bar = refl
-  check_ends key true (Some j) = refl
-  check_ends key true None = refl
-
-  lock_ends : (hold end : ℕ) (by : By) (key : List ℕ) (locks there : Bool) (bar : Option ℕ) → Never (lock_answer hold end by key locks there bar)
-  lock_ends hold end by key false there bar = refl
-  lock_ends hold end by key true false bar = refl
-  lock_ends hold end by key true true (Some j) = refl
-  lock_ends hold end by key true true None = refl
-
-  remove_ends : (by : By) (key : List ℕ) (there : Bool) (bar : Option ℕ) (blocked : Bool) → Never (remove_answer by key there bar blocked)
-  remove_ends by key false bar blocked = refl
-  remove_ends by key true (Some j) blocked = refl
-  remove_ends by key true None true = refl
-  remove_ends by key true None false = refl
-
-  valid_ends : (by : By) (size : ℕ) (key : List ℕ) (right : Bool) → Never (valid_answer by size key right)
-  valid_ends by size key true = refl
-  valid_ends by size key false = refl
-
-  on_remove-ends : (key : List ℕ) → Never (on_remove h key)
-  on_remove-ends key = tries_ends _ refuses _ (remove_ends (by_of h) key (is_here h key) (bar_on h key) (is_held h key))
-
-  before_ends : (n : ℕ) (key : List ℕ) → Never (on_remove_before h n key)
-  before_ends n key = if_either Never (nat_lt (now_of h) (1000 * n)) _ _ (λ b. on_remove-ends key) (λ b. refl)
-
-  request_ends : (v : ℕ) (m : Message) → Never (on_request h v m)
-  request_ends v (Version n) = refl
-  request_ends v (CheckPresent key) = tries_ends _ refuses _ (check_ends key (is_here h key) (bar_on h key))
-  request_ends v (LockContent key) = tries_ends _ refuses _ (lock_ends h.number (now_of h + hold_time) (by_of h) key h.locks (is_here h key) (bar_on h key))
-  request_ends v (Remove key) = on_remove-ends key
-  request_ends v (RemoveBefore n key) = if_either Never (nat_le 3 v) _ _ (λ b. before_ends n key) (λ b. refl)
-  request_ends v GetTimestamp = if_either Never (nat_le 3 v) _ _ (λ b. refl) (λ b. refl)
-  request_ends v (Get n file key) = if_either Never (nat_le 1 v) _ _ (λ b. tries_ends _ _ _ refl) (λ b. refl)
-  request_ends v (Put file key) = if_either Never (nat_le 1 v) _ _ (λ b. tries_ends _ refuses _ refl) (λ b. refl)
-  request_ends v m = refl
-
-  message_ends : (v : ℕ) (doing : Doing) (m : Message) → Never (on_message h v doing m)
-  message_ends v doing (Error text) = refl
-  message_ends v Sessions.Waits m = request_ends v m
-  message_ends v (Sessions.Guards hold key) (UnlockContent k) = if_either Never (bytes_eq k key) _ _ (λ b. tries_ends _ [] _ refl) (λ b. refl)
-  message_ends v Sessions.Gave Success = refl
-  message_ends v Sessions.Gave Failure = refl
-  message_ends v (Sessions.Wants key size) (Data n) = refl
-  message_ends v (Sessions.Took key size) Valid = tries_ends _ refuses _ (valid_ends (by_of h) size key h.right)
-  message_ends v (Sessions.Took key size) Invalid = refl
-  message_ends v doing m = refl
-
-  bytes_ends : (n : ℕ) (doing : Doing) → Never (on_bytes h n doing)
-  bytes_ends n (Sessions.Takes key size left) = if_either Never (nat_lt 0 n && nat_le n left) _ _ (λ b. tries_ends _ _ _ refl) (λ b. refl)
-  bytes_ends n doing = refl
-
-  text_ends : (was : Session) (m : Option Message) → Never (on_text h was m)
-  text_ends was None = refl
-  text_ends was (Some m) = message_ends was.version was.doing m
-
-  frame_ends : (was : Session) (body : FrameText) → Never (on_frame h was body)
-  frame_ends was Opening = refl
-  frame_ends was Closing = refl
-  frame_ends was (Bytes n) = bytes_ends n was.doing
-  frame_ends was (Line text) = text_ends was (message_of text)
-
-  piece_ends : (key : List ℕ) (at n : ℕ) → Never (on_piece h key at n)
-  piece_ends key at n = tries_ends _ _ _ (if_either Never (reaches (SessionStep.content_of h key) (at + n)) _ _ (λ b. refl) (λ b. refl))
-
-  gives_ends : (key : List ℕ) (at left : ℕ) (good : Bool) → Never (if left == 0 then reply (Talk None) (if good then Valid else Invalid) else on_piece h key at (min 32768 left))
-  gives_ends key at left good = if_either Never (left == 0) _ _ (λ b. refl) (λ b. piece_ends key at (min 32768 left))
+no_end : (x : Reply) → Never x → ended x.kind ≡ None
+no_end x e = go x.kind e
+  where
+    go : (kind : EntryKind) → job_of kind ≡ None → ended kind ≡ None
+    go (ends_job j outcome) e = absurd (cc)
+    go kind e = refl
 
 -- a look without a failing call
 abbrev calm : ℕ → ℕ → List FrameView → (EndName → Bool) → ℕ → Bool → (ℕ → Option Word) → Look
@@ -167,7 +75,7 @@ module _ (s : SetUp) (st : State) (time count : ℕ) (hand : List FrameView) (ro
 
   -- ---- an owed line, and a session
 
-  owed_alike : (os : List Owed) → Alike (pays_first s st k0 os) (pays_first s st k1 os)
+  owed_alike : (os : List Owed) → Alike E (pays_first s st k0 os) (pays_first s st k1 os)
   owed_alike [] = tt
   owed_alike (o ∷ os) = refl
 
@@ -179,24 +87,24 @@ module _ (s : SetUp) (st : State) (time count : ℕ) (hand : List FrameView) (ro
     h1 = here s st k1 a
 
     none_ends : (h : Here) (f : FrameView) → ended (on_frame h (st.sessions a) f.body).kind ≡ None
-    none_ends h f = frame_ends h (st.sessions a) f.body
+    none_ends h f = no_end (on_frame h (st.sessions a) f.body) (frame_ends h (st.sessions a) f.body)
 
-    given : (doing : Doing) → Alike (gives_made a (st.ends a) (gives_next h0 doing)) (gives_made a (st.ends a) (gives_next h1 doing))
-    given (Sessions.Gives key at left good) = gives_ends h0 key at left good ∙ sym (gives_ends h1 key at left good)
+    given : (doing : Doing) → Alike E (gives_made a (st.ends a) (gives_next h0 doing)) (gives_made a (st.ends a) (gives_next h1 doing))
+    given (Sessions.Gives key at left good) = no_end (given_next h0 key at left good) (gives_ends h0 key at left good) ∙ sym (no_end (given_next h1 key at left good) (gives_ends h1 key at left good))
     given doing = tt
 
-    makes_alike : (o : Option FrameView) → Alike (session_makes h0 (st.ends a) (st.sessions a) o) (session_makes h1 (st.ends a) (st.sessions a) o)
+    makes_alike : (o : Option FrameView) → Alike E (session_makes h0 (st.ends a) (st.sessions a) o) (session_makes h1 (st.ends a) (st.sessions a) o)
     makes_alike (Some f) = none_ends h0 f ∙ sym (none_ends h1 f)
     makes_alike None = go (st.ends a).opened
       where
-        go : (b : Bool) → Alike (if b then gives_made a (st.ends a) (gives_next h0 (st.sessions a).doing) else None) (if b then gives_made a (st.ends a) (gives_next h1 (st.sessions a).doing) else None)
+        go : (b : Bool) → Alike E (if b then gives_made a (st.ends a) (gives_next h0 (st.sessions a).doing) else None) (if b then gives_made a (st.ends a) (gives_next h1 (st.sessions a).doing) else None)
         go true = given (st.sessions a).doing
         go false = tt
 
-    session_alike : Alike (session_at s st k0 a) (session_at s st k1 a)
+    session_alike : Alike E (session_at s st k0 a) (session_at s st k1 a)
     session_alike = go (room a)
       where
-        go : (b : Bool) → Alike (if b then session_makes h0 (st.ends a) (st.sessions a) (waiting (st.ends a) k0 a) else None) (if b then session_makes h1 (st.ends a) (st.sessions a) (waiting (st.ends a) k1 a) else None)
+        go : (b : Bool) → Alike E (if b then session_makes h0 (st.ends a) (st.sessions a) (waiting (st.ends a) k0 a) else None) (if b then session_makes h1 (st.ends a) (st.sessions a) (waiting (st.ends a) k1 a) else None)
         go true = makes_alike (waiting (st.ends a) k0 a)
         go false = tt
 
@@ -211,11 +119,11 @@ module _ (s : SetUp) (st : State) (time count : ℕ) (hand : List FrameView) (ro
 
     target_alike : (version : ℕ) (taken : Option FrameView) (end : Option ℕ) → E (asks_target t0 version taken end) (asks_target t1 version taken end)
     target_alike version taken None = refl
-    target_alike version taken (Some end) = if_alike (nat_lt version 3) _ _ _ _ refl refl
+    target_alike version taken (Some end) = if_alike E (nat_lt version 3) _ _ _ _ refl refl
 
     copy_alike : (version : ℕ) (taken : Option FrameView) (peer : ℕ) (side : Side) → E (asks_copy t0 version taken peer side) (asks_copy t1 version taken peer side)
     copy_alike version taken peer Local = refl
-    copy_alike version taken peer Remote = if_alike (target t0 == peer) _ _ _ _ (target_alike version taken (first_end t0)) refl
+    copy_alike version taken peer Remote = if_alike E (target t0 == peer) _ _ _ _ (target_alike version taken (first_end t0)) refl
 
     asks_alike : (version : ℕ) (taken : Option FrameView) (peer : ℕ) (part : Part) → E (asks t0 version taken peer part) (asks t1 version taken peer part)
     asks_alike version taken peer Gets = refl
@@ -223,10 +131,10 @@ module _ (s : SetUp) (st : State) (time count : ℕ) (hand : List FrameView) (ro
     asks_alike version taken peer Drops = copy_alike version taken peer (side_of w)
 
     goes_to-alike : (peer : ℕ) → E (goes_to t0 peer) (goes_to t1 peer)
-    goes_to-alike peer = if_alike (end_with t0 peer).opened _ _ _ _ (asks_alike w.version None peer w.part) refl
+    goes_to-alike peer = if_alike E (end_with t0 peer).opened _ _ _ _ (asks_alike w.version None peer w.part) refl
 
     get_alike : (there filled : Bool) (source : Option ℕ) → E (first_get t0 there filled source) (first_get t1 there filled source)
-    get_alike true filled source = if_alike (is_move w.what.kind) _ _ _ _ refl refl
+    get_alike true filled source = if_alike E (is_move w.what.kind) _ _ _ _ refl refl
     get_alike false true source = refl
     get_alike false false None = refl
     get_alike false false (Some peer) = goes_to-alike peer
@@ -261,7 +169,7 @@ module _ (s : SetUp) (st : State) (time count : ℕ) (hand : List FrameView) (ro
     judges_alike : (enough : Bool) (next : Option ℕ) (side : Side) → E (judges t0 enough next side) (judges t1 enough next side)
     judges_alike false (Some peer) side = goes_to-alike peer
     judges_alike false None side = refl
-    judges_alike true next Local = if_alike (in_time (clock_of t0) (first_end t0)) _ _ _ _ refl refl
+    judges_alike true next Local = if_alike E (in_time (clock_of t0) (first_end t0)) _ _ _ _ refl refl
     judges_alike true next Remote = goes_to-alike (target t0)
 
     source_alike : (o : Option ℕ) → E (next_get t0 o) (next_get t1 o)
@@ -325,9 +233,9 @@ module _ (s : SetUp) (st : State) (time count : ℕ) (hand : List FrameView) (ro
     needed Removed = end_needed (outcome_of t0 Removed) (outcome_of t1 Removed) (lost_removed t0 (side_of w) ∙ sym (lost_removed t1 (side_of w)))
     needed phase = refl
 
-    goes_on-alike : Alike (goes_on t0) (goes_on t1)
-    goes_on-alike = subst (λ ps. Alike (if list_all (has_room t0) (needs t0 w.phase) then Some (goes t0 w.phase) else None) (if list_all (has_room t0) ps then Some (goes t1 w.phase) else None)) (needed w.phase)
-        (some_alike (list_all (has_room t0) (needs t0 w.phase)) (goes t0 w.phase) (goes t1 w.phase) (goes_alike w.phase))
+    goes_on-alike : Alike E (goes_on t0) (goes_on t1)
+    goes_on-alike = subst (λ ps. Alike E (if list_all (has_room t0) (needs t0 w.phase) then Some (goes t0 w.phase) else None) (if list_all (has_room t0) ps then Some (goes t1 w.phase) else None)) (needed w.phase)
+        (some_alike E (list_all (has_room t0) (needs t0 w.phase)) (goes t0 w.phase) (goes t1 w.phase) (goes_alike w.phase))
 
     -- ---- what it takes
 
@@ -338,7 +246,7 @@ module _ (s : SetUp) (st : State) (time count : ℕ) (hand : List FrameView) (ro
     gains_alike f peer size false false = refl
 
     bytes_alike : (f : FrameView) (peer n : ℕ) (phase : Phase) → E (takes_bytes t0 f peer n phase) (takes_bytes t1 f peer n phase)
-    bytes_alike f peer n (GetsBytes p start size left) = if_alike (nat_lt 0 n && nat_le n left) _ _ _ _ refl refl
+    bytes_alike f peer n (GetsBytes p start size left) = if_alike E (nat_lt 0 n && nat_le n left) _ _ _ _ refl refl
     bytes_alike f peer n phase = refl
 
     takes_get-alike : (f : FrameView) (peer : ℕ) (phase : Phase) (m : Message) → E (takes_get t0 f peer phase m) (takes_get t1 f peer phase m)
@@ -350,19 +258,19 @@ module _ (s : SetUp) (st : State) (time count : ℕ) (hand : List FrameView) (ro
     takes_put-alike : (f : FrameView) (peer : ℕ) (phase : Phase) (m : Message) → E (takes_put t0 f peer phase m) (takes_put t1 f peer phase m)
     takes_put-alike f peer (PutsOffer p) AlreadyHave = refl
     takes_put-alike f peer (PutsOffer p) Failure = refl
-    takes_put-alike f peer (PutsOffer p) (Error text) = if_alike (bytes_eq text (codes "busy")) _ _ _ _ refl refl
-    takes_put-alike f peer (PutsOffer p) (PutFrom n) = if_alike (reaches (content_of t0) n) _ _ _ _ refl refl
+    takes_put-alike f peer (PutsOffer p) (Error text) = if_alike E (bytes_eq text (codes "busy")) _ _ _ _ refl refl
+    takes_put-alike f peer (PutsOffer p) (PutFrom n) = if_alike E (reaches (content_of t0) n) _ _ _ _ refl refl
     takes_put-alike f peer (PutsAnswer p start) Success = refl
     takes_put-alike f peer (PutsAnswer p start) Failure = refl
     takes_put-alike f peer phase m = refl
 
     times_alike : (f : FrameView) (n : ℕ) (end : Option ℕ) → E (times t0 f n end) (times t1 f n end)
     times_alike f n None = refl
-    times_alike f n (Some end) = if_alike (nat_lt (clock_of t0) end) _ _ _ _ refl refl
+    times_alike f n (Some end) = if_alike E (nat_lt (clock_of t0) end) _ _ _ _ refl refl
 
     time_alike : (f : FrameView) (peer n : ℕ) (side : Side) → E (takes_time t0 f peer n side) (takes_time t1 f peer n side)
     time_alike f peer n Local = refl
-    time_alike f peer n Remote = if_alike (nat_lt n (2 ^ 61)) _ _ _ _ (times_alike f n (first_end t0)) refl
+    time_alike f peer n Remote = if_alike E (nat_lt n (2 ^ 61)) _ _ _ _ (times_alike f n (first_end t0)) refl
 
     takes_drop-alike : (f : FrameView) (peer : ℕ) (phase : Phase) (m : Message) → E (takes_drop t0 f peer phase m) (takes_drop t1 f peer phase m)
     takes_drop-alike f peer (AsksLock p since) Success = refl
@@ -381,7 +289,7 @@ module _ (s : SetUp) (st : State) (time count : ℕ) (hand : List FrameView) (ro
 
     takes_alike : (f : FrameView) (peer : ℕ) (phase : Phase) (m : Message) → E (takes t0 f peer phase m) (takes t1 f peer phase m)
     takes_alike f peer (Opens p) (AuthSuccess id) = refl
-    takes_alike f peer (Greets p) (Version n) = if_alike (nat_le n 3) _ _ _ _ (asks_alike n (Some f) peer w.part) refl
+    takes_alike f peer (Greets p) (Version n) = if_alike E (nat_le n 3) _ _ _ _ (asks_alike n (Some f) peer w.part) refl
     takes_alike f peer phase m = answer_alike f peer w.part phase m
 
     text_alike : (f : FrameView) (peer : ℕ) (m : Option Message) → E (takes_text t0 f peer m) (takes_text t1 f peer m)
@@ -394,31 +302,31 @@ module _ (s : SetUp) (st : State) (time count : ℕ) (hand : List FrameView) (ro
     frame_alike peer f (Bytes n) = bytes_alike f peer n w.phase
     frame_alike peer f (Line text) = text_alike f peer (message_of text)
 
-    awaits_alike : (peer : ℕ) (o : Option FrameView) → Alike (awaits t0 peer o) (awaits t1 peer o)
+    awaits_alike : (peer : ℕ) (o : Option FrameView) → Alike E (awaits t0 peer o) (awaits t1 peer o)
     awaits_alike peer None = tt
-    awaits_alike peer (Some f) = some_alike (has_room t0 peer) (takes_frame t0 peer f f.body) (takes_frame t1 peer f f.body) (frame_alike peer f f.body)
+    awaits_alike peer (Some f) = some_alike E (has_room t0 peer) (takes_frame t0 peer f f.body) (takes_frame t1 peer f f.body) (frame_alike peer f f.body)
 
-    with_alike : (peer : ℕ) (opened : Bool) → Alike (with_partner t0 peer opened) (with_partner t1 peer opened)
+    with_alike : (peer : ℕ) (opened : Bool) → Alike E (with_partner t0 peer opened) (with_partner t1 peer opened)
     with_alike peer false = refl
     with_alike peer true = go (is_awaiting w.phase)
       where
-        go : (b : Bool) → Alike (if b then awaits t0 peer (waiting (end_with t0 peer) k0 (job_end w peer)) else goes_on t0) (if b then awaits t1 peer (waiting (end_with t1 peer) k1 (job_end w peer)) else goes_on t1)
+        go : (b : Bool) → Alike E (if b then awaits t0 peer (waiting (end_with t0 peer) k0 (job_end w peer)) else goes_on t0) (if b then awaits t1 peer (waiting (end_with t1 peer) k1 (job_end w peer)) else goes_on t1)
         go true = awaits_alike peer (waiting (end_with t0 peer) k0 (job_end w peer))
         go false = goes_on-alike
 
-    by_alike : (o : Option ℕ) → Alike (by_partner t0 o) (by_partner t1 o)
+    by_alike : (o : Option ℕ) → Alike E (by_partner t0 o) (by_partner t1 o)
     by_alike None = goes_on-alike
     by_alike (Some peer) = with_alike peer (end_with t0 peer).opened
 
-  slot_alike : (o : Option Work) → Alike (slot_step s st k0 o) (slot_step s st k1 o)
+  slot_alike : (o : Option Work) → Alike E (slot_step s st k0 o) (slot_step s st k1 o)
   slot_alike None = tt
   slot_alike (Some w) = by_alike w (partner w.what.peer w.phase)
 
-  step_alike : Alike (step s st k0) (step s st k1)
-  step_alike = first_alike (owed_step s st k0) (owed_step s st k1) (first_of (session_step s st k0) (job_step s st k0)) (first_of (session_step s st k1) (job_step s st k1)) (owed_alike st.owed)
-      (first_alike (session_step s st k0) (session_step s st k1) (job_step s st k0) (job_step s st k1)
-      (list_alike (λ (c : ℕ × ℕ). session_at s st k0 (server_end c.0 c.1)) (λ (c : ℕ × ℕ). session_at s st k1 (server_end c.0 c.1)) (λ c. session_alike (server_end c.0 c.1)) (served_connections s))
-      (list_alike (λ slot. slot_step s st k0 (find (λ w. w.slot == slot) st.works)) (λ slot. slot_step s st k1 (find (λ w. w.slot == slot) st.works)) (λ slot. slot_alike (find (λ w. w.slot == slot) st.works)) slots))
+  step_alike : Alike E (step s st k0) (step s st k1)
+  step_alike = first_alike E (owed_step s st k0) (owed_step s st k1) (first_of (session_step s st k0) (job_step s st k0)) (first_of (session_step s st k1) (job_step s st k1)) (owed_alike st.owed)
+      (first_alike E (session_step s st k0) (session_step s st k1) (job_step s st k0) (job_step s st k1)
+      (list_alike E (λ (c : ℕ × ℕ). session_at s st k0 (server_end c.0 c.1)) (λ (c : ℕ × ℕ). session_at s st k1 (server_end c.0 c.1)) (λ c. session_alike (server_end c.0 c.1)) (served_connections s))
+      (list_alike E (λ slot. slot_step s st k0 (find (λ w. w.slot == slot) st.works)) (λ slot. slot_step s st k1 (find (λ w. w.slot == slot) st.works)) (λ slot. slot_alike (find (λ w. w.slot == slot) st.works)) slots))
 
 ended_is : (kind : EntryKind) (j : ℕ) → ended kind ≡ Some j → (o : Outcome) × (kind ≡ ends_job j o)
 ended_is (ends_job i outcome) j e = let same : i ≡ j = cc in (outcome, ap (λ n. ends_job n outcome) same)
@@ -434,18 +342,18 @@ ends_alike s st k part right words m m' j outcome calm' e e' is = ended_is m.kin
     same' : step s st (calm k.time k.count k.at_hand k.room part right words) ≡ Some m'
     same' = ap (λ o. step s st (record { time = k.time; count = k.count; at_hand = k.at_hand; room = k.room; fails = o; part = part; right = right; words = words })) (sym calm') ∙ e'
 
-    go : Alike (step s st (calm k.time k.count k.at_hand k.room k.part k.right k.words)) (step s st (calm k.time k.count k.at_hand k.room part right words)) → ended m.kind ≡ ended m'.kind
-    go a = subst (λ o. Alike (Some m) o) same' (subst (λ o. Alike o (step s st (calm k.time k.count k.at_hand k.room part right words))) same a)
+    go : Alike E (step s st (calm k.time k.count k.at_hand k.room k.part k.right k.words)) (step s st (calm k.time k.count k.at_hand k.room part right words)) → ended m.kind ≡ ended m'.kind
+    go a = subst (λ o. Alike E (Some m) o) same' (subst (λ o. Alike E o (step s st (calm k.time k.count k.at_hand k.room part right words))) same a)
 
 -- where one is ready for the one look, one is for the other
 pub still_steps : (s : SetUp) (st : State) (k : Look) (part : ℕ) (right : Bool) (words : ℕ → Option Word) (m : Made) → k.fails ≡ None → step s st k ≡ Some m
     → (m' : Made) × (step s st (record k { part = part; right = right; words = words; fails = None }) ≡ Some m')
 still_steps s st k part right words m calm' e = go (step s st (calm k.time k.count k.at_hand k.room part right words)) refl
-    (subst (λ o. Alike o (step s st (calm k.time k.count k.at_hand k.room part right words))) same (step_alike s st k.time k.count k.at_hand k.room k.part part k.right right k.words words))
+    (subst (λ o. Alike E o (step s st (calm k.time k.count k.at_hand k.room part right words))) same (step_alike s st k.time k.count k.at_hand k.room k.part part k.right right k.words words))
   where
     same : step s st (calm k.time k.count k.at_hand k.room k.part k.right k.words) ≡ Some m
     same = ap (λ o. step s st (record { time = k.time; count = k.count; at_hand = k.at_hand; room = k.room; fails = o; part = k.part; right = k.right; words = k.words })) (sym calm') ∙ e
 
-    go : (o : Option Made) → step s st (calm k.time k.count k.at_hand k.room part right words) ≡ o → Alike (Some m) o → (m' : Made) × (step s st (calm k.time k.count k.at_hand k.room part right words) ≡ Some m')
+    go : (o : Option Made) → step s st (calm k.time k.count k.at_hand k.room part right words) ≡ o → Alike E (Some m) o → (m' : Made) × (step s st (calm k.time k.count k.at_hand k.room part right words) ≡ Some m')
     go None i a = absurd a
     go (Some m') i a = (m', i)

@@ -13,7 +13,11 @@ pub mod WrittenLines
 pub mod Logged
 pub mod JobKept
 pub mod OwedKeys
+pub mod Alike
+pub mod MadeBy
 pub mod EndsAlike
+pub mod WordsAside
 pub mod Driven
 pub mod Settles
 pub mod Adding
+pub mod TurnsFound

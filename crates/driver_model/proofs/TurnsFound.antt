@@ -1,0 +1,350 @@
+-- A turn is found from the step that is made at the driver's look for it: the plain look finds a step of the same session or job, which
+-- asks for the same part, and the first call of the step that is to fail is the one that failed.
+use Rattle.std.proofs.Common.{◌≡◌, ℕ, ◌+◌, Bool, true, false, List, [], ◌∷◌, Option, Some, None, ◌⊎◌, inl, inr, refl, sym, ap, ◌∙◌, subst, arith}
+use Rattle.std.specs.Prelude.{if◌then◌else◌, ◌==◌, ◌&&◌, cond, find}
+use Rattle.std.specs.List.{list_all}
+use Rattle.std.proofs.lemmas.Bool.Decides.{nat_tests}
+use Rattle.annex_base.specs.Calls.{call_number, same_call}
+use Rattle.annex_base.specs.Lists.{Each, Member}
+use Rattle.annex_base.specs.declared.kinds.Call.{Call}
+use Rattle.annex_base.specs.declared.kinds.Call.TheVariants as calls
+use Rattle.annex_base.specs.declared.kinds.Word.{Word}
+use Rattle.annex_base.specs.declared.kinds.Word.TheVariants as words
+use Rattle.annex_base.proofs.Lists.{Each-weaker, find_none}
+use Rattle.drop_proof.specs.declared.rule.Side.{Side}
+use Rattle.drop_proof.specs.declared.rule.Side.TheVariants.{Local, Remote}
+use Rattle.run_data.specs.declared.entry.EntryKind.{EntryKind}
+use Rattle.run_data.specs.declared.entry.EntryKind.TheVariants.{Fault, End as ends_job}
+use Rattle.run_data.specs.declared.entry.FrameView.{FrameView}
+use Rattle.run_data.specs.declared.job.Outcome.{Outcome}
+use Rattle.run_data.specs.declared.job.Proof.{Proof}
+use Rattle.node_model.specs.Ends.{EndName, end_takes, server_end}
+use Rattle.node_model.specs.Jobs.{Denied, Drops, Fresh, Gets, Next, Part, Phase, Puts, PutsBytes, PutsWord, Removed, Work, job_end, partner, side_of}
+use Rattle.node_model.specs.JobStep.{Turn, end_with, locked_peers, turn_of}
+use Rattle.node_model.specs.DropStep.{removal_outcome, target}
+use Rattle.node_model.specs.Knows.{obeyed_outcome, proof_by}
+use Rattle.node_model.specs.Look.{Look, Made, entry_of, first_of, waiting}
+use Rattle.node_model.specs.Owed.{Owed}
+use Rattle.node_model.specs.OwedStep.{owed_step, pays_first}
+use Rattle.node_model.specs.Rows.{is_lost_ordered}
+use Rattle.node_model.specs.SessionStep.{Here, gives_made, gives_next, here, on_frame, session_at, session_makes, session_step}
+use Rattle.node_model.specs.Sessions
+use Rattle.node_model.specs.Sessions.{Doing}
+use Rattle.node_model.specs.SetUp.{SetUp, served_connections, slots}
+use Rattle.node_model.specs.Slots.{job_of}
+use Rattle.node_model.specs.State.{State}
+use Rattle.node_model.specs.Step.{step}
+use Rattle.node_model.specs.Turns.{awaits, by_partner, goes, goes_on, has_room, is_awaiting, job_step, needs, next_needs, slot_step, takes_frame, with_partner}
+use Rattle.run_model.specs.Words.{word_told}
+use Rattle.driver_model.specs.Driver.{Driver, Given, fails_at, set_up_of, state_at}
+use Rattle.driver_model.specs.Finding.{FailsFirst, MakesStep, after_step, calls_before, failed_call, found, look_told}
+use Rattle.driver_model.specs.Turning.{all_calls, asked_key, calm_look, fails_in, is_fault, look_for, looks, makes, makes_fault, meets, part_right, part_size, plain_look, step_key, told_words, turn}
+use Rattle.driver_model.specs.WordsRead.{ReadsWord}
+use Rattle.driver_model.proofs.Alike.{Alike, first_alike, list_alike, other_ready, some_alike}
+use Rattle.driver_model.proofs.EndsAlike.{ends_alike}
+use Rattle.driver_model.proofs.MadeBy.{Mine, Never, frame_ends, frame_own, given_next, gives_ends, goes_own}
+use Rattle.driver_model.proofs.WordsAside.{Told, step_told, words_aside}
+
+-- ---- any two looks that have the same time, count, frames and rooms find a step of the same session or job
+
+-- both ask for the part of the same key
+abbrev SameAsked : State → Made → Made → Type 0
+SameAsked st m m' = asked_key st m ≡ asked_key st m'
+
+module _ (s : SetUp) (st : State) (k : Look) (fails : Option Call) (part : ℕ) (right : Bool) (others : ℕ → Option Word) where
+  abbrev k1 : Look
+  k1 = record k { fails = fails; part = part; right = right; words = others }
+
+  abbrev A : Made → Made → Type 0
+  A m m' = SameAsked st m m'
+
+  asked_by : (m : Made) (o : Option ℕ) → job_of m.kind ≡ o → asked_key st m ≡ step_key st o m.taken
+  asked_by m o e = ap (λ (j : Option ℕ). step_key st j m.taken) e
+
+  -- ---- a session
+
+  module _ (a : EndName) where
+    abbrev h0 : Here
+    h0 = here s st k a
+
+    abbrev h1 : Here
+    h1 = here s st k1 a
+
+    given : (doing : Doing) → Alike A (gives_made a (st.ends a) (gives_next h0 doing)) (gives_made a (st.ends a) (gives_next h1 doing))
+    given (Sessions.Gives key at left good) = ap (λ (j : Option ℕ). step_key st j None) (gives_ends h0 key at left good ∙ sym (gives_ends h1 key at left good))
+    given doing = tt
+
+    makes_alike : (o : Option FrameView) → Alike A (session_makes h0 (st.ends a) (st.sessions a) o) (session_makes h1 (st.ends a) (st.sessions a) o)
+    makes_alike (Some f) = ap (λ (j : Option ℕ). step_key st j (Some f)) (frame_ends h0 (st.sessions a) f.body ∙ sym (frame_ends h1 (st.sessions a) f.body))
+    makes_alike None = go (st.ends a).opened
+      where
+        go : (b : Bool) → Alike A (if b then gives_made a (st.ends a) (gives_next h0 (st.sessions a).doing) else None) (if b then gives_made a (st.ends a) (gives_next h1 (st.sessions a).doing) else None)
+        go true = given (st.sessions a).doing
+        go false = tt
+
+    session_alike : Alike A (session_at s st k a) (session_at s st k1 a)
+    session_alike = go (k.room a)
+      where
+        go : (b : Bool) → Alike A (if b then session_makes h0 (st.ends a) (st.sessions a) (waiting (st.ends a) k a) else None) (if b then session_makes h1 (st.ends a) (st.sessions a) (waiting (st.ends a) k1 a) else None)
+        go true = makes_alike (waiting (st.ends a) k a)
+        go false = tt
+
+  -- ---- a job
+
+  module _ (w : Work) where
+    abbrev t0 : Turn
+    t0 = turn_of s st k w
+
+    abbrev t1 : Turn
+    t1 = turn_of s st k1 w
+
+    both_own : (m m' : Made) → Mine t0 m → Mine t1 m' → A m m'
+    both_own m m' e e' = asked_by m (Some w.number) e ∙ sym (asked_by m' (Some w.number) e')
+
+    obeyed_found : (o : Option Word) (proof : Proof) → is_lost_ordered (obeyed_outcome o proof) ≡ false
+    obeyed_found (Some words.Absent) proof = refl
+    obeyed_found o proof = refl
+
+    removed_found : (t : Turn) (side : Side) → is_lost_ordered (removal_outcome side t) ≡ false
+    removed_found t Local = refl
+    removed_found t Remote = obeyed_found (t.look.words (target t)) (proof_by t.read t.w)
+
+    next_needed : (part : Part) → next_needs t0 part ≡ next_needs t1 part
+    next_needed Drops = refl
+    next_needed Gets = refl
+    next_needed Puts = refl
+
+    needed : (phase : Phase) → needs t0 phase ≡ needs t1 phase
+    needed Removed = ap (λ (b : Bool). if b then [] else locked_peers t0) (removed_found t0 (side_of w) ∙ sym (removed_found t1 (side_of w)))
+    needed Next = next_needed w.part
+    needed phase = refl
+
+    goes_on-alike : Alike A (goes_on t0) (goes_on t1)
+    goes_on-alike = subst (λ ps. Alike A (if list_all (has_room t0) (needs t0 w.phase) then Some (goes t0 w.phase) else None) (if list_all (has_room t0) ps then Some (goes t1 w.phase) else None)) (needed w.phase)
+        (some_alike A (list_all (has_room t0) (needs t0 w.phase)) (goes t0 w.phase) (goes t1 w.phase) (both_own (goes t0 w.phase) (goes t1 w.phase) (goes_own t0 w.phase) (goes_own t1 w.phase)))
+
+    awaits_alike : (peer : ℕ) (o : Option FrameView) → Alike A (awaits t0 peer o) (awaits t1 peer o)
+    awaits_alike peer None = tt
+    awaits_alike peer (Some f) = some_alike A (has_room t0 peer) (takes_frame t0 peer f f.body) (takes_frame t1 peer f f.body)
+        (both_own (takes_frame t0 peer f f.body) (takes_frame t1 peer f f.body) (frame_own t0 peer f f.body) (frame_own t1 peer f f.body))
+
+    with_alike : (peer : ℕ) (opened : Bool) → Alike A (with_partner t0 peer opened) (with_partner t1 peer opened)
+    with_alike peer false = refl
+    with_alike peer true = go (is_awaiting w.phase)
+      where
+        go : (b : Bool) → Alike A (if b then awaits t0 peer (waiting (end_with t0 peer) k (job_end w peer)) else goes_on t0) (if b then awaits t1 peer (waiting (end_with t1 peer) k1 (job_end w peer)) else goes_on t1)
+        go true = awaits_alike peer (waiting (end_with t0 peer) k (job_end w peer))
+        go false = goes_on-alike
+
+    by_alike : (o : Option ℕ) → Alike A (by_partner t0 o) (by_partner t1 o)
+    by_alike None = goes_on-alike
+    by_alike (Some peer) = with_alike peer (end_with t0 peer).opened
+
+  slot_alike : (o : Option Work) → Alike A (slot_step s st k o) (slot_step s st k1 o)
+  slot_alike None = tt
+  slot_alike (Some w) = by_alike w (partner w.what.peer w.phase)
+
+  -- where no line is owed
+  pub rest_alike : Alike A (first_of (session_step s st k) (job_step s st k)) (first_of (session_step s st k1) (job_step s st k1))
+  rest_alike = first_alike A (session_step s st k) (session_step s st k1) (job_step s st k) (job_step s st k1)
+      (list_alike A (λ (c : ℕ × ℕ). session_at s st k (server_end c.0 c.1)) (λ (c : ℕ × ℕ). session_at s st k1 (server_end c.0 c.1)) (λ c. session_alike (server_end c.0 c.1)) (served_connections s))
+      (list_alike A (λ slot. slot_step s st k (find (λ w. w.slot == slot) st.works)) (λ slot. slot_step s st k1 (find (λ w. w.slot == slot) st.works)) (λ slot. slot_alike (find (λ w. w.slot == slot) st.works)) slots)
+
+-- ---- the call that fails
+
+every_call : (call : Call) → Member call all_calls
+every_call calls.Has = inl refl
+every_call calls.Size = inr (inl refl)
+every_call calls.Read = inr (inr (inl refl))
+every_call calls.PartSize = inr (inr (inr (inl refl)))
+every_call calls.ReadPart = inr (inr (inr (inr (inl refl))))
+every_call calls.Append = inr (inr (inr (inr (inr (inl refl)))))
+every_call calls.Commit = inr (inr (inr (inr (inr (inr (inl refl))))))
+every_call calls.DropPart = inr (inr (inr (inr (inr (inr (inr (inl refl)))))))
+every_call calls.Remove = inr (inr (inr (inr (inr (inr (inr (inr (inl refl))))))))
+every_call calls.Hold = inr (inr (inr (inr (inr (inr (inr (inr (inr (inl refl)))))))))
+every_call calls.Unhold = inr (inr (inr (inr (inr (inr (inr (inr (inr (inr (inl refl))))))))))
+every_call calls.Holds = inr (inr (inr (inr (inr (inr (inr (inr (inr (inr (inr (inl refl)))))))))))
+every_call calls.PutFile = inr (inr (inr (inr (inr (inr (inr (inr (inr (inr (inr (inr (inl refl))))))))))))
+every_call calls.File = inr (inr (inr (inr (inr (inr (inr (inr (inr (inr (inr (inr (inr (inl refl)))))))))))))
+
+call_numbered : ℕ → Call
+call_numbered n = if n == 0 then calls.Has else (if n == 1 then calls.Size else (if n == 2 then calls.Read else (if n == 3 then calls.PartSize else (if n == 4 then calls.ReadPart
+    else (if n == 5 then calls.Append else (if n == 6 then calls.Commit else (if n == 7 then calls.DropPart else (if n == 8 then calls.Remove else (if n == 9 then calls.Hold
+    else (if n == 10 then calls.Unhold else (if n == 11 then calls.Holds else (if n == 12 then calls.PutFile else calls.File))))))))))))
+
+numbered_is : (c : Call) → call_numbered (call_number c) ≡ c
+numbered_is calls.Has = refl
+numbered_is calls.Size = refl
+numbered_is calls.Read = refl
+numbered_is calls.PartSize = refl
+numbered_is calls.ReadPart = refl
+numbered_is calls.Append = refl
+numbered_is calls.Commit = refl
+numbered_is calls.DropPart = refl
+numbered_is calls.Remove = refl
+numbered_is calls.Hold = refl
+numbered_is calls.Unhold = refl
+numbered_is calls.Holds = refl
+numbered_is calls.PutFile = refl
+numbered_is calls.File = refl
+
+same_number : (a b : ℕ) → (a == b) ≡ true → a ≡ b
+same_number a b e = grind (arith, nat_tests)
+
+same_call-is : (c d : Call) → same_call c d ≡ true → c ≡ d
+same_call-is c d e = sym (numbered_is c) ∙ ap call_numbered (same_number (call_number c) (call_number d) e) ∙ numbered_is d
+
+same_call-self : (c : Call) → same_call c c ≡ true
+same_call-self c = go (call_number c)
+  where
+    go : (n : ℕ) → (n == n) ≡ true
+    go n = grind (arith, nat_tests)
+
+-- the first call of a list to which a test applies
+find_failed : (q : Call → Bool) (failed : Option Call) (cs : List Call) → ((call : Call) → failed ≡ Some call → Member call cs) → ((call : Call) → failed ≡ Some call → q call ≡ true)
+    → Each (λ call. q call ≡ false) (calls_before failed cs) → find q cs ≡ failed
+find_failed q None cs among fails before = find_none q cs before
+find_failed q (Some call) [] among fails before = absurd (among call refl)
+find_failed q (Some call) (c ∷ cs) among fails before = go (same_call c call) refl before (find_failed q (Some call) cs)
+  where
+    hit : q c ≡ true → cond (q c) (Some c) (find q cs) ≡ Some c
+    hit e = rw e refl
+
+    go : (b : Bool) → same_call c call ≡ b → Each (λ call. q call ≡ false) (if b then [] else c ∷ calls_before (Some call) cs)
+        → (((d : Call) → Some call ≡ Some d → Member d cs) → ((d : Call) → Some call ≡ Some d → q d ≡ true) → Each (λ call. q call ≡ false) (calls_before (Some call) cs) → find q cs ≡ Some call)
+        → cond (q c) (Some c) (find q cs) ≡ Some call
+    go true e none more = let same = same_call-is c call e in hit (ap q same ∙ fails call refl) ∙ ap Some same
+    go false e none more = rw none.0 (more (λ d i. later d i (among d i)) fails none.1)
+      where
+        later : (d : Call) → Some call ≡ Some d → Member d (c ∷ cs) → Member d cs
+        later d i (inl j) = let same : c ≡ call = cc in absurd (let no : true ≡ false = sym (same_call-self c) ∙ ap (same_call c) same ∙ e in cc)
+        later d i (inr m) = m
+
+-- ---- an owed line
+
+-- a step with these owed lines
+abbrev step_of : SetUp → State → List Owed → Look → Option Made
+step_of s st os k = first_of (pays_first s st k os) (first_of (session_step s st k) (job_step s st k))
+
+-- what the turn wants of the step that a plain look finds, where this is made
+pub record IsPlain (g : Given) (r : ℕ) (d : Driver) (m m0 : Made) : Type 0 where
+  pub plain : step (set_up_of g d r) (state_at g d r) (plain_look (set_up_of g d r) (found g r d)) ≡ Some m0
+  pub faults : (call : Call) → makes_fault (step (set_up_of g d r) (state_at g d r) (record (calm_look g (found g r d) r (set_up_of g d r) (state_at g d r) m0) { fails = Some call }))
+      ≡ meets (set_up_of g d r) (state_at g d r) (look_told g (found g r d) r (set_up_of g d r) (state_at g d r) m) call
+  pub makes_it : step (set_up_of g d r) (state_at g d r) (record (calm_look g (found g r d) r (set_up_of g d r) (state_at g d r) m0) { fails = failed_call m.kind }) ≡ Some m
+
+is_failed : (kind : EntryKind) (call : Call) → failed_call kind ≡ Some call → is_fault kind ≡ true
+is_failed (Fault c by) call e = refl
+is_failed kind call e = absurd (cc)
+
+fault_same : (st : State) (agree : Work → Type 0) (o p : Option Made) → Alike (Told st agree) o p → makes_fault o ≡ makes_fault p
+fault_same st agree None None a = refl
+fault_same st agree (Some m) (Some m') (inl e) = ap (λ (z : Made). is_fault z.kind) e
+fault_same st agree (Some m) (Some m') (inr x) = ap is_fault x.2.1 ∙ sym (ap is_fault x.3.1)
+fault_same st agree None (Some m') a = absurd a
+fault_same st agree (Some m) None a = absurd a
+
+module _ (g : Given) (r : ℕ) (d : Driver) (m : Made) (x : MakesStep g r d m) where
+  abbrev s : SetUp
+  s = set_up_of g d r
+
+  abbrev st : State
+  st = state_at g d r
+
+  abbrev c : Driver
+  c = found g r d
+
+  abbrev told : Look
+  told = look_told g c r s st m
+
+  -- ---- the turn, by the plain step
+
+  module _ (m0 : Made) (p : IsPlain g r d m m0) where
+    abbrev calm : Look
+    calm = calm_look g c r s st m0
+
+    hits : (call : Call) → failed_call m.kind ≡ Some call → fails_in c r s st calm call ≡ true
+    hits call i = rw (x.fails.waits call i) (p.faults call ∙ ap makes_fault (ap (λ (o : Option Call). step s st (record told { fails = o })) (sym i) ∙ x.steps) ∙ is_failed m.kind call i)
+
+    misses : (call : Call) → (fails_at c r call ≡ true → meets s st told call ≡ false) → fails_in c r s st calm call ≡ false
+    misses call h = go (fails_at c r call) h
+      where
+        go : (b : Bool) → (b ≡ true → meets s st told call ≡ false) → (if b then meets s st calm call else false) ≡ false
+        go true h = p.faults call ∙ h refl
+        go false h = refl
+
+    failed_is : find (fails_in c r s st calm) all_calls ≡ failed_call m.kind
+    failed_is = find_failed (fails_in c r s st calm) (failed_call m.kind) all_calls (λ call i. every_call call) hits
+        (Each-weaker (λ call. fails_at c r call ≡ true → meets s st told call ≡ false) (λ call. fails_in c r s st calm call ≡ false) misses (calls_before (failed_call m.kind) all_calls) x.fails.before)
+
+    turn_by : turn g r d ≡ after_step g r d m
+    turn_by =
+        ap (λ (o : Option Made). looks g r s st o c) p.plain
+        ∙ ap (λ (o : Option Call). makes st r (record calm { fails = o }) (step s st (record calm { fails = o })) c) failed_is
+        ∙ ap (λ (o : Option Made). makes st r (record calm { fails = failed_call m.kind }) o c) p.makes_it
+
+  -- ---- where a line is owed, it is paid first
+
+  module _ (o : Owed) (os : List Owed) (e : st.owed ≡ o ∷ os) where
+    pays : (k : Look) → step s st k ≡ step_of s st (o ∷ os) k
+    pays k = ap (λ (os : List Owed). step_of s st os k) e
+
+    owed_plain : (m0 : Made) → step_of s st (o ∷ os) (plain_look s c) ≡ Some m0 → IsPlain g r d m m0
+    owed_plain m0 i = record {
+      plain = pays (plain_look s c) ∙ i;
+      faults = λ call. ap makes_fault (pays (record (calm_look g c r s st m0) { fails = Some call }) ∙ sym (pays (record told { fails = Some call })));
+      makes_it = pays (record (calm_look g c r s st m0) { fails = failed_call m.kind }) ∙ sym (pays told) ∙ x.steps;
+    }
+
+    owed_turn : turn g r d ≡ after_step g r d m
+    owed_turn = turn_by _ (owed_plain _ refl)
+
+  -- ---- where none is owed
+
+  module _ (e : st.owed ≡ []) where
+    goes_on-by : (k : Look) → step s st k ≡ first_of (session_step s st k) (job_step s st k)
+    goes_on-by k = ap (λ (os : List Owed). step_of s st os k) e
+
+    -- the look with this failing call, the part of this key, and these words
+    abbrev look : Option Call → Option (List ℕ) → (ℕ → Option Word) → Look
+    look fails key words = record (plain_look s c) { fails = fails; part = part_size c r key; right = part_right g c r key; words = words }
+
+    abbrev words_of : Made → ℕ → Option Word
+    words_of m = told_words c.past r m.kind
+
+    module _ (m0 : Made) (i : step s st (plain_look s c) ≡ Some m0) (same : asked_key st m ≡ asked_key st m0) where
+      words_agree : (w : Work) (outcome : Outcome) → m.kind ≡ ends_job w.number outcome → (peer : ℕ) → words_of m peer ≡ words_of m0 peer
+      words_agree w outcome is peer =
+          let calm : step s st (look None (asked_key st m) (words_of m)) ≡ Some m = ap (λ (o : Option Call). step s st (look o (asked_key st m) (words_of m))) (sym (ap failed_call is)) ∙ x.steps in
+          let ends = ends_alike s st (plain_look s c) (part_size c r (asked_key st m)) (part_right g c r (asked_key st m)) (words_of m) m0 m w.number outcome refl i calm is in
+          ap (λ (kind : EntryKind). told_words c.past r kind peer) is ∙ sym (ap (λ (kind : EntryKind). told_words c.past r kind peer) ends.1)
+
+      rest_plain : IsPlain g r d m m0
+      rest_plain = record {
+        plain = i;
+        faults = λ call. ap (λ (key : Option (List ℕ)). makes_fault (step s st (look (Some call) key (words_of m0)))) (sym same)
+            ∙ fault_same st _ (step s st (look (Some call) (asked_key st m) (words_of m0))) (step s st (look (Some call) (asked_key st m) (words_of m))) (step_told s st (look (Some call) (asked_key st m) (words_of m0)) (words_of m));
+        makes_it = ap (λ (key : Option (List ℕ)). step s st (look (failed_call m.kind) key (words_of m0))) (sym same)
+            ∙ sym (words_aside s st told (words_of m0) (λ m' j w outcome there is peer reads. words_agree w outcome (ap (λ (z : Made). z.kind) (made_same m' j) ∙ is) peer)) ∙ x.steps;
+      }
+        where
+          made_same : (m' : Made) → step s st told ≡ Some m' → m ≡ m'
+          made_same m' j = let both : Some m ≡ Some m' = sym x.steps ∙ j in cc
+
+    rest_turn : turn g r d ≡ after_step g r d m
+    rest_turn =
+        let ready = other_ready (SameAsked st) (first_of (session_step s st told) (job_step s st told)) (first_of (session_step s st (plain_look s c)) (job_step s st (plain_look s c))) m
+            (sym (goes_on-by told) ∙ x.steps) (rest_alike s st told None 0 false (λ peer. None)) in
+        turn_by ready.0 (rest_plain ready.0 (goes_on-by (plain_look s c) ∙ ready.1) ready.2)
+
+  pub turn_found : turn g r d ≡ after_step g r d m
+  turn_found = go st.owed refl
+    where
+      go : (os : List Owed) → st.owed ≡ os → turn g r d ≡ after_step g r d m
+      go [] e = rest_turn e
+      go (o ∷ os) e = owed_turn o os e
+
+-- where no step is ready
+pub turn_idle : (g : Given) (r : ℕ) (d : Driver) → step (set_up_of g d r) (state_at g d r) (plain_look (set_up_of g d r) (found g r d)) ≡ None → turn g r d ≡ found g r d
+turn_idle g r d e = ap (λ (o : Option Made). looks g r (set_up_of g d r) (state_at g d r) o (found g r d)) e

@@ -1,0 +1,9 @@
+-- An idle turn by computation; any other by the plain step, which asks for the same part.
+use Rattle.driver_model.proofs.TurnsFound.{turn_found, turn_idle}
+use Rattle.driver_model.proofs.turns.turns_are_found.Goals as goal
+
+pub returns-clause-idle : goal.returns-clause-idle
+returns-clause-idle c = turn_idle
+
+pub returns-clause-moved : goal.returns-clause-moved
+returns-clause-moved c = turn_found
