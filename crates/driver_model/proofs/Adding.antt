@@ -9,9 +9,7 @@ use Rattle.log_lines.specs.declared.entry.Topic.{Topic}
 use Rattle.log_lines.specs.declared.entry.Value.{Value}
 use Rattle.union_merge.specs.Branch.{Files}
 use Rattle.run_data.specs.declared.entry.Entry.{Entry}
-use Rattle.run_data.specs.declared.entry.EntryKind.{EntryKind}
 use Rattle.run_data.specs.declared.entry.EntryKind.TheVariants as kinds
-use Rattle.run_data.specs.declared.entry.FrameView.{FrameView}
 use Rattle.run_data.specs.declared.entry.LogFile.{LogFile}
 use Rattle.run_data.specs.declared.entry.LogFile.TheVariants.{Of}
 use Rattle.run_data.specs.declared.job.Job.{Job}
@@ -27,8 +25,8 @@ use Rattle.node_model.specs.State.{State}
 use Rattle.node_model.specs.Step.{step}
 use Rattle.driver_model.specs.Lines.{Agendum, BlockLine, Line, Runs, Crashes, Closes, Fails, Have, SetPart, Add, File, Set, Raw, Merge, Compact, Begin, Turns, Settle, Close, Crash, Wait, Fail, Par}
 use Rattle.driver_model.specs.Lines
-use Rattle.driver_model.specs.Driver.{Driver, Given, adds, drops_part, entry, fails_at, notes, puts_part, set_up_of, state_at, without_old_flights}
-use Rattle.driver_model.specs.ScriptSteps.{begins, begins_part, calling, closes, closes_each, closes_end, compacts, compacts_files, crashes, enters, faults, fills_up, gains, has, is_busy, is_nil, logs, logs_some, logs_status, merges, merges_files, news, sends, sets, sets_part, setting_line, shrinks, unknown, unless_busy, waits, will_fail, writes}
+use Rattle.driver_model.specs.Driver.{Driver, Given, adds, drops_part, fails_at, notes, puts_part, set_up_of, state_at, without_old_flights}
+use Rattle.driver_model.specs.ScriptSteps.{begins, begins_part, calling, closes, closes_each, closes_end, compacts, compacts_files, crashes, enters, faults, fills_up, gains, has, is_busy, is_nil, logs, logs_some, merges, merges_files, news, sends, sets, sets_part, setting_line, shrinks, unknown, unless_busy, waits, will_fail, writes}
 use Rattle.driver_model.specs.Turning.{bytes_taken, look_for, looks, makes, plain_look, turn}
 use Rattle.driver_model.specs.Rounds.{Agenda, Blocked, Going, agenda, block_round, block_rounds, blocks, came_to, goes_round, is_over, is_settled, may_begin, most_rounds, numbers, round, rounds, settles, takes, takes_all, takes_each, turns_of, with_round}
 use Rattle.driver_model.specs.Driving.{does, turns, with_mark}

@@ -29,7 +29,7 @@ use Rattle.node_model.specs.SessionStep.{Here, here, now_of}
 use Rattle.node_model.specs.Sessions.{Doing}
 use Rattle.node_model.specs.SetUp.{SetUp}
 use Rattle.node_model.specs.State.{State}
-use Rattle.run_model.specs.Frames.{Way, is_on, on_way, sender_of, taker_of}
+use Rattle.run_model.specs.Frames.{is_on, on_way, sender_of, taker_of}
 use Rattle.run_model.specs.Past.{is_of}
 use Rattle.run_model.specs.Run.{ComesAnyTime, IsStep, OwnPart}
 use Rattle.run_model.specs.States.{end_at, state_of}

@@ -1,29 +1,23 @@
 -- Which job a step ends doesn't depend on the part that it asks for, nor on the words beside what a job heard.
-use Rattle.std.proofs.Common.{◌≡◌, ℕ, ◌+◌, ◌*◌, ◌^◌, Bool, true, false, List, [], ◌∷◌, Option, Some, None, refl, sym, ap, ◌∙◌, subst}
-use Rattle.std.specs.Prelude.{if◌then◌else◌, ◌==◌, ◌&&◌, bytes_eq, codes, find, min, nat_le, nat_lt}
+use Rattle.std.proofs.Common.{◌≡◌, ℕ, ◌^◌, Bool, true, false, List, [], ◌∷◌, Option, Some, None, refl, sym, ap, ◌∙◌, subst}
+use Rattle.std.specs.Prelude.{if◌then◌else◌, ◌==◌, ◌&&◌, bytes_eq, codes, find, nat_le, nat_lt}
 use Rattle.std.specs.List.{list_all}
-use Rattle.annex_base.specs.declared.kinds.Call.{Call}
 use Rattle.annex_base.specs.declared.kinds.Word.{Word}
-use Rattle.annex_base.specs.declared.kinds.Word.TheVariants as words
-use Rattle.annex_base.proofs.Conditions.{if_either}
 use Rattle.drop_proof.specs.declared.rule.Side.{Side}
 use Rattle.drop_proof.specs.declared.rule.Side.TheVariants.{Local, Remote}
 use Rattle.run_data.specs.declared.entry.EntryKind.{EntryKind}
-use Rattle.run_data.specs.declared.entry.EntryKind.TheVariants.{Fault, Talk, End as ends_job}
-use Rattle.run_data.specs.declared.entry.By.{By}
+use Rattle.run_data.specs.declared.entry.EntryKind.TheVariants.{End as ends_job}
 use Rattle.run_data.specs.declared.entry.FrameView.{FrameView}
 use Rattle.run_data.specs.declared.entry.FrameText.{FrameText}
 use Rattle.run_data.specs.declared.entry.FrameText.TheVariants.{Opening, Closing, Bytes, Line}
 use Rattle.run_data.specs.declared.job.DropRefusal.{DropRefusal}
 use Rattle.run_data.specs.declared.job.Outcome.{Outcome}
-use Rattle.run_data.specs.declared.job.Proof.{Proof}
 use Rattle.node_model.specs.Evidence.{Asked, Claimed, Ignored, Standing}
 use Rattle.node_model.specs.Slots.{job_of}
-use Rattle.node_model.specs.Look.{Look, Made, first_of, failing, first_some, waiting}
+use Rattle.node_model.specs.Look.{Look, Made, first_of, waiting}
 use Rattle.p2p_wire.specs.declared.message.Message.{Message}
-use Rattle.p2p_wire.specs.declared.message.Message.TheVariants.{AlreadyHave, AuthSuccess, CheckPresent, Data, Error, Failure, Get, GetTimestamp, Invalid, LockContent, Put, PutFrom, Remove, RemoveBefore, Success, Timestamp, UnlockContent, Valid, Version}
+use Rattle.p2p_wire.specs.declared.message.Message.TheVariants.{AlreadyHave, AuthSuccess, Data, Error, Failure, Invalid, PutFrom, Success, Timestamp, Valid, Version}
 use Rattle.p2p_wire.specs.Messages.{message_of}
-use Rattle.node_model.specs.Rows.{is_lost_ordered}
 use Rattle.node_model.specs.SetUp.{SetUp, served_connections, slots}
 use Rattle.node_model.specs.Ends.{EndName, server_end}
 use Rattle.node_model.specs.Sessions
@@ -33,18 +27,17 @@ use Rattle.node_model.specs.Jobs.{AsksLock, AsksLook, AsksTime, Drops, Fresh, Ge
 use Rattle.node_model.specs.Owed.{Owed}
 use Rattle.node_model.specs.State.{State}
 use Rattle.node_model.specs.OwedStep.{owed_step, pays_first}
-use Rattle.node_model.specs.Clocks.{hold_time}
-use Rattle.node_model.specs.SessionStep
-use Rattle.node_model.specs.SessionStep.{Here, Reply, bar_on, by_of, check_answer, gives_made, gives_next, here, is_held, is_here, lock_answer, now_of, on_bytes, on_frame, on_message, on_piece, on_remove, on_remove_before, on_request, on_text, refuses, remove_answer, reply, session_at, session_makes, session_step, tries, valid_answer}
-use Rattle.node_model.specs.Knows.{enough_by, next_by, obeyed_outcome}
-use Rattle.node_model.specs.JobStep.{Turn, bar_there, clock_of, end_needs, end_with, is_there, key_of, locked_peers, me, turn_of}
-use Rattle.node_model.specs.DropStep.{asks_copy, asks_target, bars, expiry, first_drop, first_end, first_remote, held_until, in_time, removal_outcome, required_there, row_refusal, takes_drop, takes_time, target, times, tries_own}
+use Rattle.node_model.specs.SessionStep.{Here, Reply, gives_made, gives_next, here, on_frame, session_at, session_makes, session_step}
+use Rattle.node_model.specs.Knows.{enough_by, next_by}
+use Rattle.node_model.specs.JobStep.{Turn, bar_there, clock_of, end_with, is_there, key_of, me, turn_of}
+use Rattle.node_model.specs.DropStep.{asks_copy, asks_target, bars, first_drop, first_end, first_remote, held_until, in_time, required_there, row_refusal, takes_drop, takes_time, target, times, tries_own}
 use Rattle.node_model.specs.Requests.{asks, goes_to}
 use Rattle.node_model.specs.TransferStep.{content_of, first_get, first_put, gains, next_get, next_source, takes_bytes, takes_get, takes_put}
-use Rattle.node_model.specs.Turns.{awaits, by_partner, first_step, goes, goes_on, has_room, is_awaiting, job_step, judge_needs, judges, needs, next_needs, next_step, outcome_of, peer_needs, slot_step, takes, takes_answer, takes_frame, takes_text, target_needs, with_partner}
+use Rattle.node_model.specs.Turns.{awaits, by_partner, first_step, goes, goes_on, has_room, is_awaiting, job_step, judges, needs, next_step, slot_step, takes, takes_answer, takes_frame, takes_text, with_partner}
 use Rattle.node_model.specs.Step.{step}
 use Rattle.driver_model.proofs.Alike.{Alike, first_alike, if_alike, list_alike, some_alike}
 use Rattle.driver_model.proofs.MadeBy.{Never, frame_ends, given_next, gives_ends}
+use Rattle.driver_model.proofs.Needed.{needed}
 use Rattle.driver_model.proofs.Turned.{EndsAlike}
 
 -- the job that an entry of this kind ends
@@ -188,53 +181,8 @@ module _ (s : SetUp) (st : State) (time count : ℕ) (hand : List FrameView) (ro
     goes_alike (PutsWord peer start) = refl
     goes_alike phase = refl
 
-    -- ---- what it needs
-
-    obeyed_found : (o : Option Word) (proof : Proof) → is_lost_ordered (obeyed_outcome o proof) ≡ false
-    obeyed_found (Some words.Absent) proof = refl
-    obeyed_found o proof = refl
-
-    lost_removed : (t : Turn) (side : Side) → is_lost_ordered (removal_outcome side t) ≡ false
-    lost_removed t Local = refl
-    lost_removed t Remote = obeyed_found (t.look.words (target t)) _
-
-    lost_late : (clock : ℕ) (end : Option ℕ) → is_lost_ordered (expiry clock end) ≡ false
-    lost_late clock None = refl
-    lost_late clock (Some end) = refl
-
-    target_needed : (end : Option ℕ) → target_needs t0 end ≡ target_needs t1 end
-    target_needed None = refl
-    target_needed (Some end) = refl
-
-    judge_needed : (enough : Bool) (next : Option ℕ) (side : Side) → judge_needs t0 enough next side ≡ judge_needs t1 enough next side
-    judge_needed false (Some peer) side = refl
-    judge_needed false None side = refl
-    judge_needed true next Local = refl
-    judge_needed true next Remote = target_needed (first_end t0)
-
-    peer_needed : (part : Part) → peer_needs t0 part ≡ peer_needs t1 part
-    peer_needed Gets = refl
-    peer_needed Puts = refl
-    peer_needed Drops = refl
-
-    next_needed : (part : Part) → next_needs t0 part ≡ next_needs t1 part
-    next_needed Drops = judge_needed (enough_by t0.read w) (next_by t0.read w) (side_of w)
-    next_needed Gets = peer_needed Gets
-    next_needed Puts = peer_needed Puts
-
-    end_needed : (o p : Outcome) → is_lost_ordered o ≡ is_lost_ordered p → end_needs t0 o ≡ end_needs t1 p
-    end_needed o p e = ap (λ b. if b then [] else locked_peers t0) e
-
-    needed : (phase : Phase) → needs t0 phase ≡ needs t1 phase
-    needed Fresh = peer_needed w.part
-    needed Next = next_needed w.part
-    needed (PutsBytes peer start at left) = refl
-    needed (PutsWord peer start) = refl
-    needed Removed = end_needed (outcome_of t0 Removed) (outcome_of t1 Removed) (lost_removed t0 (side_of w) ∙ sym (lost_removed t1 (side_of w)))
-    needed phase = refl
-
     goes_on-alike : Alike E (goes_on t0) (goes_on t1)
-    goes_on-alike = subst (λ ps. Alike E (if list_all (has_room t0) (needs t0 w.phase) then Some (goes t0 w.phase) else None) (if list_all (has_room t0) ps then Some (goes t1 w.phase) else None)) (needed w.phase)
+    goes_on-alike = subst (λ ps. Alike E (if list_all (has_room t0) (needs t0 w.phase) then Some (goes t0 w.phase) else None) (if list_all (has_room t0) ps then Some (goes t1 w.phase) else None)) (needed s st k0 None p1 r1 w1 w w.phase)
         (some_alike E (list_all (has_room t0) (needs t0 w.phase)) (goes t0 w.phase) (goes t1 w.phase) (goes_alike w.phase))
 
     -- ---- what it takes

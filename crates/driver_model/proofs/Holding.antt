@@ -1,5 +1,5 @@
 -- What holds of the driver as it goes on: its entries are a run, and the frames on their way are those that were sent and not taken.
-use Rattle.std.proofs.Common.{◌≡◌, ℕ, ◌+◌, ◌≤◌, Bool, true, false, List, [], ◌∷◌, ◌++◌, Option, Some, None, inl, inr, refl, sym, ap, ◌∙◌, subst, arith}
+use Rattle.std.proofs.Common.{◌≡◌, ℕ, ◌+◌, Bool, true, false, List, [], ◌∷◌, ◌++◌, Option, Some, None, inl, inr, refl, sym, ap, ◌∙◌, subst, arith}
 use Rattle.std.specs.Prelude.{cond, ◌==◌, length, map, reverse}
 use Rattle.std.proofs.lemmas.Bool.Decides.{nat_tests}
 use Rattle.std.proofs.lemmas.List.{length-reverse, reverse-append, reverse-reverse}
@@ -20,12 +20,10 @@ use Rattle.node_model.specs.Ends.{EndName, is_opening}
 use Rattle.node_model.specs.State.{State}
 use Rattle.run_model.specs.Run.{ComesAfter, IsRun, MayBe, OwnPart, RunPast, RunStep, TimeIs, paths_at, set_up}
 use Rattle.run_model.specs.Words.{word_told}
-use Rattle.driver_model.specs.Stores.{Stored}
 use Rattle.driver_model.specs.Driver.{Driver, Flight, Given, adds, but_first, but_taken, flight, is_at, newest_count, set_up_of}
-use Rattle.driver_model.specs.Driving.{run_with}
 use Rattle.driver_model.specs.Scripts.{Fit, Fits}
 use Rattle.driver_model.specs.Sound.{ComesDown, IsSound}
-use Rattle.driver_model.specs.Ways.{Flies, InOrder}
+use Rattle.driver_model.specs.Ways.{InOrder}
 use Rattle.driver_model.proofs.EndLemmas.{own_down}
 use Rattle.driver_model.proofs.FrameNumbers.{TakesWell}
 use Rattle.driver_model.proofs.InFlight.{IsFirst, flies_adds, may_be_taken}

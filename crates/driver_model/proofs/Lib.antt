@@ -15,6 +15,7 @@ pub mod JobKept
 pub mod OwedKeys
 pub mod Alike
 pub mod MadeBy
+pub mod Needed
 pub mod EndsAlike
 pub mod WordsAside
 pub mod Driven

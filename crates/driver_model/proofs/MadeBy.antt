@@ -6,19 +6,21 @@ use Rattle.annex_base.specs.declared.kinds.Call.TheVariants as calls
 use Rattle.annex_base.proofs.Conditions.{if_either}
 use Rattle.drop_proof.specs.declared.rule.Side.{Side}
 use Rattle.drop_proof.specs.declared.rule.Side.TheVariants.{Local, Remote}
-use Rattle.run_data.specs.declared.entry.EntryKind.{EntryKind}
 use Rattle.run_data.specs.declared.entry.EntryKind.TheVariants.{Fault, Talk}
 use Rattle.run_data.specs.declared.entry.FrameView.{FrameView}
 use Rattle.run_data.specs.declared.entry.FrameText.{FrameText}
 use Rattle.run_data.specs.declared.entry.FrameText.TheVariants.{Opening, Closing, Bytes, Line}
 use Rattle.run_data.specs.declared.job.DropRefusal.{DropRefusal}
+use Rattle.run_data.specs.declared.job.DropRefusal.TheVariants as refusals
 use Rattle.run_data.specs.declared.job.Outcome.{Outcome}
+use Rattle.run_data.specs.declared.job.Outcome.TheVariants.{Got, Refused, TransferRefused}
+use Rattle.run_data.specs.declared.job.TransferRefusal.TheVariants as failures
 use Rattle.p2p_wire.specs.declared.message.Message.{Message}
 use Rattle.p2p_wire.specs.declared.message.Message.TheVariants.{AlreadyHave, AuthSuccess, CheckPresent, Data, Error, Failure, Get, GetTimestamp, Invalid, LockContent, Put, PutFrom, Remove, RemoveBefore, Success, Timestamp, UnlockContent, Valid, Version}
 use Rattle.p2p_wire.specs.Messages.{message_of}
 use Rattle.node_model.specs.Calls.{to_commit, to_hold, to_resume}
 use Rattle.node_model.specs.Clocks.{hold_time}
-use Rattle.node_model.specs.DropStep.{asks_copy, asks_target, bars, expiry, first_drop, first_end, first_local, first_remote, held_until, in_time, lacking, own_share, removes, required_there, row_refusal, shares, takes_drop, takes_time, target, times, tries_own}
+use Rattle.node_model.specs.DropStep.{asks_copy, asks_target, bars, expiry, first_drop, first_end, first_remote, held_until, in_time, lacking, own_share, removes, required_there, row_refusal, takes_drop, takes_time, target, times, tries_own}
 use Rattle.node_model.specs.Evidence.{Asked, Claimed, Ignored, Standing}
 use Rattle.node_model.specs.Jobs
 use Rattle.node_model.specs.Jobs.{AsksLock, AsksLook, AsksTime, Drops, Fresh, Gets, GetsBytes, GetsData, GetsWord, Greets, Next, Opens, Part, Phase, Puts, PutsAnswer, PutsBytes, PutsOffer, PutsWord, is_move, side_of}
@@ -31,7 +33,7 @@ use Rattle.node_model.specs.SessionStep.{Here, Reply, bar_on, by_of, check_answe
 use Rattle.node_model.specs.Sessions
 use Rattle.node_model.specs.Sessions.{Doing, Session, reaches}
 use Rattle.node_model.specs.Slots.{job_of}
-use Rattle.node_model.specs.TransferStep.{content_of, first_get, first_put, gains, next_get, next_source, puts_from, puts_piece, takes_bytes, takes_get, takes_put}
+use Rattle.node_model.specs.TransferStep.{content_of, first_get, first_put, gains, next_get, next_source, puts_from, takes_bytes, takes_get, takes_put}
 use Rattle.node_model.specs.Turns.{first_step, goes, judges, next_step, outcome_of, takes, takes_answer, takes_frame, takes_text}
 use Rattle.driver_model.proofs.AtHand.{unless_found}
 
@@ -152,18 +154,18 @@ module _ (t : Turn) where
 
   -- its first step
   first_get-own : (there filled : Bool) (source : Option ℕ) → Own (first_get t there filled source)
-  first_get-own true filled source = if_either Own (is_move t.w.what.kind) _ _ (λ b. refl) (λ b. ends_own None _)
-  first_get-own false true source = ends_own None _
+  first_get-own true filled source = if_either Own (is_move t.w.what.kind) _ _ (λ b. refl) (λ b. ends_own None (Got None None))
+  first_get-own false true source = ends_own None (TransferRefused failures.Busy)
   first_get-own false false None = refl
   first_get-own false false (Some peer) = goes_to-own peer
 
   first_put-own : (there : Bool) (peer : Option ℕ) → Own (first_put t there peer)
   first_put-own true (Some peer) = goes_to-own peer
-  first_put-own true None = ends_own None _
-  first_put-own false peer = ends_own None _
+  first_put-own true None = ends_own None (TransferRefused failures.NotHere)
+  first_put-own false peer = ends_own None (TransferRefused failures.NotHere)
 
   bars_own : (o : Option DropRefusal) → Own (bars t o)
-  bars_own (Some refusal) = ends_own None _
+  bars_own (Some refusal) = ends_own None (Refused refusal)
   bars_own None = refl
 
   share_own : (hold end job : ℕ) (key : List ℕ) (there : Bool) (bar : Option ℕ) → job_of (own_share hold end job key (talk t) (by_me t) there bar) ≡ Some t.w.number
@@ -177,7 +179,7 @@ module _ (t : Turn) where
   tries_own-own (Ignored cause) = refl
 
   remote_own : (o : Option (List ℕ)) → Own (first_remote t o)
-  remote_own (Some text) = ends_own None _
+  remote_own (Some text) = ends_own None (Refused (refusals.Required text))
   remote_own None = tries_own-own (t.read.standing (me t))
 
   drop_own : (side : Side) → Own (first_drop t side)
@@ -191,16 +193,16 @@ module _ (t : Turn) where
 
   -- its next steps
   removes_own : Own (removes t)
-  removes_own = if_either Own (in_time (clock_of t) (first_end t)) _ _ (λ b. attempts_own (calls.Remove ∷ []) None _ refl) (λ b. ends_own None _)
+  removes_own = if_either Own (in_time (clock_of t) (first_end t)) _ _ (λ b. attempts_own (calls.Remove ∷ []) None _ refl) (λ b. ends_own None (expiry (clock_of t) (first_end t)))
 
   judges_own : (enough : Bool) (next : Option ℕ) (side : Side) → Own (judges t enough next side)
   judges_own false (Some peer) side = goes_to-own peer
-  judges_own false None side = ends_own None _
+  judges_own false None side = ends_own None (lacking t)
   judges_own true next Local = removes_own
   judges_own true next Remote = goes_to-own (target t)
 
   source_own : (o : Option ℕ) → Own (next_get t o)
-  source_own None = ends_own None _
+  source_own None = ends_own None (TransferRefused (failures.NoSource t.w.causes))
   source_own (Some peer) = goes_to-own peer
 
   next_own : (part : Part) → Own (next_step t part)
@@ -244,7 +246,7 @@ module _ (t : Turn) where
 
   times_own : (f : FrameView) (n : ℕ) (end : Option ℕ) → Own (times t f n end)
   times_own f n None = refl
-  times_own f n (Some end) = if_either Own (nat_lt (clock_of t) end) _ _ (λ b. refl) (λ b. ends_own (Some f) _)
+  times_own f n (Some end) = if_either Own (nat_lt (clock_of t) end) _ _ (λ b. refl) (λ b. ends_own (Some f) (Refused (refusals.Expired end (clock_of t))))
 
   time_own : (f : FrameView) (peer n : ℕ) (side : Side) → Own (takes_time t f peer n side)
   time_own f peer n Local = refl

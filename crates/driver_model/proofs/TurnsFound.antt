@@ -1,7 +1,7 @@
 -- A turn is found from the step that is made at the driver's look for it: the plain look finds a step of the same session or job, which
 -- asks for the same part, and the first call of the step that is to fail is the one that failed.
-use Rattle.std.proofs.Common.{◌≡◌, ℕ, ◌+◌, Bool, true, false, List, [], ◌∷◌, Option, Some, None, ◌⊎◌, inl, inr, refl, sym, ap, ◌∙◌, subst, arith}
-use Rattle.std.specs.Prelude.{if◌then◌else◌, ◌==◌, ◌&&◌, cond, find}
+use Rattle.std.proofs.Common.{◌≡◌, ℕ, Bool, true, false, List, [], ◌∷◌, Option, Some, None, inl, inr, refl, sym, ap, ◌∙◌, subst, arith}
+use Rattle.std.specs.Prelude.{if◌then◌else◌, ◌==◌, cond, find}
 use Rattle.std.specs.List.{list_all}
 use Rattle.std.proofs.lemmas.Bool.Decides.{nat_tests}
 use Rattle.annex_base.specs.Calls.{call_number, same_call}
@@ -9,40 +9,32 @@ use Rattle.annex_base.specs.Lists.{Each, Member}
 use Rattle.annex_base.specs.declared.kinds.Call.{Call}
 use Rattle.annex_base.specs.declared.kinds.Call.TheVariants as calls
 use Rattle.annex_base.specs.declared.kinds.Word.{Word}
-use Rattle.annex_base.specs.declared.kinds.Word.TheVariants as words
 use Rattle.annex_base.proofs.Lists.{Each-weaker, find_none}
-use Rattle.drop_proof.specs.declared.rule.Side.{Side}
-use Rattle.drop_proof.specs.declared.rule.Side.TheVariants.{Local, Remote}
 use Rattle.run_data.specs.declared.entry.EntryKind.{EntryKind}
 use Rattle.run_data.specs.declared.entry.EntryKind.TheVariants.{Fault, End as ends_job}
 use Rattle.run_data.specs.declared.entry.FrameView.{FrameView}
 use Rattle.run_data.specs.declared.job.Outcome.{Outcome}
-use Rattle.run_data.specs.declared.job.Proof.{Proof}
-use Rattle.node_model.specs.Ends.{EndName, end_takes, server_end}
-use Rattle.node_model.specs.Jobs.{Denied, Drops, Fresh, Gets, Next, Part, Phase, Puts, PutsBytes, PutsWord, Removed, Work, job_end, partner, side_of}
-use Rattle.node_model.specs.JobStep.{Turn, end_with, locked_peers, turn_of}
-use Rattle.node_model.specs.DropStep.{removal_outcome, target}
-use Rattle.node_model.specs.Knows.{obeyed_outcome, proof_by}
-use Rattle.node_model.specs.Look.{Look, Made, entry_of, first_of, waiting}
+use Rattle.node_model.specs.Ends.{EndName, server_end}
+use Rattle.node_model.specs.Jobs.{Work, job_end, partner}
+use Rattle.node_model.specs.JobStep.{Turn, end_with, turn_of}
+use Rattle.node_model.specs.Look.{Look, Made, first_of, waiting}
 use Rattle.node_model.specs.Owed.{Owed}
-use Rattle.node_model.specs.OwedStep.{owed_step, pays_first}
-use Rattle.node_model.specs.Rows.{is_lost_ordered}
-use Rattle.node_model.specs.SessionStep.{Here, gives_made, gives_next, here, on_frame, session_at, session_makes, session_step}
+use Rattle.node_model.specs.OwedStep.{pays_first}
+use Rattle.node_model.specs.SessionStep.{Here, gives_made, gives_next, here, session_at, session_makes, session_step}
 use Rattle.node_model.specs.Sessions
 use Rattle.node_model.specs.Sessions.{Doing}
 use Rattle.node_model.specs.SetUp.{SetUp, served_connections, slots}
 use Rattle.node_model.specs.Slots.{job_of}
 use Rattle.node_model.specs.State.{State}
 use Rattle.node_model.specs.Step.{step}
-use Rattle.node_model.specs.Turns.{awaits, by_partner, goes, goes_on, has_room, is_awaiting, job_step, needs, next_needs, slot_step, takes_frame, with_partner}
-use Rattle.run_model.specs.Words.{word_told}
+use Rattle.node_model.specs.Turns.{awaits, by_partner, goes, goes_on, has_room, is_awaiting, job_step, needs, slot_step, takes_frame, with_partner}
 use Rattle.driver_model.specs.Driver.{Driver, Given, fails_at, set_up_of, state_at}
-use Rattle.driver_model.specs.Finding.{FailsFirst, MakesStep, after_step, calls_before, failed_call, found, look_told}
-use Rattle.driver_model.specs.Turning.{all_calls, asked_key, calm_look, fails_in, is_fault, look_for, looks, makes, makes_fault, meets, part_right, part_size, plain_look, step_key, told_words, turn}
-use Rattle.driver_model.specs.WordsRead.{ReadsWord}
+use Rattle.driver_model.specs.Finding.{MakesStep, after_step, calls_before, failed_call, found, look_told}
+use Rattle.driver_model.specs.Turning.{all_calls, asked_key, calm_look, fails_in, is_fault, looks, makes, makes_fault, meets, part_right, part_size, plain_look, step_key, told_words, turn}
 use Rattle.driver_model.proofs.Alike.{Alike, first_alike, list_alike, other_ready, some_alike}
 use Rattle.driver_model.proofs.EndsAlike.{ends_alike}
-use Rattle.driver_model.proofs.MadeBy.{Mine, Never, frame_ends, frame_own, given_next, gives_ends, goes_own}
+use Rattle.driver_model.proofs.MadeBy.{Mine, frame_ends, frame_own, gives_ends, goes_own}
+use Rattle.driver_model.proofs.Needed.{needed}
 use Rattle.driver_model.proofs.WordsAside.{Told, step_told, words_aside}
 
 -- ---- any two looks that have the same time, count, frames and rooms find a step of the same session or job
@@ -101,26 +93,8 @@ module _ (s : SetUp) (st : State) (k : Look) (fails : Option Call) (part : ℕ) 
     both_own : (m m' : Made) → Mine t0 m → Mine t1 m' → A m m'
     both_own m m' e e' = asked_by m (Some w.number) e ∙ sym (asked_by m' (Some w.number) e')
 
-    obeyed_found : (o : Option Word) (proof : Proof) → is_lost_ordered (obeyed_outcome o proof) ≡ false
-    obeyed_found (Some words.Absent) proof = refl
-    obeyed_found o proof = refl
-
-    removed_found : (t : Turn) (side : Side) → is_lost_ordered (removal_outcome side t) ≡ false
-    removed_found t Local = refl
-    removed_found t Remote = obeyed_found (t.look.words (target t)) (proof_by t.read t.w)
-
-    next_needed : (part : Part) → next_needs t0 part ≡ next_needs t1 part
-    next_needed Drops = refl
-    next_needed Gets = refl
-    next_needed Puts = refl
-
-    needed : (phase : Phase) → needs t0 phase ≡ needs t1 phase
-    needed Removed = ap (λ (b : Bool). if b then [] else locked_peers t0) (removed_found t0 (side_of w) ∙ sym (removed_found t1 (side_of w)))
-    needed Next = next_needed w.part
-    needed phase = refl
-
     goes_on-alike : Alike A (goes_on t0) (goes_on t1)
-    goes_on-alike = subst (λ ps. Alike A (if list_all (has_room t0) (needs t0 w.phase) then Some (goes t0 w.phase) else None) (if list_all (has_room t0) ps then Some (goes t1 w.phase) else None)) (needed w.phase)
+    goes_on-alike = subst (λ ps. Alike A (if list_all (has_room t0) (needs t0 w.phase) then Some (goes t0 w.phase) else None) (if list_all (has_room t0) ps then Some (goes t1 w.phase) else None)) (needed s st k fails part right others w w.phase)
         (some_alike A (list_all (has_room t0) (needs t0 w.phase)) (goes t0 w.phase) (goes t1 w.phase) (both_own (goes t0 w.phase) (goes t1 w.phase) (goes_own t0 w.phase) (goes_own t1 w.phase)))
 
     awaits_alike : (peer : ℕ) (o : Option FrameView) → Alike A (awaits t0 peer o) (awaits t1 peer o)
@@ -168,7 +142,7 @@ every_call calls.Holds = inr (inr (inr (inr (inr (inr (inr (inr (inr (inr (inr (
 every_call calls.PutFile = inr (inr (inr (inr (inr (inr (inr (inr (inr (inr (inr (inr (inl refl))))))))))))
 every_call calls.File = inr (inr (inr (inr (inr (inr (inr (inr (inr (inr (inr (inr (inr (inl refl)))))))))))))
 
-call_numbered : ℕ → Call
+abbrev call_numbered : ℕ → Call
 call_numbered n = if n == 0 then calls.Has else (if n == 1 then calls.Size else (if n == 2 then calls.Read else (if n == 3 then calls.PartSize else (if n == 4 then calls.ReadPart
     else (if n == 5 then calls.Append else (if n == 6 then calls.Commit else (if n == 7 then calls.DropPart else (if n == 8 then calls.Remove else (if n == 9 then calls.Hold
     else (if n == 10 then calls.Unhold else (if n == 11 then calls.Holds else (if n == 12 then calls.PutFile else calls.File))))))))))))
@@ -335,7 +309,7 @@ module _ (g : Given) (r : ℕ) (d : Driver) (m : Made) (x : MakesStep g r d m) w
     rest_turn : turn g r d ≡ after_step g r d m
     rest_turn =
         let ready = other_ready (SameAsked st) (first_of (session_step s st told) (job_step s st told)) (first_of (session_step s st (plain_look s c)) (job_step s st (plain_look s c))) m
-            (sym (goes_on-by told) ∙ x.steps) (rest_alike s st told None 0 false (λ peer. None)) in
+        (sym (goes_on-by told) ∙ x.steps) (rest_alike s st told None 0 false (λ peer. None)) in
         turn_by ready.0 (rest_plain ready.0 (goes_on-by (plain_look s c) ∙ ready.1) ready.2)
 
   pub turn_found : turn g r d ≡ after_step g r d m

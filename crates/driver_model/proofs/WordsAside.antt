@@ -5,7 +5,6 @@ use Rattle.std.specs.List.{list_all}
 use Rattle.annex_base.specs.Lists.{Member}
 use Rattle.annex_base.specs.declared.kinds.Call.{Call}
 use Rattle.annex_base.specs.declared.kinds.Word.{Word}
-use Rattle.annex_base.specs.declared.kinds.Word.TheVariants as words
 use Rattle.annex_base.proofs.Lists.{find_member}
 use Rattle.drop_proof.specs.declared.evidence.Kind.{Kind}
 use Rattle.drop_proof.specs.declared.rule.Side.{Side}
@@ -16,16 +15,14 @@ use Rattle.run_data.specs.declared.job.CandidateCause.{CandidateCause}
 use Rattle.run_data.specs.declared.job.DropRefusal.TheVariants as refusals
 use Rattle.run_data.specs.declared.job.Outcome.{Outcome}
 use Rattle.run_data.specs.declared.job.Outcome.TheVariants.{Refused}
-use Rattle.run_data.specs.declared.job.Proof.{Proof}
 use Rattle.node_model.specs.Calls.{to_release}
 use Rattle.node_model.specs.DropStep.{denial_outcome, lacking, removal_outcome, target}
 use Rattle.node_model.specs.Evidence.{Asked, Claimed, Ignored, Standing, failures, pick}
-use Rattle.node_model.specs.Jobs
 use Rattle.node_model.specs.Jobs.{Denied, Drops, Fresh, Gets, Heard, Held, Lacks, Next, Part, Phase, Puts, PutsBytes, PutsWord, Removed, Seen, Unseen, Work, heard_of, job_end, partner, side_of, target_of}
-use Rattle.node_model.specs.JobStep.{Turn, attempts, by_me, end_with, ends, farewells, me, owns_share, turn_of}
+use Rattle.node_model.specs.JobStep.{Turn, attempts, by_me, end_with, ends, farewells, owns_share, turn_of}
 use Rattle.node_model.specs.Knows.{Reading, asks_by, candidates_by, cause_by, causes_by, denial_of, enough_by, is_unasked, knows_by, next_by, obeyed_outcome, offer_by, proof_by}
 use Rattle.node_model.specs.Look.{Look, Made, failing, first_of, unless, waiting}
-use Rattle.node_model.specs.OwedStep.{owed_step, pays_first}
+use Rattle.node_model.specs.OwedStep.{owed_step}
 use Rattle.node_model.specs.Rows.{is_lost_ordered}
 use Rattle.node_model.specs.SessionStep.{session_step}
 use Rattle.node_model.specs.SetUp.{SetUp, slots}
@@ -34,6 +31,7 @@ use Rattle.node_model.specs.Step.{step}
 use Rattle.node_model.specs.Turns.{awaits, by_partner, goes, goes_on, has_room, is_awaiting, job_step, judges, needs, next_step, slot_step, takes_frame, with_partner}
 use Rattle.driver_model.specs.WordsRead.{AgreeWhereRead, ReadsWord, is_answered}
 use Rattle.driver_model.proofs.Alike.{Alike, alike_same, first_alike, list_alike, some_alike}
+use Rattle.driver_model.proofs.Needed.{needed, removed_found}
 
 -- ---- the causes that a drop states
 
@@ -43,11 +41,8 @@ module _ (r : Reading) (w : Work) (w0 w1 : ℕ → Option Word) (agree : (c : �
 
   failures_same : (cs : List ℕ) → find (asks_by r w) cs ≡ None → failures_with w0 cs ≡ failures_with w1 cs
   failures_same [] none = refl
-  failures_same (c ∷ cs) none = go (asks_by r w c) refl none
+  failures_same (c ∷ cs) none = go (λ n. failures_same cs n) (asks_by r w c) refl none
     where
-      stated : (ℕ → Option Word) → Standing → Option Heard → List CandidateCause
-      stated words standing heard = pick (offer_by r.clock standing heard) (λ (kind : Kind). failures_with words cs) (record { repo = c; cause = cause_by (words c) standing heard } ∷ failures_with words cs)
-
       one : failures_with w0 cs ≡ failures_with w1 cs → (standing : Standing) (heard : Option Heard) → heard_of w c ≡ heard → is_unasked standing heard ≡ false
           → pick (offer_by r.clock standing heard) (λ (kind : Kind). failures_with w0 cs) (record { repo = c; cause = cause_by (w0 c) standing heard } ∷ failures_with w0 cs)
           ≡ pick (offer_by r.clock standing heard) (λ (kind : Kind). failures_with w1 cs) (record { repo = c; cause = cause_by (w1 c) standing heard } ∷ failures_with w1 cs)
@@ -61,9 +56,11 @@ module _ (r : Reading) (w : Work) (w0 w1 : ℕ → Option Word) (agree : (c : �
           ∙ ap (λ (word : Option Word). record { repo = c; cause = cause_by word Asked (Some Unseen) } ∷ failures_with w1 cs) (agree c h)
       one more Asked (Some (Lacks cause)) h asked = ap (λ (xs : List CandidateCause). record { repo = c; cause = cause } ∷ xs) more
 
-      go : (b : Bool) → asks_by r w c ≡ b → cond b (Some c) (find (asks_by r w) cs) ≡ None → failures_with w0 (c ∷ cs) ≡ failures_with w1 (c ∷ cs)
-      go true i n = absurd (cc)
-      go false i n = one (failures_same cs n) (r.standing c) (heard_of w c) refl i
+      go : (find (asks_by r w) cs ≡ None → failures_with w0 cs ≡ failures_with w1 cs) → (b : Bool) → asks_by r w c ≡ b → cond b (Some c) (find (asks_by r w) cs) ≡ None
+          → pick (knows_by r w c) (λ (kind : Kind). failures_with w0 cs) (record { repo = c; cause = cause_by (w0 c) (r.standing c) (heard_of w c) } ∷ failures_with w0 cs)
+          ≡ pick (knows_by r w c) (λ (kind : Kind). failures_with w1 cs) (record { repo = c; cause = cause_by (w1 c) (r.standing c) (heard_of w c) } ∷ failures_with w1 cs)
+      go more true i n = absurd (cc)
+      go more false i n = one (more n) (r.standing c) (heard_of w c) refl i
 
   causes_same : next_by r w ≡ None → causes_by r w0 w ≡ causes_by r w1 w
   causes_same none = failures_same (candidates_by r w) none
@@ -129,14 +126,6 @@ module _ (s : SetUp) (st : State) (k : Look) (others : ℕ → Option Word) wher
     next_told Gets = inl refl
     next_told Puts = inl refl
 
-    obeyed_found : (o : Option Word) (proof : Proof) → is_lost_ordered (obeyed_outcome o proof) ≡ false
-    obeyed_found (Some words.Absent) proof = refl
-    obeyed_found o proof = refl
-
-    removed_found : (t : Turn) (side : Side) → is_lost_ordered (removal_outcome side t) ≡ false
-    removed_found t Local = refl
-    removed_found t Remote = obeyed_found (t.look.words (target t)) (proof_by t.read t.w)
-
     -- its target's word is read
     target_agrees : (side : Side) (phase : Phase) → side_of w ≡ side → w.phase ≡ phase → is_answered side phase ≡ true → Agree w → k.words (target t0) ≡ others (target t0)
     target_agrees side phase i j is a = a (target_of s.number w) (inr (ap (λ (x : Side). is_answered x w.phase) i ∙ ap (is_answered side) j ∙ is, refl))
@@ -160,18 +149,8 @@ module _ (s : SetUp) (st : State) (k : Look) (others : ℕ → Option Word) wher
         (λ a. ap (λ (word : Option Word). Refused (refusals.Denied (denial_of word))) (target_agrees (side_of w) Denied refl j (denied_is (side_of w)) a))
     goes_told phase j = inl refl
 
-    needed : (phase : Phase) → needs t0 phase ≡ needs t1 phase
-    needed Removed = ap (λ (b : Bool). if b then [] else Rattle.node_model.specs.JobStep.locked_peers t0) (removed_found t0 (side_of w) ∙ sym (removed_found t1 (side_of w)))
-    needed Next = next_needed w.part
-      where
-        next_needed : (part : Part) → Rattle.node_model.specs.Turns.next_needs t0 part ≡ Rattle.node_model.specs.Turns.next_needs t1 part
-        next_needed Drops = refl
-        next_needed Gets = refl
-        next_needed Puts = refl
-    needed phase = refl
-
     goes_on-told : Alike T (goes_on t0) (goes_on t1)
-    goes_on-told = subst (λ ps. Alike T (if list_all (has_room t0) (needs t0 w.phase) then Some (goes t0 w.phase) else None) (if list_all (has_room t0) ps then Some (goes t1 w.phase) else None)) (needed w.phase)
+    goes_on-told = subst (λ ps. Alike T (if list_all (has_room t0) (needs t0 w.phase) then Some (goes t0 w.phase) else None) (if list_all (has_room t0) ps then Some (goes t1 w.phase) else None)) (needed s st k k.fails k.part k.right others w w.phase)
         (some_alike T (list_all (has_room t0) (needs t0 w.phase)) (goes t0 w.phase) (goes t1 w.phase) (goes_told w.phase refl))
 
     awaits_told : (peer : ℕ) (o : Option FrameView) → Alike T (awaits t0 peer o) (awaits t1 peer o)

@@ -1,5 +1,4 @@
 -- The past after each step is the past before it with entries in front.
-use Rattle.driver_model.specs.Driver.{Driver}
 use Rattle.driver_model.specs.Driving.{does, turns, with_mark}
 use Rattle.driver_model.specs.Rounds.{blocks, round, settles}
 use Rattle.driver_model.specs.ScriptSteps.{begins, closes, compacts, crashes, enters, has, merges, sets, sets_part, waits, will_fail, writes}

@@ -1,9 +1,5 @@
 -- What each step keeps within bounds, from a driver that is sound.
-use Rattle.driver_model.specs.Driver.{Driver}
-use Rattle.driver_model.specs.Driving.{does}
-use Rattle.driver_model.specs.Scripts.{IsOne}
-use Rattle.driver_model.specs.Sound.{StaysSound}
-use Rattle.driver_model.specs.Lines.{Line, Set}
+use Rattle.driver_model.specs.Lines.{Set}
 use Rattle.driver_model.proofs.Driven.{first_holds, keeps_has, keeps_line, keeps_marked, keeps_part}
 use Rattle.driver_model.proofs.EndsAlike.{ends_alike}
 use Rattle.driver_model.proofs.Logged.{keeps_compacts, keeps_merges, keeps_writes}
