@@ -29,8 +29,9 @@ use Rattle.node_model.specs.State.{State}
 use Rattle.node_model.specs.Step.{step}
 use Rattle.node_model.specs.Turns.{awaits, by_partner, goes, goes_on, has_room, is_awaiting, job_step, needs, slot_step, takes_frame, with_partner}
 use Rattle.driver_model.specs.Driver.{Driver, Given, fails_at, set_up_of, state_at}
-use Rattle.driver_model.specs.Finding.{MakesStep, after_step, calls_before, failed_call, found, look_told}
+use Rattle.driver_model.specs.Finding.{FailsFirst, MakesStep, after_step, calls_before, failed_call, found}
 use Rattle.driver_model.specs.Turning.{all_calls, asked_key, calm_look, fails_in, is_fault, looks, makes, makes_fault, meets, part_right, part_size, plain_look, step_key, told_words, turn}
+use Rattle.driver_model.specs.WordsRead.{AgreeWhereRead}
 use Rattle.driver_model.proofs.Alike.{Alike, first_alike, list_alike, other_ready, some_alike}
 use Rattle.driver_model.proofs.EndsAlike.{ends_alike}
 use Rattle.driver_model.proofs.MadeBy.{Mine, frame_ends, frame_own, gives_ends, goes_own}
@@ -201,6 +202,15 @@ find_failed q (Some call) (c ∷ cs) among fails before = go (same_call c call) 
 abbrev step_of : SetUp → State → List Owed → Look → Option Made
 step_of s st os k = first_of (pays_first s st k os) (first_of (session_step s st k) (job_step s st k))
 
+-- the driver's own look for this step, with all words that the job was told
+abbrev pub look_told : Given → Driver → ℕ → SetUp → State → Made → Look
+look_told g d r s st m = record (calm_look g d r s st m) { fails = failed_call m.kind }
+
+-- the step is made at that look
+pub record IsTold (g : Given) (r : ℕ) (d : Driver) (m : Made) : Type 0 where
+  pub steps : step (set_up_of g d r) (state_at g d r) (look_told g (found g r d) r (set_up_of g d r) (state_at g d r) m) ≡ Some m
+  pub fails : FailsFirst (found g r d) r (set_up_of g d r) (state_at g d r) (look_told g (found g r d) r (set_up_of g d r) (state_at g d r) m) (failed_call m.kind)
+
 -- what the turn wants of the step that a plain look finds, where this is made
 pub record IsPlain (g : Given) (r : ℕ) (d : Driver) (m m0 : Made) : Type 0 where
   pub plain : step (set_up_of g d r) (state_at g d r) (plain_look (set_up_of g d r) (found g r d)) ≡ Some m0
@@ -219,7 +229,7 @@ fault_same st agree (Some m) (Some m') (inr x) = ap is_fault x.2.1 ∙ sym (ap i
 fault_same st agree None (Some m') a = absurd a
 fault_same st agree (Some m) None a = absurd a
 
-module _ (g : Given) (r : ℕ) (d : Driver) (m : Made) (x : MakesStep g r d m) where
+module _ (g : Given) (r : ℕ) (d : Driver) (m : Made) (x : IsTold g r d m) where
   abbrev s : SetUp
   s = set_up_of g d r
 
@@ -312,12 +322,56 @@ module _ (g : Given) (r : ℕ) (d : Driver) (m : Made) (x : MakesStep g r d m) w
         (sym (goes_on-by told) ∙ x.steps) (rest_alike s st told None 0 false (λ peer. None)) in
         turn_by ready.0 (rest_plain ready.0 (goes_on-by (plain_look s c) ∙ ready.1) ready.2)
 
-  pub turn_found : turn g r d ≡ after_step g r d m
-  turn_found = go st.owed refl
+  turn_told : turn g r d ≡ after_step g r d m
+  turn_told = go st.owed refl
     where
       go : (os : List Owed) → st.owed ≡ os → turn g r d ≡ after_step g r d m
       go [] e = rest_turn e
       go (o ∷ os) e = owed_turn o os e
+
+-- ---- any look of the driver's for the step
+
+look_path : (k l : Look) → k.time ≡ l.time → k.count ≡ l.count → k.at_hand ≡ l.at_hand → ((a : EndName) → k.room a ≡ l.room a) → k.fails ≡ l.fails → k.part ≡ l.part → k.right ≡ l.right
+    → Path Look k (record l { words = k.words })
+look_path k l time count hand room fails part right i =
+    record { time = time i; count = count i; at_hand = hand i; room = λ a. room a i; fails = fails i; part = part i; right = right i; words = k.words }
+
+module _ (g : Given) (r : ℕ) (d : Driver) (m : Made) (x : MakesStep g r d m) where
+  abbrev own : Look
+  own = look_told g (found g r d) r (set_up_of g d r) (state_at g d r) m
+
+  -- the driver's own look, but with the words that were found
+  abbrev near : Look
+  near = record own { words = x.look.words }
+
+  near_is : Path Look x.look near
+  near_is = let y = x.is_look in look_path x.look own y.time_is y.count_is y.hand_is y.room_is y.fails_is y.part_is y.right_is
+
+  near_steps : step (set_up_of g d r) (state_at g d r) near ≡ Some m
+  near_steps = ap (λ (k : Look). step (set_up_of g d r) (state_at g d r) k) (sym near_is) ∙ x.steps
+
+  met_same : (call : Call) → meets (set_up_of g d r) (state_at g d r) x.look call ≡ meets (set_up_of g d r) (state_at g d r) own call
+  met_same call =
+      ap (λ (k : Look). meets (set_up_of g d r) (state_at g d r) k call) near_is
+      ∙ fault_same (state_at g d r) _ (step (set_up_of g d r) (state_at g d r) (record near { fails = Some call })) (step (set_up_of g d r) (state_at g d r) (record own { fails = Some call }))
+      (step_told (set_up_of g d r) (state_at g d r) (record near { fails = Some call }) own.words)
+
+  is_told : IsTold g r d m
+  is_told = record {
+    steps = sym (words_aside (set_up_of g d r) (state_at g d r) near own.words (λ m' i. subst (λ (z : Made). AgreeWhereRead (set_up_of g d r) (state_at g d r) z x.look.words own.words) (made_same m' i) x.is_look.words_are)) ∙ near_steps;
+    fails = record {
+      waits = x.fails.waits;
+      before = Each-weaker (λ call. fails_at (found g r d) r call ≡ true → meets (set_up_of g d r) (state_at g d r) x.look call ≡ false)
+          (λ call. fails_at (found g r d) r call ≡ true → meets (set_up_of g d r) (state_at g d r) own call ≡ false)
+          (λ call h waits. sym (met_same call) ∙ h waits) (calls_before (failed_call m.kind) all_calls) x.fails.before;
+    };
+  }
+    where
+      made_same : (m' : Made) → step (set_up_of g d r) (state_at g d r) near ≡ Some m' → m ≡ m'
+      made_same m' i = let both : Some m ≡ Some m' = sym near_steps ∙ i in cc
+
+  pub turn_found : turn g r d ≡ after_step g r d m
+  turn_found = turn_told g r d m is_told
 
 -- where no step is ready
 pub turn_idle : (g : Given) (r : ℕ) (d : Driver) → step (set_up_of g d r) (state_at g d r) (plain_look (set_up_of g d r) (found g r d)) ≡ None → turn g r d ≡ found g r d

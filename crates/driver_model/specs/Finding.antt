@@ -1,16 +1,19 @@
 -- What a turn of the driver finds and leaves, told from the step that the repository makes (own).
-use Rattle.std.specs.Prelude.{◌≡◌, true, false, ℕ, if◌then◌else◌, List, [], ◌∷◌, Option, Some, None}
+use Rattle.std.specs.Prelude.{◌≡◌, true, false, ℕ, ◌+◌, if◌then◌else◌, List, [], ◌∷◌, Option, Some, None}
 use Rattle.annex_base.specs.Calls.{same_call}
 use Rattle.annex_base.specs.declared.kinds.Call.{Call}
 use Rattle.annex_base.specs.Lists.{Each}
 use Rattle.run_data.specs.declared.entry.EntryKind.{EntryKind}
 use Rattle.run_data.specs.declared.entry.EntryKind.TheVariants.{Fault}
+use Rattle.node_model.specs.Ends.{EndName}
 use Rattle.node_model.specs.Look.{Look, Made, entry_of}
 use Rattle.node_model.specs.SetUp.{SetUp}
 use Rattle.node_model.specs.State.{State}
 use Rattle.node_model.specs.Step.{step}
-use Rattle.driver_model.specs.Driver.{Driver, Given, adds, fails_at, set_up_of, state_at, without_old_flights}
-use Rattle.driver_model.specs.Turning.{all_calls, bytes_taken, calm_look, meets, plain_look, store_after}
+use Rattle.run_model.specs.Past.{now}
+use Rattle.driver_model.specs.Driver.{Driver, Given, adds, fails_at, frames_to, has_room, newest_count, set_up_of, state_at, without_old_flights}
+use Rattle.driver_model.specs.Turning.{all_calls, asked_key, at_hand, bytes_taken, meets, part_right, part_size, plain_look, store_after, told_words}
+use Rattle.driver_model.specs.WordsRead.{AgreeWhereRead}
 
 -- the driver as a turn of r finds it
 abbrev pub found : Given → ℕ → Driver → Driver
@@ -21,10 +24,18 @@ abbrev pub failed_call : EntryKind → Option Call
 failed_call (Fault call by) = Some call
 failed_call kind = None
 
--- The driver's look for this step: the time, the count, the frames at hand and the rooms are the driver's; the part is the one that the
--- step asks for, and whether it matches; the words are those told to the job that the step ends; the call fails that it tells.
-abbrev pub look_told : Given → Driver → ℕ → SetUp → State → Made → Look
-look_told g d r s st m = record (calm_look g d r s st m) { fails = failed_call m.kind }
+-- The look is the driver's for this step: the time, the count, the frames at hand and the rooms are the driver's; the part is the
+-- one that the step asks for, with whether it matches its key; the words agree with those told to the job that the step ends, where
+-- that end reads them; and the call fails that the step tells as failed.
+pub record IsLookFor (g : Given) (d : Driver) (r : ℕ) (s : SetUp) (st : State) (m : Made) (k : Look) : Type 0 where
+  pub time_is : k.time ≡ now d.past
+  pub count_is : k.count ≡ newest_count d.past + 1
+  pub hand_is : k.at_hand ≡ at_hand s (frames_to r d.flights)
+  pub room_is : (a : EndName) → k.room a ≡ has_room r d.flights a
+  pub part_is : k.part ≡ part_size d r (asked_key st m)
+  pub right_is : k.right ≡ part_right g d r (asked_key st m)
+  pub words_are : AgreeWhereRead s st m k.words (told_words d.past r m.kind)
+  pub fails_is : k.fails ≡ failed_call m.kind
 
 -- the calls before this one, or all where there is none
 abbrev pub calls_before : Option Call → List Call → List Call
@@ -37,10 +48,12 @@ pub record FailsFirst (d : Driver) (r : ℕ) (s : SetUp) (st : State) (k : Look)
   pub waits : (call : Call) → failed ≡ Some call → fails_at d r call ≡ true
   pub before : Each (λ call. fails_at d r call ≡ true → meets s st k call ≡ false) (calls_before failed all_calls)
 
--- r makes this step at the driver's look for it, where the call that fails is the first that is to fail
+-- r makes this step at the driver's look for it, and the call that fails in it is the first that is to fail
 pub record MakesStep (g : Given) (r : ℕ) (d : Driver) (m : Made) : Type 0 where
-  pub steps : step (set_up_of g d r) (state_at g d r) (look_told g (found g r d) r (set_up_of g d r) (state_at g d r) m) ≡ Some m
-  pub fails : FailsFirst (found g r d) r (set_up_of g d r) (state_at g d r) (look_told g (found g r d) r (set_up_of g d r) (state_at g d r) m) (failed_call m.kind)
+  pub look : Look
+  pub is_look : IsLookFor g (found g r d) r (set_up_of g d r) (state_at g d r) m look
+  pub steps : step (set_up_of g d r) (state_at g d r) look ≡ Some m
+  pub fails : FailsFirst (found g r d) r (set_up_of g d r) (state_at g d r) look (failed_call m.kind)
 
 -- the driver after this step of r: its entry stands, its frames are taken and sent, and the store is as it leaves it
 abbrev pub after_step : Given → ℕ → Driver → Made → Driver

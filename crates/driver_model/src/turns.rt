@@ -20,8 +20,8 @@ pub fn words_where_unseen()
 {}
 
 /// A turn of the driver, told from the step that its repository makes. Where no step is ready with the driver's frames, the turn only
-/// drops old frames. Where the repository makes a step at the driver's look for it, and fails in it at the first call that is to fail, the
-/// turn adds this step's entry. So a program that makes such steps needs no probe for the call that fails (own).
+/// drops old frames. Where the repository makes a step at a look that is the driver's for it, and fails in it at the first call that is
+/// to fail, the turn adds this step's entry. So a program that makes the step needs no probe for its part, words and failing call (own).
 pub fn turns_are_found()
     ensures idle { (g : Given) (r : ℕ) (d : Driver) → step (set_up_of g d r) (state_at g d r) (plain_look (set_up_of g d r) (found g r d)) ≡ None
         → turn g r d ≡ found g r d }
