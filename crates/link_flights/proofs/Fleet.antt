@@ -1,0 +1,126 @@
+-- The ends of all repositories after a turn of one of them.
+use Rattle.std.proofs.Common.{◌≡◌, ◌≢◌, ◌<◌, inl, inr, ℕ, Bool, true, false, not, List, [], ◌∷◌, Option, Some, None, refl, sym, ap, ◌∙◌, subst, arith}
+use Rattle.std.specs.Prelude.{◌==◌, map, nat_lt, slice_get}
+use Rattle.std.specs.Option.{option_map}
+use Rattle.std.proofs.lemmas.Bool.{cases_Bool, eqb-true, true≢false}
+use Rattle.std.proofs.lemmas.Bool.Decides.{nat_tests}
+use Rattle.annex_base.proofs.Conditions.{eqb_refl}
+use Rattle.annex_base.specs.Lists.{Each}
+use Rattle.annex_base.specs.declared.kinds.EntryStamp.{EntryStamp}
+use Rattle.annex_base.specs.declared.kinds.Word.{Word}
+use Rattle.link_ring.specs.Ends.{EndView, after_carry, after_drop}
+use Rattle.run_data.specs.declared.entry.Entry.{Entry}
+use Rattle.node_model.specs.Ends.{EndName}
+use Rattle.node_model.specs.State.{State}
+use Rattle.node_ends.specs.declared.sending.Sending.{Sending}
+use Rattle.node_ends.specs.Ends.{end_at, end_in, link_at, stands}
+use Rattle.node_ends.specs.Joined.{link_carried}
+use Rattle.driver_model.specs.Driver.{Driver, Flight, adds, without_old_flights}
+use Rattle.link_flights.specs.Entries.{PostsAt, link_after}
+use Rattle.link_flights.specs.Fleets.{AreAllCarried, AreEndsIn, Posted}
+use Rattle.link_flights.specs.Flights.{IsEndIn, other_end}
+use Rattle.link_flights.proofs.Naming.{other_twice}
+use Rattle.link_flights.proofs.Dropped.{end_elsewhere, link_drop}
+use Rattle.link_flights.proofs.Carried.{AreBothIn, both_dropped, both_turned, end_beside}
+
+slot_low : (xs : List EndView) (a : EndName) (v : EndView) → link_at xs a ≡ Some v → a.slot < 4
+slot_low xs a v is = elim (cases_Bool (nat_lt a.slot 4)) [
+  | inl low ↦ grind (arith, nat_tests)
+  | inr high ↦ absurd (let none : None ≡ Some v = rw high at is in cc)
+]
+
+-- both ends were there
+pub record Came (o p : Option EndView) (x : EndView) : Type 0 where
+  pub v : EndView
+  pub w : EndView
+  pub one : o ≡ Some v
+  pub two : p ≡ Some w
+  pub it : after_carry v w ≡ x
+
+came : (o p : Option EndView) (x : EndView) → link_carried o p ≡ Some x → Came o p x
+came None p x is = absurd (cc)
+came (Some v) None x is = absurd (cc)
+came (Some v) (Some w) x is = record { v = v; w = w; one = refl; two = refl; it = cc }
+
+pub record Mapped (f : EndView → EndView) (o : Option EndView) (x : EndView) : Type 0 where
+  pub v : EndView
+  pub was : o ≡ Some v
+  pub it : f v ≡ x
+
+mapped : (f : EndView → EndView) (o : Option EndView) (x : EndView) → option_map f o ≡ Some x → Mapped f o x
+mapped f None x is = absurd (cc)
+mapped f (Some v) x is = record { v = v; was = refl; it = cc }
+
+-- an end of r whose links these are becomes this one, and both ends of its connection fit the flights
+abbrev Becomes : List Flight → ℕ → List EndView → (ℕ → List EndView) → ℕ → Type 0
+Becomes xs count mine was r = (a : EndName) (v w : EndView) → a.peer < count → a.peer ≢ r → link_at mine a ≡ Some v → link_at (was a.peer) (other_end r a) ≡ Some w → AreBothIn xs r a v w
+
+module _ (xs : List Flight) (count r : ℕ) (mine : List EndView) (was now : ℕ → List EndView) (carried : AreAllCarried count r mine was now)
+    (becomes : Becomes xs count mine was r)
+    (beside : (q : ℕ) (b : EndName) (w : EndView) → q < count → b.peer < count → b.peer ≢ q → q ≢ r → b.peer ≢ r → link_at (was q) b ≡ Some w → IsEndIn xs q b w) where
+  at_own : (a : EndName) (x : EndView) → a.peer < count → a.peer ≢ r → link_at (now r) a ≡ Some x → IsEndIn xs r a x
+  at_own a x within apart is =
+      let c = came (link_at mine a) (link_at (was a.peer) (other_end r a)) x (sym (carried.own a within apart (slot_low (now r) a x is)) ∙ is) in
+      subst (λ (y : EndView). IsEndIn xs r a y) c.it (becomes a c.v c.w within apart c.one c.two).own
+
+  at_theirs : (q : ℕ) (b : EndName) (x : EndView) → q < count → q ≢ r → b.peer ≡ r → link_at (now q) b ≡ Some x → IsEndIn xs q b x
+  at_theirs q b x within apart with' is =
+      let c = came (link_at (was q) b) (link_at mine (other_end q b)) x (sym (carried.theirs q b within apart with' (slot_low (now q) b x is)) ∙ is) in
+      let same : other_end r (other_end q b) ≡ b = other_twice r b with' q in
+      let both = becomes (other_end q b) c.w c.v within apart c.two (subst (λ (z : EndName). link_at (was q) z ≡ Some c.v) (sym same) c.one) in
+      subst (λ (y : EndView). IsEndIn xs q b y) c.it (subst (λ (z : EndName). IsEndIn xs q z (after_carry c.v c.w)) same both.other)
+
+  pub all_in : r < count → AreEndsIn xs count now
+  all_in known q a x within peer apart is = elim (cases_Bool (q == r)) [
+    | inl same ↦
+        let e : q ≡ r = eqb-true q r same in
+        subst (λ (k : ℕ). IsEndIn xs k a x) (sym e) (at_own a x peer (λ z. apart (z ∙ sym e)) (subst (λ (k : ℕ). link_at (now k) a ≡ Some x) e is))
+    | inr other ↦ elim (cases_Bool (a.peer == r)) [
+      | inl with' ↦ at_theirs q a x within (differs q r other) (eqb-true a.peer r with') is
+      | inr others ↦ beside q a x within peer apart (differs q r other) (differs a.peer r others) (sym (carried.others q a within (differs q r other) (differs a.peer r others)) ∙ is)
+    ]
+  ] where
+    differs : (m n : ℕ) → (m == n) ≡ false → m ≢ n
+    differs m n is same = true≢false (sym (eqb_refl n) ∙ subst (λ (k : ℕ). (k == n) ≡ false) same is)
+
+-- ---- a turn of r
+
+module _ (d : Driver) (st : State) (count r : ℕ) (was now : ℕ → List EndView) (known : r < count)
+    (stand : (a : EndName) → a.peer < count → a.peer ≢ r → a.slot < 4 → st.ends a ≡ end_at (was r) a) (ends : AreEndsIn d.flights count was) where
+  stood : (a : EndName) (v : EndView) → a.peer < count → a.peer ≢ r → link_at (was r) a ≡ Some v → st.ends a ≡ stands v
+  stood a v within apart is = stand a within apart (slot_low (was r) a v is) ∙ ap end_in is
+
+  other_in : (a : EndName) (w : EndView) → a.peer < count → a.peer ≢ r → link_at (was a.peer) (other_end r a) ≡ Some w → IsEndIn d.flights a.peer (other_end r a) w
+  other_in a w within apart is = ends a.peer (other_end r a) w within known (λ same. apart (sym same)) is
+
+  pub turned_in : (sender : EntryStamp) (word : EndName → Sending → Option Word) (said : EndName → List Sending) (e : Entry) (mine : List EndView)
+      → Posted (without_old_flights st r d) st count r sender word said (map after_drop (was r)) mine e → AreAllCarried count r mine was now
+      → AreEndsIn (adds st r e (without_old_flights st r d)).flights count now
+  turned_in sender word said e mine posted carried = all_in (adds st r e (without_old_flights st r d)).flights count r mine was now carried becomes beside known
+    where
+      becomes : Becomes (adds st r e (without_old_flights st r d)).flights count mine was r
+      becomes a x w within apart is other =
+          let m = mapped (link_after sender (word a) a e.taken (said a)) (link_at (map after_drop (was r)) a) x (sym (posted.links a) ∙ is) in
+          let n = mapped after_drop (link_at (was r) a) m.v (sym (link_drop (was r) a) ∙ m.was) in
+          let posts : PostsAt (without_old_flights st r d) st r a (after_drop n.v) e.taken e.sent (said a) =
+          subst (λ (y : EndView). PostsAt (without_old_flights st r d) st r a y e.taken e.sent (said a)) (sym n.it) (posted.posts a m.v within apart m.was) in
+          subst (λ (y : EndView). AreBothIn (adds st r e (without_old_flights st r d)).flights r a y w)
+          (ap (link_after sender (word a) a e.taken (said a)) n.it ∙ m.it)
+          (both_turned d st r a n.v w e (said a) sender (word a) apart posted.elsewhere (stood a n.v within apart n.was) (ends r a n.v known within apart n.was) (other_in a w within apart other) posts)
+
+      beside : (q : ℕ) (b : EndName) (w : EndView) → q < count → b.peer < count → b.peer ≢ q → q ≢ r → b.peer ≢ r → link_at (was q) b ≡ Some w
+          → IsEndIn (adds st r e (without_old_flights st r d)).flights q b w
+      beside q b w within peer apart one two is =
+          end_beside (without_old_flights st r d) st r q b w e one two (end_elsewhere d st r q b w one two (ends q b w within peer apart is))
+
+  pub idle_in : AreAllCarried count r (map after_drop (was r)) was now → AreEndsIn (without_old_flights st r d).flights count now
+  idle_in carried = all_in (without_old_flights st r d).flights count r (map after_drop (was r)) was now carried becomes beside known
+    where
+      becomes : Becomes (without_old_flights st r d).flights count (map after_drop (was r)) was r
+      becomes a x w within apart is other =
+          let n = mapped after_drop (link_at (was r) a) x (sym (link_drop (was r) a) ∙ is) in
+          subst (λ (y : EndView). AreBothIn (without_old_flights st r d).flights r a y w) n.it
+          (both_dropped d st r a n.v w apart (stood a n.v within apart n.was) (ends r a n.v known within apart n.was) (other_in a w within apart other))
+
+      beside : (q : ℕ) (b : EndName) (w : EndView) → q < count → b.peer < count → b.peer ≢ q → q ≢ r → b.peer ≢ r → link_at (was q) b ≡ Some w → IsEndIn (without_old_flights st r d).flights q b w
+      beside q b w within peer apart one two is = end_elsewhere d st r q b w one two (ends q b w within peer apart is)

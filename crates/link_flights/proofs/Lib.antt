@@ -1,0 +1,10 @@
+-- The lemmas of this crate.
+pub mod Lists
+pub mod Naming
+pub mod Dropped
+pub mod Looked
+pub mod Said
+pub mod Flown
+pub mod Carried
+pub mod Fleet
+pub mod Quiet

@@ -1,0 +1,10 @@
+-- A turn of one repository and the ends of all.
+use Rattle.link_flights.proofs.Fleet.{idle_in, turned_in}
+use Rattle.link_flights.proofs.laws.turns_keep_all_ends.Goals as goal
+
+pub returns-clause-moved : goal.returns-clause-moved
+returns-clause-moved c d st count r was now mine e sender word said known stand ends posted carried =
+    turned_in d st count r was now known stand ends sender word said e mine posted carried
+
+pub returns-clause-idle : goal.returns-clause-idle
+returns-clause-idle c = idle_in

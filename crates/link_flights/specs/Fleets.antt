@@ -1,0 +1,32 @@
+-- The ends of all repositories, and what a turn of one of them makes of them (own).
+use Rattle.std.specs.Prelude.{◌≡◌, ◌≢◌, ◌<◌, ℕ, List, map, Option, Some}
+use Rattle.std.specs.Option.{option_map}
+use Rattle.annex_base.specs.Lists.{Each}
+use Rattle.annex_base.specs.declared.kinds.EntryStamp.{EntryStamp}
+use Rattle.annex_base.specs.declared.kinds.Word.{Word}
+use Rattle.link_ring.specs.Ends.{EndView, after_drop}
+use Rattle.run_data.specs.declared.entry.Entry.{Entry}
+use Rattle.node_model.specs.Ends.{EndName}
+use Rattle.node_model.specs.State.{State}
+use Rattle.node_ends.specs.declared.sending.Sending.{Sending}
+use Rattle.node_ends.specs.Ends.{link_at}
+use Rattle.node_ends.specs.Joined.{link_carried}
+use Rattle.driver_model.specs.Driver.{Driver, Flight}
+use Rattle.link_flights.specs.Entries.{PostsAt, link_after}
+use Rattle.link_flights.specs.Flights.{IsEndIn, other_end}
+
+-- the ends that so many repositories have at each other are as these flights tell
+abbrev pub AreEndsIn : List Flight → ℕ → (ℕ → List EndView) → Type 0
+AreEndsIn xs count ends = (q : ℕ) (a : EndName) (v : EndView) → q < count → a.peer < count → a.peer ≢ q → link_at (ends q) a ≡ Some v → IsEndIn xs q a v
+
+-- Frames were carried between the ends of r, which were these, and those of each other repository.
+pub record AreAllCarried (count r : ℕ) (mine : List EndView) (was now : ℕ → List EndView) : Type 0 where
+  pub own : (a : EndName) → a.peer < count → a.peer ≢ r → a.slot < 4 → link_at (now r) a ≡ link_carried (link_at mine a) (link_at (was a.peer) (other_end r a))
+  pub theirs : (q : ℕ) (b : EndName) → q < count → q ≢ r → b.peer ≡ r → b.slot < 4 → link_at (now q) b ≡ link_carried (link_at (was q) b) (link_at mine (other_end q b))
+  pub others : (q : ℕ) (b : EndName) → q < count → q ≢ r → b.peer ≢ r → link_at (now q) b ≡ link_at (was q) b
+
+-- The entry of r took and sent at the ends of r as the definition does; this was said at each, and these they became.
+pub record Posted (d : Driver) (st : State) (count r : ℕ) (sender : EntryStamp) (word : EndName → Sending → Option Word) (said : EndName → List Sending) (was now : List EndView) (e : Entry) : Type 0 where
+  pub elsewhere : Each (λ f. f.peer ≢ r) e.sent
+  pub posts : (a : EndName) (v : EndView) → a.peer < count → a.peer ≢ r → link_at was a ≡ Some v → PostsAt d st r a v e.taken e.sent (said a)
+  pub links : (a : EndName) → link_at now a ≡ option_map (link_after sender (word a) a e.taken (said a)) (link_at was a)

@@ -1,0 +1,94 @@
+//! The laws of ends and flights. Each is the contract of a function that does nothing.
+ghost use Rattle.std.specs.Prelude.{◌≡◌, ◌≢◌, ◌<◌, ◌+◌, ◌-◌, ◌^◌, ℕ, List, [], false, map, Option, Some, None};
+ghost use Rattle.annex_base.specs.Lists.{Each, Member};
+ghost use Rattle.annex_base.specs.declared.kinds.EntryStamp.{EntryStamp};
+ghost use Rattle.annex_base.specs.declared.kinds.Word.{Word};
+ghost use Rattle.link_ring.specs.Ends.{EndView, after_carry, after_drop, fresh};
+ghost use Rattle.run_data.specs.declared.entry.Entry.{Entry};
+ghost use Rattle.run_data.specs.declared.entry.EntryKind.{EntryKind};
+ghost use Rattle.node_model.specs.AnyTime.{all_ends};
+ghost use Rattle.node_model.specs.Ends.{EndName, is_opening, sent_at, taken_at};
+ghost use Rattle.node_model.specs.Look.{Look, Made, entry_of};
+ghost use Rattle.node_model.specs.SetUp.{SetUp};
+ghost use Rattle.node_model.specs.State.{State};
+ghost use Rattle.node_ends.specs.declared.sending.Sending.{Sending};
+ghost use Rattle.node_ends.specs.Ends.{AreEnds, SeesEnds, end_at, link_at, room_at, stands};
+ghost use Rattle.driver_model.specs.Driver.{Driver, adds, at_first, without_old_flights};
+ghost use Rattle.driver_model.specs.Turning.{makes, plain_look, store_after};
+ghost use Rattle.link_flights.specs.Entries.{PostsAt, link_after};
+ghost use Rattle.link_flights.specs.Fleets.{AreAllCarried, AreEndsIn, Posted};
+ghost use Rattle.link_flights.specs.Flights.{HasAtHand, IsEndIn, other_end};
+
+use node_ends::ends_are_there;
+
+/// A look at the ends of a repository, before or after they dropped what is old, finds the frames and the room that a plain look of
+/// the driver finds once it dropped the old flights (own). An end has room there while numbers are left for its frames and
+/// openings, which the driver doesn't count.
+pub fn looks_see_the_flights()
+    ensures at_hand { (links : List EndView) (s : SetUp) (st : State) (d : Driver) (k : Look) → AreEnds links s st
+        → ((a : EndName) (v : EndView) → Member a (all_ends s) → link_at links a ≡ Some v → IsEndIn d.flights s.number a v)
+        → SeesEnds links s k → k.at_hand ≡ (plain_look s (without_old_flights st s.number d)).at_hand }
+    ensures dropped { (links : List EndView) (s : SetUp) (st : State) (d : Driver) (k : Look) → AreEnds links s st
+        → ((a : EndName) (v : EndView) → Member a (all_ends s) → link_at links a ≡ Some v → IsEndIn d.flights s.number a v)
+        → SeesEnds (map after_drop links) s k → k.at_hand ≡ (plain_look s (without_old_flights st s.number d)).at_hand }
+    ensures room { (links : List EndView) (s : SetUp) (st : State) (d : Driver) (a : EndName) (v : EndView) → Member a (all_ends s)
+        → link_at links a ≡ Some v → IsEndIn d.flights s.number a v → v.sent + 1 < 2 ^ 62 → v.epoch < 2 ^ 32 - 1
+        → room_at links a ≡ (plain_look s (without_old_flights st s.number d)).room a }
+{
+    // For the proof, which cites it.
+    ends_are_there();
+}
+
+/// What the driver drops before a turn of r is what the ends of r drop. At the ends of others the same frames stay at hand (own).
+pub fn dropped_ends_keep_their_flights()
+    ensures own { (d : Driver) (st : State) (r : ℕ) (a : EndName) (v : EndView) → a.peer ≢ r → st.ends a ≡ stands v → IsEndIn d.flights r a v
+        → IsEndIn (without_old_flights st r d).flights r a (after_drop v) }
+    ensures others { (d : Driver) (st : State) (r q : ℕ) (b : EndName) (w : EndView) → q ≢ r → HasAtHand d.flights q b w
+        → HasAtHand (without_old_flights st r d).flights q b w }
+    ensures beside { (d : Driver) (st : State) (r q : ℕ) (b : EndName) (w : EndView) → q ≢ r → b.peer ≢ r → IsEndIn d.flights q b w
+        → IsEndIn (without_old_flights st r d).flights q b w }
+{}
+
+/// What an entry of r takes and sends at an end of r, it takes and sends in the driver, once frames were carried over the
+/// connection: both ends are as the flights tell. Old frames are dropped before a turn; a Close or a Crash of the script, which
+/// takes and opens nothing, comes without (own).
+pub fn entries_fly_over_connections()
+    ensures turn { (d : Driver) (st : State) (r : ℕ) (a : EndName) (v w : EndView) (e : Entry) (said : List Sending) (sender : EntryStamp) (word : Sending → Option Word)
+        → a.peer ≢ r → Each (λ f. f.peer ≢ r) e.sent → st.ends a ≡ stands v → IsEndIn d.flights r a v → IsEndIn d.flights a.peer (other_end r a) w
+        → PostsAt (without_old_flights st r d) st r a (after_drop v) e.taken e.sent said
+        → IsEndIn (adds st r e (without_old_flights st r d)).flights r a (after_carry (link_after sender word a e.taken said (after_drop v)) w)
+        × IsEndIn (adds st r e (without_old_flights st r d)).flights a.peer (other_end r a) (after_carry w (link_after sender word a e.taken said (after_drop v))) }
+    ensures idle { (d : Driver) (st : State) (r : ℕ) (a : EndName) (v w : EndView)
+        → a.peer ≢ r → st.ends a ≡ stands v → IsEndIn d.flights r a v → IsEndIn d.flights a.peer (other_end r a) w
+        → IsEndIn (without_old_flights st r d).flights r a (after_carry (after_drop v) w)
+        × IsEndIn (without_old_flights st r d).flights a.peer (other_end r a) (after_carry w (after_drop v)) }
+    ensures close { (d : Driver) (st : State) (r : ℕ) (a : EndName) (v w : EndView) (e : Entry) (said : List Sending) (sender : EntryStamp) (word : Sending → Option Word)
+        → a.peer ≢ r → Each (λ f. f.peer ≢ r) e.sent → IsEndIn d.flights r a v → IsEndIn d.flights a.peer (other_end r a) w
+        → PostsAt d st r a v e.taken e.sent said → taken_at a e.taken ≡ None → Each (λ b. is_opening b ≡ false) (map (λ f. f.body) (sent_at a e.sent))
+        → IsEndIn (adds st r e d).flights r a (after_carry (link_after sender word a e.taken said v) w)
+        × IsEndIn (adds st r e d).flights a.peer (other_end r a) (after_carry w (link_after sender word a e.taken said v)) }
+    ensures beside { (d : Driver) (st : State) (r q : ℕ) (b : EndName) (w : EndView) (e : Entry) → q ≢ r → b.peer ≢ r → IsEndIn d.flights q b w
+        → IsEndIn (adds st r e d).flights q b w }
+{}
+
+/// A turn of one repository, with an entry or without, after which frames were carried between it and each other one, leaves the ends
+/// of all repositories as the flights tell (own).
+pub fn turns_keep_all_ends()
+    ensures moved { (d : Driver) (st : State) (count r : ℕ) (was now : ℕ → List EndView) (mine : List EndView) (e : Entry) (sender : EntryStamp)
+        (word : EndName → Sending → Option Word) (said : EndName → List Sending) → r < count
+        → ((a : EndName) → a.peer < count → a.peer ≢ r → a.slot < 4 → st.ends a ≡ end_at (was r) a) → AreEndsIn d.flights count was
+        → Posted (without_old_flights st r d) st count r sender word said (map after_drop (was r)) mine e
+        → AreAllCarried count r mine was now → AreEndsIn (adds st r e (without_old_flights st r d)).flights count now }
+    ensures idle { (d : Driver) (st : State) (count r : ℕ) (was now : ℕ → List EndView) → r < count
+        → ((a : EndName) → a.peer < count → a.peer ≢ r → a.slot < 4 → st.ends a ≡ end_at (was r) a) → AreEndsIn d.flights count was
+        → AreAllCarried count r (map after_drop (was r)) was now → AreEndsIn (without_old_flights st r d).flights count now }
+{}
+
+/// Before the first entry no end has a frame, and there are no flights; an entry that takes and sends nothing changes neither, nor does
+/// what a step does to its store (own).
+pub fn ends_begin_without_flights()
+    ensures first { (r : ℕ) (a : EndName) → IsEndIn at_first.flights r a fresh }
+    ensures quiet { (d : Driver) (st : State) (r : ℕ) (e : Entry) → e.taken ≡ None → e.sent ≡ [] → (adds st r e d).flights ≡ d.flights }
+    ensures store { (d : Driver) (st : State) (r : ℕ) (m : Made) (bytes : List ℕ) (kind : EntryKind) → (store_after st r m bytes kind d).flights ≡ d.flights }
+    ensures made { (d : Driver) (st : State) (r : ℕ) (k : Look) (m : Made) → (makes st r k (Some m) d).flights ≡ (adds st r (entry_of r k m) d).flights }
+{}
