@@ -115,7 +115,7 @@ module _ (d : Driver) (st : State) (r : ℕ) where
   -- nor to an end that has another peer
   pub none_beside : (q : ℕ) (b : EndName) (fs : List FrameView) → b.peer ≢ r → filter (comes_to q b) (map (flight d st r) fs) ≡ []
   none_beside q b [] apart = refl
-  none_beside q b (f ∷ fs) apart = miss (comes_to q b (flight d st r f)) refl
+  none_beside q b (f ∷ fs) apart = rw (here) (none_beside q b fs apart)
     where
       other : (r == b.peer) ≡ false
       other = number_apart r b.peer (λ same. apart (sym same))
@@ -126,6 +126,3 @@ module _ (d : Driver) (st : State) (r : ℕ) where
 
       here : comes_to q b (flight d st r f) ≡ false
       here = rw other (none (f.peer == q) (f.slot == b.slot) (same_bool b.client (if f.up then false else true)))
-
-      miss : (c : Bool) → comes_to q b (flight d st r f) ≡ c → filter (comes_to q b) (map (flight d st r) (f ∷ fs)) ≡ []
-      miss c is = rw here (none_beside q b fs apart)
