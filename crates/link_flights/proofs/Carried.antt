@@ -74,13 +74,13 @@ module _ (d : Driver) (st : State) (r : ℕ) (a : EndName) (v w : EndView) (e : 
 
 -- a turn: old frames are dropped first
 pub both_turned : (d : Driver) (st : State) (r : ℕ) (a : EndName) (v w : EndView) (e : Entry) (said : List Sending) (sender : EntryStamp) (word : Sending → Option Word)
-    → a.peer ≢ r → Each (λ f. f.peer ≢ r) e.sent → st.ends a ≡ stands v → IsEndIn d.flights r a v → IsEndIn d.flights a.peer (other_end r a) w
+    → a.peer ≢ r → st.ends a ≡ stands v → IsEndIn d.flights r a v → IsEndIn d.flights a.peer (other_end r a) w
     → PostsAt (without_old_flights st r d) st r a (after_drop v) e.taken e.sent said
     → AreBothIn (adds st r e (without_old_flights st r d)).flights r a (link_after sender word a e.taken said (after_drop v)) w
-both_turned d st r a v w e said sender word apart elsewhere at own other posts =
+both_turned d st r a v w e said sender word apart at own other posts =
     both_posted (without_old_flights st r d) st r a (after_drop v) w e said sender word posts apart own.on_way
     (hand_elsewhere st d r a.peer (other_end r a) w apart other.at_hand) other.on_way
-    (hand_now_young (without_old_flights st r d) st r a (after_drop v) e.taken e.sent said sender word posts (each_filtered (is_taken v) v.at_hand) (hand_dropped st r d.flights a v at own.at_hand) elsewhere)
+    (hand_now_young (without_old_flights st r d) st r a (after_drop v) e.taken e.sent said sender word posts (each_filtered (is_taken v) v.at_hand) (hand_dropped st r d.flights a v at own.at_hand) apart)
 
 -- a turn without an entry
 pub both_dropped : (d : Driver) (st : State) (r : ℕ) (a : EndName) (v w : EndView) → a.peer ≢ r → st.ends a ≡ stands v → IsEndIn d.flights r a v → IsEndIn d.flights a.peer (other_end r a) w
@@ -90,12 +90,12 @@ both_dropped d st r a v w apart at own other =
 
 -- an entry that takes and opens nothing, with no drop before it
 pub both_closed : (d : Driver) (st : State) (r : ℕ) (a : EndName) (v w : EndView) (e : Entry) (said : List Sending) (sender : EntryStamp) (word : Sending → Option Word)
-    → a.peer ≢ r → Each (λ f. f.peer ≢ r) e.sent → IsEndIn d.flights r a v → IsEndIn d.flights a.peer (other_end r a) w
+    → a.peer ≢ r → IsEndIn d.flights r a v → IsEndIn d.flights a.peer (other_end r a) w
     → PostsAt d st r a v e.taken e.sent said → taken_at a e.taken ≡ None → Each (λ b. is_opening b ≡ false) (map (λ f. f.body) (sent_at a e.sent))
     → AreBothIn (adds st r e d).flights r a (link_after sender word a e.taken said v) w
-both_closed d st r a v w e said sender word apart elsewhere own other posts none opens =
+both_closed d st r a v w e said sender word apart own other posts none opens =
     both_posted d st r a v w e said sender word posts apart own.on_way other.at_hand other.on_way
-    (hand_now_still d st r a v e.taken e.sent said sender word posts none opens own.at_hand elsewhere)
+    (hand_now_still d st r a v e.taken e.sent said sender word posts none opens own.at_hand apart)
 
 -- ---- over a connection between two others
 

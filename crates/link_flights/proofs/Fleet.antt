@@ -6,11 +6,13 @@ use Rattle.std.proofs.lemmas.Bool.{cases_Bool, eqb-true, true≢false}
 use Rattle.std.proofs.lemmas.Bool.Decides.{nat_tests}
 use Rattle.annex_base.proofs.Conditions.{eqb_refl}
 use Rattle.annex_base.specs.Lists.{Each}
+use Rattle.annex_base.proofs.Lists.{Each-filter, Each-map}
 use Rattle.annex_base.specs.declared.kinds.EntryStamp.{EntryStamp}
 use Rattle.annex_base.specs.declared.kinds.Word.{Word}
 use Rattle.link_ring.specs.Ends.{EndView, after_carry, after_drop}
 use Rattle.run_data.specs.declared.entry.Entry.{Entry}
-use Rattle.node_model.specs.Ends.{EndName}
+use Rattle.run_data.specs.declared.entry.FrameView.{FrameView}
+use Rattle.node_model.specs.Ends.{EndName, is_opening, sends_at, sent_at, taken_at}
 use Rattle.node_model.specs.State.{State}
 use Rattle.node_ends.specs.declared.sending.Sending.{Sending}
 use Rattle.node_ends.specs.Ends.{end_at, end_in, link_at, stands}
@@ -21,7 +23,7 @@ use Rattle.link_flights.specs.Fleets.{AreAllCarried, AreEndsIn, Posted}
 use Rattle.link_flights.specs.Flights.{IsEndIn, other_end}
 use Rattle.link_flights.proofs.Naming.{other_twice}
 use Rattle.link_flights.proofs.Dropped.{end_elsewhere, link_drop}
-use Rattle.link_flights.proofs.Carried.{AreBothIn, both_dropped, both_turned, end_beside}
+use Rattle.link_flights.proofs.Carried.{AreBothIn, both_closed, both_dropped, both_turned, end_beside}
 
 slot_low : (xs : List EndView) (a : EndName) (v : EndView) → link_at xs a ≡ Some v → a.slot < 4
 slot_low xs a v is = elim (cases_Bool (nat_lt a.slot 4)) [
@@ -106,7 +108,7 @@ module _ (d : Driver) (st : State) (count r : ℕ) (was now : ℕ → List EndVi
           subst (λ (y : EndView). PostsAt (without_old_flights st r d) st r a y e.taken e.sent (said a)) (sym n.it) (posted.posts a m.v within apart m.was) in
           subst (λ (y : EndView). AreBothIn (adds st r e (without_old_flights st r d)).flights r a y w)
           (ap (link_after sender (word a) a e.taken (said a)) n.it ∙ m.it)
-          (both_turned d st r a n.v w e (said a) sender (word a) apart posted.elsewhere (stood a n.v within apart n.was) (ends r a n.v known within apart n.was) (other_in a w within apart other) posts)
+          (both_turned d st r a n.v w e (said a) sender (word a) apart (stood a n.v within apart n.was) (ends r a n.v known within apart n.was) (other_in a w within apart other) posts)
 
       beside : (q : ℕ) (b : EndName) (w : EndView) → q < count → b.peer < count → b.peer ≢ q → q ≢ r → b.peer ≢ r → link_at (was q) b ≡ Some w
           → IsEndIn (adds st r e (without_old_flights st r d)).flights q b w
@@ -124,3 +126,24 @@ module _ (d : Driver) (st : State) (count r : ℕ) (was now : ℕ → List EndVi
 
       beside : (q : ℕ) (b : EndName) (w : EndView) → q < count → b.peer < count → b.peer ≢ q → q ≢ r → b.peer ≢ r → link_at (was q) b ≡ Some w → IsEndIn (without_old_flights st r d).flights q b w
       beside q b w within peer apart one two is = end_elsewhere d st r q b w one two (ends q b w within peer apart is)
+
+-- ---- an entry of r that takes and opens nothing, and comes without a turn
+
+module _ (d : Driver) (st : State) (count r : ℕ) (was now : ℕ → List EndView) (known : r < count) (ends : AreEndsIn d.flights count was) where
+  pub closed_in : (sender : EntryStamp) (word : EndName → Sending → Option Word) (said : EndName → List Sending) (e : Entry) (mine : List EndView)
+      → e.taken ≡ None → Each (λ f. is_opening f.body ≡ false) e.sent → Posted d st count r sender word said (was r) mine e → AreAllCarried count r mine was now
+      → AreEndsIn (adds st r e d).flights count now
+  closed_in sender word said e mine none closes posted carried = all_in (adds st r e d).flights count r mine was now carried becomes beside known
+    where
+      bodies : (fs : List FrameView) → Each (λ f. is_opening f.body ≡ false) fs → Each (λ b. is_opening b ≡ false) (map (λ (f : FrameView). f.body) fs)
+      bodies fs all = Each-map (λ b. is_opening b ≡ false) (λ (f : FrameView). f.body) fs all
+
+      becomes : Becomes (adds st r e d).flights count mine was r
+      becomes a x w within apart is other =
+          let m = mapped (link_after sender (word a) a e.taken (said a)) (link_at (was r) a) x (sym (posted.links a) ∙ is) in
+          subst (λ (y : EndView). AreBothIn (adds st r e d).flights r a y w) m.it
+          (both_closed d st r a m.v w e (said a) sender (word a) apart (ends r a m.v known within apart m.was) (ends a.peer (other_end r a) w within known (λ same. apart (sym same)) other)
+          (posted.posts a m.v within apart m.was) (ap (taken_at a) none) (bodies (sent_at a e.sent) (Each-filter (λ f. is_opening f.body ≡ false) (sends_at a) e.sent closes)))
+
+      beside : (q : ℕ) (b : EndName) (w : EndView) → q < count → b.peer < count → b.peer ≢ q → q ≢ r → b.peer ≢ r → link_at (was q) b ≡ Some w → IsEndIn (adds st r e d).flights q b w
+      beside q b w within peer apart one two is = end_beside d st r q b w e one two (ends q b w within peer apart is)

@@ -21,7 +21,7 @@ use Rattle.driver_model.specs.Driver.{Driver, Flight, but_first, but_taken, flig
 use Rattle.link_flights.specs.Entries.{HasPiece, OpensClosed, PostsAt, link_after, taken_off}
 use Rattle.link_flights.specs.Flights.{HasAtHand, comes_to, flight_at, other_end}
 use Rattle.link_flights.proofs.Lists.{but_other, but_own, rest, rest_mapped}
-use Rattle.link_flights.proofs.Naming.{at_elsewhere, at_other, at_own, none_back, none_beside, sent_there}
+use Rattle.link_flights.proofs.Naming.{at_elsewhere, at_other, at_own, none_beside, sent_there}
 use Rattle.link_flights.proofs.Said.{flies, hand_says, hand_sends, hand_taken, none_opened, stands_taken, way_taken}
 
 -- ---- the flights
@@ -54,9 +54,9 @@ module _ (d : Driver) (st : State) (r : ℕ) (taken : Option FrameView) (sent : 
   split_now q b = filter-append (comes_to q b) (but_taken r taken d.flights) (map (flight d st r) sent)
 
   -- to an end of r
-  pub come_here : (a : EndName) → Each (λ f. f.peer ≢ r) sent → filter (comes_to r a) flights_now ≡ without_taken (taken_at a taken) (filter (comes_to r a) d.flights)
-  come_here a elsewhere =
-      split_now r a ∙ ap (λ (xs : List Flight). filter (comes_to r a) (but_taken r taken d.flights) ++ xs) (none_back d st r a sent elsewhere)
+  pub come_here : (a : EndName) → a.peer ≢ r → filter (comes_to r a) flights_now ≡ without_taken (taken_at a taken) (filter (comes_to r a) d.flights)
+  come_here a apart =
+      split_now r a ∙ ap (λ (xs : List Flight). filter (comes_to r a) (but_taken r taken d.flights) ++ xs) (none_beside d st r r a sent apart)
       ∙ append-nil (filter (comes_to r a) (but_taken r taken d.flights)) ∙ but_here r a taken d.flights
 
   -- to the other end of a connection of r
@@ -120,14 +120,14 @@ module _ (d : Driver) (st : State) (r : ℕ) (a : EndName) (v : EndView) (taken 
       go None is = hand_sends d st r a sender word said v (subst (λ (bodies : List FrameText). Each (λ b. is_opening b ≡ false) bodies) (sym posts.listed) opens)
       go (Some f) is = absurd (cc)
 
-  hand_now : after.at_hand ≡ without_taken (taken_at a taken) v.at_hand → HasAtHand d.flights r a v → Each (λ f. f.peer ≢ r) sent → HasAtHand (flights_now d st r taken sent) r a after
-  hand_now kept hand elsewhere =
+  hand_now : after.at_hand ≡ without_taken (taken_at a taken) v.at_hand → HasAtHand d.flights r a v → a.peer ≢ r → HasAtHand (flights_now d st r taken sent) r a after
+  hand_now kept hand apart =
       ap (map (flight_at r a)) kept ∙ mapped_without (flight_at r a) (taken_at a taken) v.at_hand (filter (comes_to r a) d.flights) hand
-      ∙ sym (come_here d st r taken sent a elsewhere)
+      ∙ sym (come_here d st r taken sent a apart)
 
-  pub hand_now_young : Each (λ f. is_taken v f ≡ true) v.at_hand → HasAtHand d.flights r a v → Each (λ f. f.peer ≢ r) sent → HasAtHand (flights_now d st r taken sent) r a after
-  hand_now_young young hand elsewhere = hand_now (hand_young young) hand elsewhere
+  pub hand_now_young : Each (λ f. is_taken v f ≡ true) v.at_hand → HasAtHand d.flights r a v → a.peer ≢ r → HasAtHand (flights_now d st r taken sent) r a after
+  hand_now_young young hand apart = hand_now (hand_young young) hand apart
 
-  pub hand_now_still : taken_at a taken ≡ None → Each (λ b. is_opening b ≡ false) (map (λ f. f.body) (sent_at a sent)) → HasAtHand d.flights r a v → Each (λ f. f.peer ≢ r) sent
+  pub hand_now_still : taken_at a taken ≡ None → Each (λ b. is_opening b ≡ false) (map (λ f. f.body) (sent_at a sent)) → HasAtHand d.flights r a v → a.peer ≢ r
       → HasAtHand (flights_now d st r taken sent) r a after
-  hand_now_still none opens hand elsewhere = hand_now (hand_still none opens) hand elsewhere
+  hand_now_still none opens hand apart = hand_now (hand_still none opens) hand apart

@@ -3,7 +3,6 @@ use Rattle.std.proofs.Common.{◌≡◌, ◌≢◌, inl, inr, ℕ, Bool, true, f
 use Rattle.std.specs.Prelude.{◌==◌, filter, length, map}
 use Rattle.std.proofs.lemmas.Bool.{and_parts, cases_Bool, eqb-true, false_from_ne_true, true≢false}
 use Rattle.annex_base.proofs.Conditions.{eqb_refl}
-use Rattle.annex_base.specs.Lists.{Each}
 use Rattle.link_ring.specs.declared.frame.Frame.{Frame}
 use Rattle.run_data.specs.declared.entry.FrameView.{FrameView}
 use Rattle.node_model.specs.Ends.{EndName, same_bool, sends_at, sent_at, takes_at}
@@ -107,12 +106,7 @@ module _ (d : Driver) (st : State) (r : ℕ) where
   pub sent_there : (a : EndName) (fs : List FrameView) → filter (comes_to a.peer (other_end r a)) (map (flight d st r) fs) ≡ map (flight d st r) (sent_at a fs)
   sent_there a fs = filter_mapped (flight d st r) (comes_to a.peer (other_end r a)) (sends_at a) (flight_comes a) fs
 
-  -- nothing of it comes to r itself
-  pub none_back : (a : EndName) (fs : List FrameView) → Each (λ f. f.peer ≢ r) fs → filter (comes_to r a) (map (flight d st r) fs) ≡ []
-  none_back a [] all = refl
-  none_back a (f ∷ fs) all = let other : (f.peer == r) ≡ false = number_apart f.peer r all.0 in rw other (none_back a fs all.1)
-
-  -- nor to an end that has another peer
+  -- none of it comes to an end that has another peer
   pub none_beside : (q : ℕ) (b : EndName) (fs : List FrameView) → b.peer ≢ r → filter (comes_to q b) (map (flight d st r) fs) ≡ []
   none_beside q b [] apart = refl
   none_beside q b (f ∷ fs) apart = rw (here) (none_beside q b fs apart)

@@ -1,8 +1,9 @@
 -- What leaves the flights as they are.
-use Rattle.std.proofs.Common.{◌≡◌, ℕ, Bool, true, false, List, [], ◌∷◌, ◌++◌, Option, Some, None, refl, sym, ap, ◌∙◌, subst}
-use Rattle.std.specs.Prelude.{if◌then◌else◌, map}
+use Rattle.std.proofs.Common.{◌≡◌, ℕ, zero, suc, Bool, true, false, List, [], ◌∷◌, ◌++◌, Option, Some, None, refl, sym, ap, ◌∙◌, subst}
+use Rattle.std.specs.Prelude.{◌*◌, if◌then◌else◌, map, nat_lt, replicate, slice_get}
 use Rattle.std.proofs.lemmas.List.{append-nil}
-use Rattle.link_ring.specs.Ends.{fresh}
+use Rattle.link_ring.specs.Ends.{EndView, fresh}
+use Rattle.link_ring.specs.Places.{end_place}
 use Rattle.annex_base.proofs.Conditions.{if_either}
 use Rattle.run_data.specs.declared.entry.Entry.{Entry}
 use Rattle.run_data.specs.declared.entry.EntryKind.{EntryKind}
@@ -16,10 +17,23 @@ use Rattle.node_model.specs.Sessions.{line_in, message_said}
 use Rattle.node_model.specs.State.{State}
 use Rattle.driver_model.specs.Driver.{Driver, Flight, adds, at_first, but_taken, drops_part, flight}
 use Rattle.driver_model.specs.Turning.{asked_key, bytes_taken, is_failure, is_valid, makes, store_after, takes_frame, takes_into}
+use Rattle.link_flights.specs.Fleets.{AreEndsIn}
 use Rattle.link_flights.specs.Flights.{IsEndIn}
 
 pub first_none : (r : ℕ) (a : EndName) → IsEndIn at_first.flights r a fresh
 first_none r a = record { at_hand = refl; on_way = refl; used = refl }
+
+fresh_at : (n i : ℕ) (v : EndView) → slice_get (replicate n fresh) i ≡ Some v → v ≡ fresh
+fresh_at zero i v is = absurd (cc)
+fresh_at (suc n) zero v is = cc
+fresh_at (suc n) (suc i) v is = fresh_at n i v is
+
+pub all_first : (count : ℕ) → AreEndsIn at_first.flights count (λ q. replicate (count * 8) fresh)
+all_first count q a v within peer apart is = subst (λ (w : EndView). IsEndIn [] q a w) (sym (named (nat_lt a.slot 4) is)) (first_none q a)
+  where
+    named : (b : Bool) → (if b then slice_get (replicate (count * 8) fresh) (end_place a.peer a.slot a.client) else None) ≡ Some v → v ≡ fresh
+    named true at = fresh_at (count * 8) (end_place a.peer a.slot a.client) v at
+    named false at = absurd (cc)
 
 pub entry_quiet : (d : Driver) (st : State) (r : ℕ) (e : Entry) → e.taken ≡ None → e.sent ≡ [] → (adds st r e d).flights ≡ d.flights
 entry_quiet d st r e none nothing =

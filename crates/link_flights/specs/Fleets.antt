@@ -1,7 +1,6 @@
 -- The ends of all repositories, and what a turn of one of them makes of them (own).
 use Rattle.std.specs.Prelude.{◌≡◌, ◌≢◌, ◌<◌, ℕ, List, map, Option, Some}
 use Rattle.std.specs.Option.{option_map}
-use Rattle.annex_base.specs.Lists.{Each}
 use Rattle.annex_base.specs.declared.kinds.EntryStamp.{EntryStamp}
 use Rattle.annex_base.specs.declared.kinds.Word.{Word}
 use Rattle.link_ring.specs.Ends.{EndView, after_drop}
@@ -27,6 +26,5 @@ pub record AreAllCarried (count r : ℕ) (mine : List EndView) (was now : ℕ �
 
 -- The entry of r took and sent at the ends of r as the definition does; this was said at each, and these they became.
 pub record Posted (d : Driver) (st : State) (count r : ℕ) (sender : EntryStamp) (word : EndName → Sending → Option Word) (said : EndName → List Sending) (was now : List EndView) (e : Entry) : Type 0 where
-  pub elsewhere : Each (λ f. f.peer ≢ r) e.sent
   pub posts : (a : EndName) (v : EndView) → a.peer < count → a.peer ≢ r → link_at was a ≡ Some v → PostsAt d st r a v e.taken e.sent (said a)
   pub links : (a : EndName) → link_at now a ≡ option_map (link_after sender (word a) a e.taken (said a)) (link_at was a)

@@ -1,5 +1,5 @@
 //! The laws of ends and flights. Each is the contract of a function that does nothing.
-ghost use Rattle.std.specs.Prelude.{◌≡◌, ◌≢◌, ◌<◌, ◌+◌, ◌-◌, ◌^◌, ℕ, List, [], false, map, Option, Some, None};
+ghost use Rattle.std.specs.Prelude.{◌≡◌, ◌≢◌, ◌<◌, ◌+◌, ◌-◌, ◌*◌, ◌^◌, ℕ, List, [], false, map, replicate, Option, Some, None};
 ghost use Rattle.annex_base.specs.Lists.{Each, Member};
 ghost use Rattle.annex_base.specs.declared.kinds.EntryStamp.{EntryStamp};
 ghost use Rattle.annex_base.specs.declared.kinds.Word.{Word};
@@ -54,7 +54,7 @@ pub fn dropped_ends_keep_their_flights()
 /// takes and opens nothing, comes without (own).
 pub fn entries_fly_over_connections()
     ensures turn { (d : Driver) (st : State) (r : ℕ) (a : EndName) (v w : EndView) (e : Entry) (said : List Sending) (sender : EntryStamp) (word : Sending → Option Word)
-        → a.peer ≢ r → Each (λ f. f.peer ≢ r) e.sent → st.ends a ≡ stands v → IsEndIn d.flights r a v → IsEndIn d.flights a.peer (other_end r a) w
+        → a.peer ≢ r → st.ends a ≡ stands v → IsEndIn d.flights r a v → IsEndIn d.flights a.peer (other_end r a) w
         → PostsAt (without_old_flights st r d) st r a (after_drop v) e.taken e.sent said
         → IsEndIn (adds st r e (without_old_flights st r d)).flights r a (after_carry (link_after sender word a e.taken said (after_drop v)) w)
         × IsEndIn (adds st r e (without_old_flights st r d)).flights a.peer (other_end r a) (after_carry w (link_after sender word a e.taken said (after_drop v))) }
@@ -63,7 +63,7 @@ pub fn entries_fly_over_connections()
         → IsEndIn (without_old_flights st r d).flights r a (after_carry (after_drop v) w)
         × IsEndIn (without_old_flights st r d).flights a.peer (other_end r a) (after_carry w (after_drop v)) }
     ensures close { (d : Driver) (st : State) (r : ℕ) (a : EndName) (v w : EndView) (e : Entry) (said : List Sending) (sender : EntryStamp) (word : Sending → Option Word)
-        → a.peer ≢ r → Each (λ f. f.peer ≢ r) e.sent → IsEndIn d.flights r a v → IsEndIn d.flights a.peer (other_end r a) w
+        → a.peer ≢ r → IsEndIn d.flights r a v → IsEndIn d.flights a.peer (other_end r a) w
         → PostsAt d st r a v e.taken e.sent said → taken_at a e.taken ≡ None → Each (λ b. is_opening b ≡ false) (map (λ f. f.body) (sent_at a e.sent))
         → IsEndIn (adds st r e d).flights r a (after_carry (link_after sender word a e.taken said v) w)
         × IsEndIn (adds st r e d).flights a.peer (other_end r a) (after_carry w (link_after sender word a e.taken said v)) }
@@ -72,7 +72,7 @@ pub fn entries_fly_over_connections()
 {}
 
 /// A turn of one repository, with an entry or without, after which frames were carried between it and each other one, leaves the ends
-/// of all repositories as the flights tell (own).
+/// of all repositories as the flights tell; and so does a Close or a Crash of the script, which takes and opens nothing (own).
 pub fn turns_keep_all_ends()
     ensures moved { (d : Driver) (st : State) (count r : ℕ) (was now : ℕ → List EndView) (mine : List EndView) (e : Entry) (sender : EntryStamp)
         (word : EndName → Sending → Option Word) (said : EndName → List Sending) → r < count
@@ -82,12 +82,17 @@ pub fn turns_keep_all_ends()
     ensures idle { (d : Driver) (st : State) (count r : ℕ) (was now : ℕ → List EndView) → r < count
         → ((a : EndName) → a.peer < count → a.peer ≢ r → a.slot < 4 → st.ends a ≡ end_at (was r) a) → AreEndsIn d.flights count was
         → AreAllCarried count r (map after_drop (was r)) was now → AreEndsIn (without_old_flights st r d).flights count now }
+    ensures closed { (d : Driver) (st : State) (count r : ℕ) (was now : ℕ → List EndView) (mine : List EndView) (e : Entry) (sender : EntryStamp)
+        (word : EndName → Sending → Option Word) (said : EndName → List Sending) → r < count → AreEndsIn d.flights count was
+        → e.taken ≡ None → Each (λ f. is_opening f.body ≡ false) e.sent → Posted d st count r sender word said (was r) mine e
+        → AreAllCarried count r mine was now → AreEndsIn (adds st r e d).flights count now }
 {}
 
 /// Before the first entry no end has a frame, and there are no flights; an entry that takes and sends nothing changes neither, nor does
 /// what a step does to its store (own).
 pub fn ends_begin_without_flights()
     ensures first { (r : ℕ) (a : EndName) → IsEndIn at_first.flights r a fresh }
+    ensures all { (count : ℕ) → AreEndsIn at_first.flights count (λ q. replicate (count * 8) fresh) }
     ensures quiet { (d : Driver) (st : State) (r : ℕ) (e : Entry) → e.taken ≡ None → e.sent ≡ [] → (adds st r e d).flights ≡ d.flights }
     ensures store { (d : Driver) (st : State) (r : ℕ) (m : Made) (bytes : List ℕ) (kind : EntryKind) → (store_after st r m bytes kind d).flights ≡ d.flights }
     ensures made { (d : Driver) (st : State) (r : ℕ) (k : Look) (m : Made) → (makes st r k (Some m) d).flights ≡ (adds st r (entry_of r k m) d).flights }

@@ -1,5 +1,5 @@
 -- The flights at the start, and of what changes none.
-use Rattle.link_flights.proofs.Quiet.{entry_quiet, first_none, made_flights, store_flights}
+use Rattle.link_flights.proofs.Quiet.{all_first, entry_quiet, first_none, made_flights, store_flights}
 use Rattle.link_flights.proofs.laws.ends_begin_without_flights.Goals as goal
 
 pub returns-clause-first : goal.returns-clause-first
@@ -13,3 +13,6 @@ returns-clause-store c = store_flights
 
 pub returns-clause-made : goal.returns-clause-made
 returns-clause-made c d st r k m = made_flights st r k m d
+
+pub returns-clause-all : goal.returns-clause-all
+returns-clause-all c = all_first

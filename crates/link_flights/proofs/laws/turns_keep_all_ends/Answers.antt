@@ -1,5 +1,5 @@
 -- A turn of one repository and the ends of all.
-use Rattle.link_flights.proofs.Fleet.{idle_in, turned_in}
+use Rattle.link_flights.proofs.Fleet.{closed_in, idle_in, turned_in}
 use Rattle.link_flights.proofs.laws.turns_keep_all_ends.Goals as goal
 
 pub returns-clause-moved : goal.returns-clause-moved
@@ -8,3 +8,7 @@ returns-clause-moved c d st count r was now mine e sender word said known stand 
 
 pub returns-clause-idle : goal.returns-clause-idle
 returns-clause-idle c = idle_in
+
+pub returns-clause-closed : goal.returns-clause-closed
+returns-clause-closed c d st count r was now mine e sender word said known ends none closes posted carried =
+    closed_in d st count r was now known ends sender word said e mine none closes posted carried
