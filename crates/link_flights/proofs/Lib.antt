@@ -8,3 +8,9 @@ pub mod Flown
 pub mod Carried
 pub mod Fleet
 pub mod Quiet
+pub mod Apart
+pub mod Orderly
+pub mod JobMade
+pub mod ReplyMade
+pub mod Stepped
+pub mod Pieces

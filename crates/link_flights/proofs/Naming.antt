@@ -23,7 +23,7 @@ other_number n q r apart is = false_from_ne_true (n == r) (λ also. apart (sym (
 pub number_apart : (n r : ℕ) → n ≢ r → (n == r) ≡ false
 number_apart n r apart = false_from_ne_true (n == r) (λ is. apart (eqb-true n r is))
 
-end_path : (p q : ℕ) (b : Bool) (a : EndName) → p ≡ a.peer → q ≡ a.slot → b ≡ a.client → Path EndName (record { peer = p; slot = q; client = b }) a
+pub end_path : (p q : ℕ) (b : Bool) (a : EndName) → p ≡ a.peer → q ≡ a.slot → b ≡ a.client → Path EndName (record { peer = p; slot = q; client = b }) a
 end_path p q b a x y z i = record { peer = x i; slot = y i; client = z i }
 
 pub other_twice : (r : ℕ) (b : EndName) → b.peer ≡ r → (q : ℕ) → other_end r (other_end q b) ≡ b
@@ -38,7 +38,7 @@ down false = refl
 pub end_own : (a : EndName) (f : Frame) → end_to (frame_at a f) ≡ a
 end_own a f = end_path a.peer a.slot (if not a.client then false else true) a refl refl (down a.client)
 
-same_both : (a b : Bool) → same_bool a b ≡ true → a ≡ b
+pub same_both : (a b : Bool) → same_bool a b ≡ true → a ≡ b
 same_both true true e = refl
 same_both true false e = absurd (true≢false (sym e))
 same_both false true e = absurd (true≢false (sym e))
@@ -50,7 +50,7 @@ takes_end a f e =
     let one = and_parts (f.peer == a.peer) (f.slot == a.slot) two.0 in
     end_path f.peer f.slot (if f.up then false else true) a (eqb-true f.peer a.peer one.0) (eqb-true f.slot a.slot one.1) (sym (same_both a.client (if f.up then false else true) two.1))
 
-same_self : (b : Bool) → same_bool b b ≡ true
+pub same_self : (b : Bool) → same_bool b b ≡ true
 same_self true = refl
 same_self false = refl
 

@@ -1,21 +1,28 @@
 //! The laws of ends and flights. Each is the contract of a function that does nothing.
-ghost use Rattle.std.specs.Prelude.{◌≡◌, ◌≢◌, ◌<◌, ◌+◌, ◌-◌, ◌*◌, ◌^◌, ℕ, List, [], false, map, replicate, Option, Some, None};
+ghost use Rattle.std.specs.Prelude.{◌≡◌, ◌≢◌, ◌<◌, ◌+◌, ◌-◌, ◌*◌, ◌^◌, ℕ, List, [], false, flat_map, length, map, replicate, IfSome, Option, Some, None};
+ghost use Rattle.std.specs.List.{AllZip};
+ghost use Rattle.std.specs.Option.{option_map, option_to_list};
 ghost use Rattle.annex_base.specs.Lists.{Each, Member};
 ghost use Rattle.annex_base.specs.declared.kinds.EntryStamp.{EntryStamp};
 ghost use Rattle.annex_base.specs.declared.kinds.Word.{Word};
-ghost use Rattle.link_ring.specs.Ends.{EndView, after_carry, after_drop, fresh};
+ghost use Rattle.link_ring.specs.Ends.{EndView, after_carry, after_drop, fresh, next_frame};
 ghost use Rattle.run_data.specs.declared.entry.Entry.{Entry};
 ghost use Rattle.run_data.specs.declared.entry.EntryKind.{EntryKind};
-ghost use Rattle.node_model.specs.AnyTime.{all_ends};
+ghost use Rattle.run_data.specs.declared.entry.FrameText.TheVariants as texts;
+ghost use Rattle.run_data.specs.declared.entry.FrameView.{FrameView};
+ghost use Rattle.node_model.specs.AnyTime.{all_ends, close_at, closes_all};
 ghost use Rattle.node_model.specs.Ends.{EndName, is_opening, sent_at, taken_at};
 ghost use Rattle.node_model.specs.Look.{Look, Made, entry_of};
 ghost use Rattle.node_model.specs.SetUp.{SetUp};
 ghost use Rattle.node_model.specs.State.{State};
+ghost use Rattle.node_model.specs.Step.{step};
 ghost use Rattle.node_ends.specs.declared.sending.Sending.{Sending};
-ghost use Rattle.node_ends.specs.Ends.{AreEnds, SeesEnds, end_at, link_at, room_at, stands};
+ghost use Rattle.node_ends.specs.declared.sending.Sending.TheVariants as sendings;
+ghost use Rattle.node_ends.specs.Ends.{AreEnds, SeesEnds, end_at, frame_at, hand_at, link_at, room_at, stands};
+ghost use Rattle.node_ends.specs.Sent.{text_of_sending};
 ghost use Rattle.driver_model.specs.Driver.{Driver, adds, at_first, without_old_flights};
 ghost use Rattle.driver_model.specs.Turning.{makes, plain_look, store_after};
-ghost use Rattle.link_flights.specs.Entries.{PostsAt, link_after};
+ghost use Rattle.link_flights.specs.Entries.{HasPiece, PostsAt, SendsInOrder, link_after};
 ghost use Rattle.link_flights.specs.Fleets.{AreAllCarried, AreEndsIn, Posted};
 ghost use Rattle.link_flights.specs.Flights.{HasAtHand, IsEndIn, other_end};
 
@@ -96,4 +103,19 @@ pub fn ends_begin_without_flights()
     ensures quiet { (d : Driver) (st : State) (r : ℕ) (e : Entry) → e.taken ≡ None → e.sent ≡ [] → (adds st r e d).flights ≡ d.flights }
     ensures store { (d : Driver) (st : State) (r : ℕ) (m : Made) (bytes : List ℕ) (kind : EntryKind) → (store_after st r m bytes kind d).flights ≡ d.flights }
     ensures made { (d : Driver) (st : State) (r : ℕ) (k : Look) (m : Made) → (makes st r k (Some m) d).flights ≡ (adds st r (entry_of r k m) d).flights }
+{}
+
+/// What a step takes is the first frame at its end that isn't old, and what it sends is what the ends send next; an Opening is sent
+/// alone at an end, and that only where the end is closed and nothing was taken at it. So are the Closes of the script. A piece that a
+/// step sends has the bytes of the content, if each of these said has (own).
+pub fn steps_send_in_order()
+    ensures takes { (links : List EndView) (s : SetUp) (st : State) (k : Look) (m : Made) (a : EndName) (v : EndView)
+        → k.at_hand ≡ flat_map (λ b. option_to_list (hand_at links b)) (all_ends s) → step s st k ≡ Some m → link_at links a ≡ Some v
+        → IfSome (taken_at a m.taken) (λ f. option_map (frame_at a) (next_frame v) ≡ Some f) }
+    ensures sends { (s : SetUp) (st : State) (k : Look) (m : Made) (a : EndName) → step s st k ≡ Some m → SendsInOrder (st.ends a) a m.taken m.sent }
+    ensures close { (s : SetUp) (st : State) (a b : EndName) → SendsInOrder (st.ends a) a None (close_at s st b) }
+    ensures crash { (s : SetUp) (st : State) (a : EndName) → SendsInOrder (st.ends a) a None (closes_all s st) }
+    ensures pieces { (piece : FrameView → List ℕ) (fs : List FrameView) (said : List Sending) → map text_of_sending said ≡ map (λ f. f.body) fs
+        → ((f : FrameView) (bytes : List ℕ) → Member f fs → Member (sendings.Bytes bytes) said → f.body ≡ texts.Bytes (length bytes) → bytes ≡ piece f)
+        → AllZip (λ f x. HasPiece (piece f) x) fs said }
 {}
