@@ -6,7 +6,6 @@ pub mod Looked
 pub mod Said
 pub mod Flown
 pub mod Carried
-pub mod Fleet
 pub mod Quiet
 pub mod Apart
 pub mod Orderly
@@ -14,3 +13,4 @@ pub mod JobMade
 pub mod ReplyMade
 pub mod Stepped
 pub mod Pieces
+pub mod Fleet

@@ -1,11 +1,14 @@
 -- The ends of all repositories, and what a turn of one of them makes of them (own).
 use Rattle.std.specs.Prelude.{◌≡◌, ◌≢◌, ◌<◌, ℕ, List, map, Option, Some}
 use Rattle.std.specs.Option.{option_map}
+use Rattle.annex_base.specs.Lists.{Member}
 use Rattle.annex_base.specs.declared.kinds.EntryStamp.{EntryStamp}
 use Rattle.annex_base.specs.declared.kinds.Word.{Word}
 use Rattle.link_ring.specs.Ends.{EndView, after_drop}
 use Rattle.run_data.specs.declared.entry.Entry.{Entry}
+use Rattle.node_model.specs.AnyTime.{all_ends}
 use Rattle.node_model.specs.Ends.{EndName}
+use Rattle.node_model.specs.SetUp.{SetUp}
 use Rattle.node_model.specs.State.{State}
 use Rattle.node_ends.specs.declared.sending.Sending.{Sending}
 use Rattle.node_ends.specs.Ends.{link_at}
@@ -24,7 +27,7 @@ pub record AreAllCarried (count r : ℕ) (mine : List EndView) (was now : ℕ �
   pub theirs : (q : ℕ) (b : EndName) → q < count → q ≢ r → b.peer ≡ r → b.slot < 4 → link_at (now q) b ≡ link_carried (link_at (was q) b) (link_at mine (other_end q b))
   pub others : (q : ℕ) (b : EndName) → q < count → q ≢ r → b.peer ≢ r → link_at (now q) b ≡ link_at (was q) b
 
--- The entry of r took and sent at the ends of r as the definition does; this was said at each, and these they became.
-pub record Posted (d : Driver) (st : State) (count r : ℕ) (sender : EntryStamp) (word : EndName → Sending → Option Word) (said : EndName → List Sending) (was now : List EndView) (e : Entry) : Type 0 where
-  pub posts : (a : EndName) (v : EndView) → a.peer < count → a.peer ≢ r → link_at was a ≡ Some v → PostsAt d st r a v e.taken e.sent (said a)
+-- The entry of a repository took and sent at its ends as the definition does; this was said at each, and these they became.
+pub record Posted (s : SetUp) (st : State) (d : Driver) (sender : EntryStamp) (word : EndName → Sending → Option Word) (said : EndName → List Sending) (was now : List EndView) (e : Entry) : Type 0 where
+  pub posts : (a : EndName) (v : EndView) → Member a (all_ends s) → link_at was a ≡ Some v → PostsAt d st s.number a v e.taken e.sent (said a)
   pub links : (a : EndName) → link_at now a ≡ option_map (link_after sender (word a) a e.taken (said a)) (link_at was a)

@@ -1,6 +1,5 @@
 //! The laws of ends and flights. Each is the contract of a function that does nothing.
 ghost use Rattle.std.specs.Prelude.{◌≡◌, ◌≢◌, ◌<◌, ◌+◌, ◌-◌, ◌*◌, ◌^◌, ℕ, List, [], false, flat_map, length, map, replicate, IfSome, Option, Some, None};
-ghost use Rattle.std.specs.List.{AllZip};
 ghost use Rattle.std.specs.Option.{option_map, option_to_list};
 ghost use Rattle.annex_base.specs.Lists.{Each, Member};
 ghost use Rattle.annex_base.specs.declared.kinds.EntryStamp.{EntryStamp};
@@ -18,11 +17,11 @@ ghost use Rattle.node_model.specs.State.{State};
 ghost use Rattle.node_model.specs.Step.{step};
 ghost use Rattle.node_ends.specs.declared.sending.Sending.{Sending};
 ghost use Rattle.node_ends.specs.declared.sending.Sending.TheVariants as sendings;
-ghost use Rattle.node_ends.specs.Ends.{AreEnds, SeesEnds, end_at, frame_at, hand_at, link_at, room_at, stands};
+ghost use Rattle.node_ends.specs.Ends.{AreEnds, SeesEnds, frame_at, hand_at, link_at, room_at, stands};
 ghost use Rattle.node_ends.specs.Sent.{text_of_sending};
-ghost use Rattle.driver_model.specs.Driver.{Driver, adds, at_first, without_old_flights};
+ghost use Rattle.driver_model.specs.Driver.{Driver, adds, at_first, piece_of, without_old_flights};
 ghost use Rattle.driver_model.specs.Turning.{makes, plain_look, store_after};
-ghost use Rattle.link_flights.specs.Entries.{HasPiece, PostsAt, SendsInOrder, link_after};
+ghost use Rattle.link_flights.specs.Entries.{PostsAt, SendsInOrder, link_after};
 ghost use Rattle.link_flights.specs.Fleets.{AreAllCarried, AreEndsIn, Posted};
 ghost use Rattle.link_flights.specs.Flights.{HasAtHand, IsEndIn, other_end};
 
@@ -81,19 +80,25 @@ pub fn entries_fly_over_connections()
 /// A turn of one repository, with an entry or without, after which frames were carried between it and each other one, leaves the ends
 /// of all repositories as the flights tell; and so does a Close or a Crash of the script, which takes and opens nothing (own).
 pub fn turns_keep_all_ends()
-    ensures moved { (d : Driver) (st : State) (count r : ℕ) (was now : ℕ → List EndView) (mine : List EndView) (e : Entry) (sender : EntryStamp)
-        (word : EndName → Sending → Option Word) (said : EndName → List Sending) → r < count
-        → ((a : EndName) → a.peer < count → a.peer ≢ r → a.slot < 4 → st.ends a ≡ end_at (was r) a) → AreEndsIn d.flights count was
-        → Posted (without_old_flights st r d) st count r sender word said (map after_drop (was r)) mine e
-        → AreAllCarried count r mine was now → AreEndsIn (adds st r e (without_old_flights st r d)).flights count now }
-    ensures idle { (d : Driver) (st : State) (count r : ℕ) (was now : ℕ → List EndView) → r < count
-        → ((a : EndName) → a.peer < count → a.peer ≢ r → a.slot < 4 → st.ends a ≡ end_at (was r) a) → AreEndsIn d.flights count was
-        → AreAllCarried count r (map after_drop (was r)) was now → AreEndsIn (without_old_flights st r d).flights count now }
-    ensures closed { (d : Driver) (st : State) (count r : ℕ) (was now : ℕ → List EndView) (mine : List EndView) (e : Entry) (sender : EntryStamp)
-        (word : EndName → Sending → Option Word) (said : EndName → List Sending) → r < count → AreEndsIn d.flights count was
-        → e.taken ≡ None → Each (λ f. is_opening f.body ≡ false) e.sent → Posted d st count r sender word said (was r) mine e
-        → AreAllCarried count r mine was now → AreEndsIn (adds st r e d).flights count now }
-{}
+    ensures moved { (s : SetUp) (st : State) (d : Driver) (was now : ℕ → List EndView) (mine : List EndView) (e : Entry) (sender : EntryStamp)
+        (word : EndName → Sending → Option Word) (said : EndName → List Sending) → s.number < length s.repos → AreEnds (was s.number) s st
+        → AreEndsIn d.flights (length s.repos) was
+        → Posted s st (without_old_flights st s.number d) sender word said (map after_drop (was s.number)) mine e
+        → AreAllCarried (length s.repos) s.number mine was now
+        → AreEndsIn (adds st s.number e (without_old_flights st s.number d)).flights (length s.repos) now }
+    ensures idle { (s : SetUp) (st : State) (d : Driver) (was now : ℕ → List EndView) → s.number < length s.repos → AreEnds (was s.number) s st
+        → AreEndsIn d.flights (length s.repos) was
+        → AreAllCarried (length s.repos) s.number (map after_drop (was s.number)) was now
+        → AreEndsIn (without_old_flights st s.number d).flights (length s.repos) now }
+    ensures closed { (s : SetUp) (st : State) (d : Driver) (was now : ℕ → List EndView) (mine : List EndView) (e : Entry) (sender : EntryStamp)
+        (word : EndName → Sending → Option Word) (said : EndName → List Sending) → s.number < length s.repos
+        → AreEndsIn d.flights (length s.repos) was
+        → e.taken ≡ None → Each (λ f. is_opening f.body ≡ false) e.sent → Posted s st d sender word said (was s.number) mine e
+        → AreAllCarried (length s.repos) s.number mine was now → AreEndsIn (adds st s.number e d).flights (length s.repos) now }
+{
+    // For the proof, which cites it.
+    ends_are_there();
+}
 
 /// Before the first entry no end has a frame, and there are no flights; an entry that takes and sends nothing changes neither, nor does
 /// what a step does to its store (own).
@@ -106,8 +111,8 @@ pub fn ends_begin_without_flights()
 {}
 
 /// What a step takes is the first frame at its end that isn't old, and what it sends is what the ends send next; an Opening is sent
-/// alone at an end, and that only where the end is closed and nothing was taken at it. So are the Closes of the script. A piece that a
-/// step sends has the bytes of the content, if each of these said has (own).
+/// alone at an end, and that only where the end is closed and nothing was taken at it. The same holds of the Closes that a script
+/// makes (own).
 pub fn steps_send_in_order()
     ensures takes { (links : List EndView) (s : SetUp) (st : State) (k : Look) (m : Made) (a : EndName) (v : EndView)
         → k.at_hand ≡ flat_map (λ b. option_to_list (hand_at links b)) (all_ends s) → step s st k ≡ Some m → link_at links a ≡ Some v
@@ -115,7 +120,17 @@ pub fn steps_send_in_order()
     ensures sends { (s : SetUp) (st : State) (k : Look) (m : Made) (a : EndName) → step s st k ≡ Some m → SendsInOrder (st.ends a) a m.taken m.sent }
     ensures close { (s : SetUp) (st : State) (a b : EndName) → SendsInOrder (st.ends a) a None (close_at s st b) }
     ensures crash { (s : SetUp) (st : State) (a : EndName) → SendsInOrder (st.ends a) a None (closes_all s st) }
-    ensures pieces { (piece : FrameView → List ℕ) (fs : List FrameView) (said : List Sending) → map text_of_sending said ≡ map (λ f. f.body) fs
-        → ((f : FrameView) (bytes : List ℕ) → Member f fs → Member (sendings.Bytes bytes) said → f.body ≡ texts.Bytes (length bytes) → bytes ≡ piece f)
-        → AllZip (λ f x. HasPiece (piece f) x) fs said }
+{}
+
+/// An entry with what a step takes and sends is posted, where what was said at each end is what the entry lists there, the ends became
+/// what node_ends' calls make of them, and each piece has the bytes that the definition gives (own).
+pub fn steps_are_posted()
+    ensures { (s : SetUp) (st : State) (d : Driver) (k : Look) (m : Made) (e : Entry) (was now : List EndView) (sender : EntryStamp)
+        (word : EndName → Sending → Option Word) (said : EndName → List Sending) → AreEnds was s st
+        → k.at_hand ≡ flat_map (λ b. option_to_list (hand_at was b)) (all_ends s) → step s st k ≡ Some m → e.taken ≡ m.taken → e.sent ≡ m.sent
+        → ((a : EndName) → map text_of_sending (said a) ≡ map (λ f. f.body) (sent_at a e.sent))
+        → ((a : EndName) → link_at now a ≡ option_map (link_after sender (word a) a e.taken (said a)) (link_at was a))
+        → ((a : EndName) (f : FrameView) (bytes : List ℕ) → Member f e.sent → Member (sendings.Bytes bytes) (said a) → f.body ≡ texts.Bytes (length bytes)
+        → bytes ≡ piece_of d st s.number f f.body)
+        → Posted s st d sender word said was now e }
 {}

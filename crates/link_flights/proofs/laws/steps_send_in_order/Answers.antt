@@ -1,5 +1,4 @@
 -- What steps take and send.
-use Rattle.link_flights.proofs.Pieces.{pieces_zip}
 use Rattle.link_flights.proofs.Stepped.{close_in_order, closes_in_order, first_taken, step_orderly}
 use Rattle.link_flights.proofs.laws.steps_send_in_order.Goals as goal
 
@@ -14,6 +13,3 @@ returns-clause-close c s st a b = close_in_order s st b a
 
 pub returns-clause-crash : goal.returns-clause-crash
 returns-clause-crash c s st a = closes_in_order s st a
-
-pub returns-clause-pieces : goal.returns-clause-pieces
-returns-clause-pieces c = pieces_zip
