@@ -1,5 +1,5 @@
 -- The two ends of a connection after frames were carried over it.
-use Rattle.std.proofs.Common.{◌≡◌, ◌≢◌, ℕ, ◌+◌, inl, inr, Bool, true, false, List, [], ◌∷◌, ◌++◌, length, Option, Some, None, refl, sym, ap, ◌∙◌, subst, arith, length-append}
+use Rattle.std.proofs.Common.{◌≡◌, ◌≢◌, ℕ, ◌+◌, false, List, [], ◌++◌, length, Option, None, refl, sym, ap, ◌∙◌, arith, length-append}
 use Rattle.std.specs.Prelude.{filter, map}
 use Rattle.std.proofs.lemmas.List.{append-nil, length-map, map-append}
 use Rattle.annex_base.specs.Lists.{Each}
@@ -12,13 +12,13 @@ use Rattle.node_model.specs.Ends.{EndName, is_opening, sent_at, taken_at}
 use Rattle.node_model.specs.State.{State}
 use Rattle.node_ends.specs.declared.sending.Sending.{Sending}
 use Rattle.node_ends.specs.Ends.{stands}
-use Rattle.driver_model.specs.Driver.{Driver, Flight, adds, flight, is_sent_by, without_old_flights}
+use Rattle.driver_model.specs.Driver.{Driver, Flight, adds, flight, without_old_flights}
 use Rattle.link_flights.specs.Entries.{PostsAt, link_after}
 use Rattle.link_flights.specs.Flights.{HasAtHand, IsEndIn, comes_to, flight_at, other_end}
 use Rattle.link_flights.proofs.Lists.{each_filtered}
 use Rattle.link_flights.proofs.Naming.{other_twice}
 use Rattle.link_flights.proofs.Dropped.{hand_dropped, hand_elsewhere, sent_filter}
-use Rattle.link_flights.proofs.Flown.{come_elsewhere, come_there, flights_now, hand_now_still, hand_now_young, way_now}
+use Rattle.link_flights.proofs.Flown.{come_elsewhere, come_there, hand_now_still, hand_now_young, way_now}
 
 none_more : (n : ℕ) → n + 0 ≡ n
 none_more n = omega arith

@@ -1,5 +1,5 @@
 -- Old frames are dropped at an end, and old flights in the driver: they are the same.
-use Rattle.std.proofs.Common.{◌≡◌, ◌≢◌, inl, inr, ℕ, Bool, true, false, not, ◌&&◌, ◌||◌, List, [], ◌∷◌, refl, sym, ap, ◌∙◌, subst, true≢false}
+use Rattle.std.proofs.Common.{◌≡◌, ◌≢◌, inl, inr, ℕ, Bool, true, false, not, ◌&&◌, ◌||◌, List, refl, sym, ap, ◌∙◌}
 use Rattle.std.specs.Prelude.{◌==◌, filter, length, map, nat_lt}
 use Rattle.std.specs.Option.{option_map}
 use Rattle.std.proofs.lemmas.Bool.{and_parts, cases_Bool}
@@ -12,7 +12,7 @@ use Rattle.link_ring.specs.Places.{end_place}
 use Rattle.node_model.specs.Ends.{End, EndName, takes_at}
 use Rattle.node_model.specs.State.{State}
 use Rattle.node_ends.specs.Ends.{frame_at, link_at, stands}
-use Rattle.driver_model.specs.Driver.{Driver, Flight, end_to, is_old, is_sent_by, old_at, without_old_flights}
+use Rattle.driver_model.specs.Driver.{Driver, Flight, is_old, is_sent_by, old_at, without_old_flights}
 use Rattle.link_flights.specs.Flights.{HasAtHand, IsEndIn, comes_to, flight_at, other_end}
 use Rattle.link_flights.proofs.Lists.{filter_like, filter_mapped, filter_swap, filter_within}
 use Rattle.link_flights.proofs.Naming.{end_own, not_not, other_number, sent_comes}

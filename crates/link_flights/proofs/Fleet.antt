@@ -1,12 +1,12 @@
 -- The ends of all repositories after a turn of one of them.
-use Rattle.std.proofs.Common.{◌≡◌, ◌≢◌, ◌<◌, inl, inr, ℕ, Bool, true, false, not, List, [], ◌∷◌, Option, Some, None, refl, sym, ap, ◌∙◌, subst, arith}
-use Rattle.std.specs.Prelude.{◌==◌, flat_map, length, map, nat_lt, slice_get}
+use Rattle.std.proofs.Common.{◌≡◌, ◌≢◌, ◌<◌, inl, inr, ℕ, false, List, Option, Some, None, refl, sym, ap, ◌∙◌, subst, arith}
+use Rattle.std.specs.Prelude.{◌==◌, flat_map, length, map, nat_lt}
 use Rattle.std.specs.Option.{option_map, option_to_list}
 use Rattle.std.proofs.lemmas.Bool.{cases_Bool, eqb-true, true≢false}
 use Rattle.std.proofs.lemmas.Bool.Decides.{nat_tests}
 use Rattle.annex_base.proofs.Conditions.{eqb_refl}
 use Rattle.annex_base.specs.Lists.{Each, Member}
-use Rattle.annex_base.proofs.Lists.{Each-filter, Each-map, Member-filter_parts}
+use Rattle.annex_base.proofs.Lists.{Each-filter, Each-map}
 use Rattle.annex_base.specs.declared.kinds.EntryStamp.{EntryStamp}
 use Rattle.annex_base.specs.declared.kinds.Word.{Word}
 use Rattle.link_ring.specs.Ends.{EndView, after_carry, after_drop}
@@ -184,7 +184,7 @@ pub step_posted : (s : SetUp) (st : State) (d : Driver) (k : Look) (m : Made) (e
     → e.taken ≡ m.taken → e.sent ≡ m.sent
     → ((a : EndName) → map text_of_sending (said a) ≡ map (λ (f : FrameView). f.body) (sent_at a e.sent))
     → ((a : EndName) → link_at now a ≡ option_map (link_after sender (word a) a e.taken (said a)) (link_at was a))
-    → ((a : EndName) (f : FrameView) (bytes : List ℕ) → Member f e.sent → Member (sendings.Bytes bytes) (said a) → f.body ≡ texts.Bytes (length bytes) → bytes ≡ piece_of d st s.number f f.body)
+    → ((a : EndName) (f : FrameView) (bytes : List ℕ) → Member f (sent_at a e.sent) → Member (sendings.Bytes bytes) (said a) → f.body ≡ texts.Bytes (length bytes) → bytes ≡ piece_of d st s.number f f.body)
     → Posted s st d sender word said was now e
 step_posted s st d k m e was now sender word said are sees made taken sent listed links pieces = record {
   posts = λ a v member is.
@@ -195,7 +195,7 @@ step_posted s st d k m e was now sender word said are sees made taken sent liste
         in_order = subst (λ (c : End). SendsInOrder c a e.taken e.sent) (are.ends a member ∙ ap end_in is)
             (subst (λ (o : Option FrameView). SendsInOrder (st.ends a) a o e.sent) (sym taken) (subst (λ (fs : List FrameView). SendsInOrder (st.ends a) a m.taken fs) (sym sent) (it.in_order a)));
         pieces = pieces_zip (λ f. piece_of d st s.number f f.body) (sent_at a e.sent) (said a) (listed a)
-            (λ f bytes among sends at. pieces a f bytes (Member-filter_parts (sends_at a) e.sent f among).0 sends at);
+            (pieces a);
       };
   links = links;
 }

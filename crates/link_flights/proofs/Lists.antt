@@ -1,8 +1,7 @@
 -- Lists that are filtered, and the first of a list.
-use Rattle.std.proofs.Common.{◌≡◌, ◌⊎◌, inl, inr, ℕ, zero, suc, ◌+◌, Bool, true, false, not, List, [], ◌∷◌, ◌++◌, Option, Some, None, refl, sym, ap, ◌∙◌, subst, true≢false}
-use Rattle.std.specs.Prelude.{cond, drop, filter, find, flat_map, map, is_some}
+use Rattle.std.proofs.Common.{◌≡◌, inl, inr, Bool, true, false, List, [], ◌∷◌, ◌++◌, Option, Some, None, refl, sym, ap, ◌∙◌, true≢false}
+use Rattle.std.specs.Prelude.{filter, find, flat_map, map, is_some}
 use Rattle.std.specs.List.{after_first}
-use Rattle.std.specs.Option.{option_map}
 use Rattle.std.proofs.lemmas.Bool.{cases_Bool}
 use Rattle.annex_base.specs.Lists.{Each, Member}
 use Rattle.driver_model.specs.Driver.{but_first}

@@ -1,5 +1,5 @@
 -- A look finds at the ends what a plain look finds of the flights.
-use Rattle.std.proofs.Common.{◌≡◌, ◌≢◌, ◌<◌, ◌+◌, ◌-◌, ◌*◌, ◌^◌, inl, inr, ℕ, Bool, true, false, not, ◌&&◌, List, [], ◌∷◌, ◌++◌, length, Option, Some, None, is_some, refl, sym, ap, ◌∙◌, subst, arith}
+use Rattle.std.proofs.Common.{◌≡◌, ◌≢◌, ◌<◌, ◌+◌, ◌-◌, ◌*◌, ◌^◌, inl, inr, ℕ, Bool, true, false, ◌&&◌, List, [], ◌∷◌, length, Option, Some, None, is_some, refl, sym, ap, ◌∙◌, arith}
 use Rattle.std.specs.Prelude.{◌==◌, filter, find, flat_map, map, nat_le, nat_lt}
 use Rattle.std.specs.Option.{option_and_then, option_map, option_to_list}
 use Rattle.std.proofs.lemmas.Bool.{cases_Bool}
@@ -10,12 +10,11 @@ use Rattle.link_ring.specs.Ends.{EndView, after_drop, free, is_taken, next_frame
 use Rattle.run_data.specs.declared.entry.FrameView.{FrameView}
 use Rattle.node_model.specs.AnyTime.{all_ends}
 use Rattle.node_model.specs.Ends.{EndName, takes_at}
-use Rattle.node_model.specs.Look.{Look}
 use Rattle.node_model.specs.SetUp.{SetUp}
 use Rattle.node_model.specs.State.{State}
-use Rattle.node_ends.specs.Ends.{AreEnds, IsEndOf, SeesEnds, end_in, frame_at, hand_at, has_room, link_at, passes, room_at, stands}
+use Rattle.node_ends.specs.Ends.{AreEnds, IsEndOf, end_in, frame_at, hand_at, has_room, link_at, passes, room_at, stands}
 use Rattle.driver_model.specs.Driver.{Driver, Flight, frames_to, has_room as has_places, is_sent_by, without_old_flights}
-use Rattle.driver_model.specs.Turning.{at_hand, plain_look}
+use Rattle.driver_model.specs.Turning.{at_hand}
 use Rattle.link_flights.specs.Flights.{IsEndIn, comes_to, flight_at}
 use Rattle.link_flights.proofs.Lists.{find_first, first, flat_map_like, some_of}
 use Rattle.link_flights.proofs.Dropped.{hand_dropped, link_drop, sent_stay}

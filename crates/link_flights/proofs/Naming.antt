@@ -1,7 +1,7 @@
 -- The end that a flight comes to, and the one that it leaves.
-use Rattle.std.proofs.Common.{◌≡◌, ◌≢◌, inl, inr, ℕ, Bool, true, false, not, ◌&&◌, if◌then◌else◌, List, [], ◌∷◌, refl, sym, ap, ◌∙◌, subst}
-use Rattle.std.specs.Prelude.{◌==◌, filter, length, map}
-use Rattle.std.proofs.lemmas.Bool.{and_parts, cases_Bool, eqb-true, false_from_ne_true, true≢false}
+use Rattle.std.proofs.Common.{◌≡◌, ◌≢◌, ℕ, Bool, true, false, not, ◌&&◌, if◌then◌else◌, List, [], ◌∷◌, refl, sym, ap, ◌∙◌, subst}
+use Rattle.std.specs.Prelude.{◌==◌, filter, map}
+use Rattle.std.proofs.lemmas.Bool.{and_parts, eqb-true, false_from_ne_true, true≢false}
 use Rattle.annex_base.proofs.Conditions.{eqb_refl}
 use Rattle.link_ring.specs.declared.frame.Frame.{Frame}
 use Rattle.run_data.specs.declared.entry.FrameView.{FrameView}
@@ -9,7 +9,7 @@ use Rattle.node_model.specs.Ends.{EndName, same_bool, sends_at, sent_at, takes_a
 use Rattle.node_model.specs.State.{State}
 use Rattle.node_ends.specs.Ends.{frame_at}
 use Rattle.driver_model.specs.Driver.{Driver, Flight, end_to, flight, is_at, is_sent_by}
-use Rattle.link_flights.specs.Flights.{comes_to, flight_at, other_end}
+use Rattle.link_flights.specs.Flights.{comes_to, other_end}
 use Rattle.link_flights.proofs.Lists.{filter_mapped}
 
 pub not_not : (b : Bool) → not (not b) ≡ b

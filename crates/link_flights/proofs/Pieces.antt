@@ -1,5 +1,5 @@
 -- The bytes of what is said, frame by frame.
-use Rattle.std.proofs.Common.{◌≡◌, ◌⊎◌, inl, inr, ℕ, List, [], ◌∷◌, refl, sym, ap, ◌∙◌}
+use Rattle.std.proofs.Common.{◌≡◌, inl, inr, ℕ, List, [], ◌∷◌, refl, sym}
 use Rattle.std.specs.Prelude.{length, map}
 use Rattle.std.specs.List.{AllZip}
 use Rattle.annex_base.specs.Lists.{Member}

@@ -15,7 +15,7 @@ use Rattle.node_model.specs.Ends.{EndName}
 use Rattle.node_model.specs.Look.{Look, Made, entry_of}
 use Rattle.node_model.specs.Sessions.{line_in, message_said}
 use Rattle.node_model.specs.State.{State}
-use Rattle.driver_model.specs.Driver.{Driver, Flight, adds, at_first, but_taken, drops_part, flight}
+use Rattle.driver_model.specs.Driver.{Driver, Flight, adds, at_first, but_taken, flight}
 use Rattle.driver_model.specs.Turning.{asked_key, bytes_taken, is_failure, is_valid, makes, store_after, takes_frame, takes_into}
 use Rattle.link_flights.specs.Fleets.{AreEndsIn}
 use Rattle.link_flights.specs.Flights.{IsEndIn}

@@ -1,6 +1,6 @@
 -- What is sent at an end, by node_ends' words and by node_model's.
-use Rattle.std.proofs.Common.{◌≡◌, ◌≢◌, ◌<◌, ◌+◌, inl, inr, ℕ, Bool, true, false, not, ◌&&◌, ◌||◌, List, [], ◌∷◌, ◌++◌, Option, Some, None, refl, sym, ap, ◌∙◌, subst, arith, append_assoc, true≢false}
-use Rattle.std.specs.Prelude.{◌==◌, fold, is_some, length, map, nat_lt}
+use Rattle.std.proofs.Common.{◌≡◌, ◌+◌, ℕ, Bool, true, false, not, ◌&&◌, ◌||◌, List, [], ◌∷◌, ◌++◌, Option, Some, None, refl, sym, ap, ◌∙◌, subst, arith, append_assoc, true≢false}
+use Rattle.std.specs.Prelude.{◌==◌, fold, length, map, nat_lt}
 use Rattle.std.specs.List.{AllZip, after_first}
 use Rattle.std.specs.Option.{option_map}
 use Rattle.std.proofs.lemmas.Bool.Decides.{nat_tests}
@@ -14,7 +14,7 @@ use Rattle.link_ring.specs.declared.frame.Body.TheVariants as bodies
 use Rattle.link_ring.specs.declared.end.Phase.{Phase}
 use Rattle.link_ring.specs.declared.end.Phase.TheVariants.{Closed, Opening, Open}
 use Rattle.link_ring.specs.Frames.{is_closed}
-use Rattle.link_ring.specs.Ends.{EndView, after_open, after_take, is_taken, next_frame, phase_after_frame, with_body, with_taken}
+use Rattle.link_ring.specs.Ends.{EndView, after_take, is_taken, next_frame, phase_after_frame, with_body, with_taken}
 use Rattle.run_data.specs.declared.entry.FrameView.{FrameView}
 use Rattle.run_data.specs.declared.entry.FrameText.{FrameText}
 use Rattle.run_data.specs.declared.entry.FrameText.TheVariants as texts

@@ -1,10 +1,10 @@
 -- What a step takes is at hand, and what it sends is sent in order.
 use Rattle.std.proofs.Common.{◌≡◌, ℕ, Bool, true, false, not, List, [], ◌∷◌, ◌++◌, Option, Some, None, ◌⊎◌, inl, inr, refl, sym, ap, ◌∙◌, subst, true≢false}
-use Rattle.std.specs.Prelude.{if◌then◌else◌, ◌==◌, ◌&&◌, IfSome, find, flat_map, map, nat_lt}
+use Rattle.std.specs.Prelude.{if◌then◌else◌, ◌==◌, ◌&&◌, IfSome, find, flat_map, map}
 use Rattle.std.specs.List.{list_all}
 use Rattle.std.specs.Option.{option_and_then, option_map, option_to_list}
 use Rattle.std.proofs.lemmas.Bool.{and_parts}
-use Rattle.annex_base.specs.Lists.{Each, Member}
+use Rattle.annex_base.specs.Lists.{Member}
 use Rattle.annex_base.specs.declared.kinds.Call.{Call}
 use Rattle.annex_base.specs.declared.kinds.Call.TheVariants.{PutFile}
 use Rattle.annex_base.proofs.Lists.{Member-append_cases, find_member}
@@ -18,8 +18,8 @@ use Rattle.run_data.specs.declared.entry.LogFile.TheVariants.{Location}
 use Rattle.p2p_wire.specs.declared.message.Message.TheVariants.{UnlockContent}
 use Rattle.p2p_wire.specs.Messages.{text_of}
 use Rattle.node_model.specs.AnyTime.{all_ends, close_at, closes_all}
-use Rattle.node_model.specs.Ends.{End, EndName, end_takes, end_took, frames, is_opening, may_take, sent_at, server_end, taken_at, takes_at}
-use Rattle.node_model.specs.JobStep.{Turn, end_with, farewell, farewells, has_lock, key_of, others_of, quietly, talk, turn_of}
+use Rattle.node_model.specs.Ends.{End, EndName, end_takes, end_took, frames, is_opening, may_take, server_end, taken_at, takes_at}
+use Rattle.node_model.specs.JobStep.{Turn, end_with, farewell, has_lock, key_of, others_of, quietly, talk, turn_of}
 use Rattle.node_model.specs.Jobs.{Work, job_end, partner}
 use Rattle.node_model.specs.Look.{Look, Made, failing, first_of, first_some, unless, waiting}
 use Rattle.node_model.specs.Owed.{Owed, due}
@@ -30,7 +30,6 @@ use Rattle.node_model.specs.State.{State}
 use Rattle.node_model.specs.Step.{step}
 use Rattle.node_model.specs.Turns.{awaits, by_partner, goes, goes_on, has_room, is_awaiting, job_step, needs, slot_step, takes_frame, with_partner}
 use Rattle.node_ends.specs.Ends.{frame_at, hand_at, link_at}
-use Rattle.link_flights.specs.Entries.{OpensClosed, SendsInOrder}
 use Rattle.link_flights.proofs.Apart.{all_apart, job_ends_apart}
 use Rattle.link_flights.proofs.JobMade.{Makes, OpensOne, SaysFarewell, SendsOne, frame_made, goes_made}
 use Rattle.link_flights.proofs.Naming.{end_own, takes_end}

@@ -1,5 +1,5 @@
 -- What an entry of a repository makes of its ends, and how it takes and sends there (own).
-use Rattle.std.specs.Prelude.{◌≡◌, Bool, true, false, if◌then◌else◌, ℕ, List, [], ◌∷◌, fold, map, IfSome, is_some, Option, Some, None}
+use Rattle.std.specs.Prelude.{◌≡◌, true, false, if◌then◌else◌, ℕ, List, [], ◌∷◌, fold, map, IfSome, is_some, Option, Some, None}
 use Rattle.std.specs.List.{AllZip}
 use Rattle.std.specs.Option.{option_map}
 use Rattle.annex_base.specs.Lists.{Each}

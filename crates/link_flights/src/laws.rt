@@ -130,7 +130,7 @@ pub fn steps_are_posted()
         → k.at_hand ≡ flat_map (λ b. option_to_list (hand_at was b)) (all_ends s) → step s st k ≡ Some m → e.taken ≡ m.taken → e.sent ≡ m.sent
         → ((a : EndName) → map text_of_sending (said a) ≡ map (λ f. f.body) (sent_at a e.sent))
         → ((a : EndName) → link_at now a ≡ option_map (link_after sender (word a) a e.taken (said a)) (link_at was a))
-        → ((a : EndName) (f : FrameView) (bytes : List ℕ) → Member f e.sent → Member (sendings.Bytes bytes) (said a) → f.body ≡ texts.Bytes (length bytes)
+        → ((a : EndName) (f : FrameView) (bytes : List ℕ) → Member f (sent_at a e.sent) → Member (sendings.Bytes bytes) (said a) → f.body ≡ texts.Bytes (length bytes)
         → bytes ≡ piece_of d st s.number f f.body)
         → Posted s st d sender word said was now e }
 {}

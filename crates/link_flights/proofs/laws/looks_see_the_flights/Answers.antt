@@ -1,12 +1,5 @@
 -- A look sees the flights.
-use Rattle.std.proofs.Common.{◌≡◌, List, Some, sym, ap, ◌∙◌}
-use Rattle.std.specs.Prelude.{map}
-use Rattle.annex_base.specs.Lists.{Member}
-use Rattle.link_ring.specs.Ends.{EndView}
-use Rattle.node_model.specs.AnyTime.{all_ends}
-use Rattle.node_model.specs.Ends.{EndName}
-use Rattle.node_ends.specs.Ends.{link_at}
-use Rattle.link_flights.specs.Flights.{IsEndIn}
+use Rattle.std.proofs.Common.{◌∙◌}
 use Rattle.link_flights.proofs.Looked.{drops_see, same_at_hand, same_room}
 use Rattle.link_flights.proofs.laws.looks_see_the_flights.Goals as goal
 
