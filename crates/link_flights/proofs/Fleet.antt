@@ -23,12 +23,12 @@ use Rattle.node_ends.specs.declared.sending.Sending.{Sending}
 use Rattle.node_ends.specs.declared.sending.Sending.TheVariants as sendings
 use Rattle.node_ends.specs.Ends.{AreEnds, IsEndOf, end_in, hand_at, link_at, stands}
 use Rattle.node_ends.specs.Sent.{text_of_sending}
-use Rattle.node_ends.specs.Joined.{link_carried}
+use Rattle.node_ends.specs.Joined.{end_with, link_carried}
 use Rattle.driver_model.specs.Driver.{Driver, Flight, adds, piece_of, without_old_flights}
 use Rattle.link_flights.specs.Entries.{PostsAt, SendsInOrder, link_after}
 use Rattle.link_flights.specs.Fleets.{AreAllCarried, AreEndsIn, Posted}
 use Rattle.link_flights.specs.Flights.{IsEndIn, other_end}
-use Rattle.link_flights.proofs.Naming.{other_twice}
+use Rattle.link_flights.proofs.Naming.{end_path, other_twice}
 use Rattle.link_flights.proofs.Pieces.{pieces_zip}
 use Rattle.link_flights.proofs.Stepped.{first_taken, step_orderly}
 use Rattle.link_flights.proofs.Dropped.{end_elsewhere, link_drop}
@@ -71,12 +71,15 @@ module _ (xs : List Flight) (count r : ℕ) (mine : List EndView) (was now : ℕ
     (beside : (q : ℕ) (b : EndName) (w : EndView) → q < count → b.peer < count → b.peer ≢ q → q ≢ r → b.peer ≢ r → link_at (was q) b ≡ Some w → IsEndIn xs q b w) where
   at_own : (a : EndName) (x : EndView) → a.peer < count → a.peer ≢ r → link_at (now r) a ≡ Some x → IsEndIn xs r a x
   at_own a x within apart is =
-      let c = came (link_at mine a) (link_at (was a.peer) (other_end r a)) x (sym (carried.own a within apart (slot_low (now r) a x is)) ∙ is) in
+      let c = came (link_at mine a) (link_at (was a.peer) (other_end r a)) x (sym (carried.own a.peer a.slot a.client within apart (slot_low (now r) a x is)) ∙ is) in
       subst (λ (y : EndView). IsEndIn xs r a y) c.it (becomes a c.v c.w within apart c.one c.two).own
 
   at_theirs : (q : ℕ) (b : EndName) (x : EndView) → q < count → q ≢ r → b.peer ≡ r → link_at (now q) b ≡ Some x → IsEndIn xs q b x
   at_theirs q b x within apart with' is =
-      let c = came (link_at (was q) b) (link_at mine (other_end q b)) x (sym (carried.theirs q b within apart with' (slot_low (now q) b x is)) ∙ is) in
+      let named : end_with r b.slot b.client ≡ b = end_path r b.slot b.client b (sym with') refl refl in
+      let there : link_at (now q) b ≡ link_carried (link_at (was q) b) (link_at mine (other_end q b)) =
+      subst (λ (z : EndName). link_at (now q) z ≡ link_carried (link_at (was q) z) (link_at mine (other_end q b))) named (carried.theirs q b.slot b.client within apart (slot_low (now q) b x is)) in
+      let c = came (link_at (was q) b) (link_at mine (other_end q b)) x (sym there ∙ is) in
       let same : other_end r (other_end q b) ≡ b = other_twice r b with' q in
       let both = becomes (other_end q b) c.w c.v within apart c.two (subst (λ (z : EndName). link_at (was q) z ≡ Some c.v) (sym same) c.one) in
       subst (λ (y : EndView). IsEndIn xs q b y) c.it (subst (λ (z : EndName). IsEndIn xs q z (after_carry c.v c.w)) same both.other)

@@ -15,6 +15,7 @@ use Rattle.node_model.specs.State.{State}
 use Rattle.node_ends.specs.Ends.{AreEnds, IsEndOf, end_in, frame_at, hand_at, has_room, link_at, passes, room_at, stands}
 use Rattle.driver_model.specs.Driver.{Driver, Flight, frames_to, has_room as has_places, is_sent_by, without_old_flights}
 use Rattle.driver_model.specs.Turning.{at_hand}
+use Rattle.link_flights.specs.Fleets.{AreEndsIn, AreOwnEndsIn}
 use Rattle.link_flights.specs.Flights.{IsEndIn, comes_to, flight_at}
 use Rattle.link_flights.proofs.Lists.{find_first, first, flat_map_like, some_of}
 use Rattle.link_flights.proofs.Dropped.{hand_dropped, link_drop, sent_stay}
@@ -51,7 +52,7 @@ abbrev pub There : Type 0
 There = (links : List EndView) (count : ℕ) (a : EndName) → length links ≡ count * 8 → a.peer < count → a.slot < 4 → is_some (link_at links a) ≡ true
 
 module _ (numbers : Numbers) (there : There) (links : List EndView) (s : SetUp) (st : State) (d : Driver) (are : AreEnds links s st)
-    (ends : (a : EndName) (v : EndView) → Member a (all_ends s) → link_at links a ≡ Some v → IsEndIn d.flights s.number a v) where
+    (ends : AreOwnEndsIn d.flights s links) where
   abbrev r : ℕ
   r = s.number
 
@@ -66,6 +67,9 @@ module _ (numbers : Numbers) (there : There) (links : List EndView) (s : SetUp) 
   pub same_at_hand : flat_map (λ (a : EndName). option_to_list (hand_at links a)) (all_ends s) ≡ at_hand s (frames_to r (young st d r))
   same_at_hand = flat_map_like (λ (a : EndName). option_to_list (hand_at links a)) (λ (a : EndName). option_to_list (find (takes_at a) (frames_to r (young st d r)))) (all_ends s)
       (λ a member. ap (λ (o : Option FrameView). option_to_list o) (each_looks a member))
+
+pub own_of_all : Numbers → (s : SetUp) (d : Driver) (ends : ℕ → List EndView) → s.number < length s.repos → AreEndsIn d.flights (length s.repos) ends → AreOwnEndsIn d.flights s (ends s.number)
+own_of_all numbers s d ends known all a v member is = let named = numbers s a member in all s.number a v known named.peer named.other is
 
 -- room
 places : (u n : ℕ) → u ≡ n → nat_le 2 (8 - u) ≡ nat_le (n + 2) 8

@@ -22,21 +22,22 @@ ghost use Rattle.node_ends.specs.Sent.{text_of_sending};
 ghost use Rattle.driver_model.specs.Driver.{Driver, adds, at_first, piece_of, without_old_flights};
 ghost use Rattle.driver_model.specs.Turning.{makes, plain_look, store_after};
 ghost use Rattle.link_flights.specs.Entries.{PostsAt, SendsInOrder, link_after};
-ghost use Rattle.link_flights.specs.Fleets.{AreAllCarried, AreEndsIn, Posted};
+ghost use Rattle.link_flights.specs.Fleets.{AreAllCarried, AreEndsIn, AreOwnEndsIn, Posted};
 ghost use Rattle.link_flights.specs.Flights.{HasAtHand, IsEndIn, other_end};
 
 use node_ends::ends_are_there;
 
 /// A look at the ends of a repository, before or after they dropped what is old, finds the frames and the room that a plain look of
-/// the driver finds once it dropped the old flights (own). An end has room there while numbers are left for its frames and
+/// the driver finds once it dropped the old flights (own). Where the ends of all repositories are as the flights tell, so are its. An
+/// end has room there while numbers are left for its frames and
 /// openings, which the driver doesn't count.
 pub fn looks_see_the_flights()
     ensures at_hand { (links : List EndView) (s : SetUp) (st : State) (d : Driver) (k : Look) → AreEnds links s st
-        → ((a : EndName) (v : EndView) → Member a (all_ends s) → link_at links a ≡ Some v → IsEndIn d.flights s.number a v)
-        → SeesEnds links s k → k.at_hand ≡ (plain_look s (without_old_flights st s.number d)).at_hand }
+        → AreOwnEndsIn d.flights s links → SeesEnds links s k → k.at_hand ≡ (plain_look s (without_old_flights st s.number d)).at_hand }
     ensures dropped { (links : List EndView) (s : SetUp) (st : State) (d : Driver) (k : Look) → AreEnds links s st
-        → ((a : EndName) (v : EndView) → Member a (all_ends s) → link_at links a ≡ Some v → IsEndIn d.flights s.number a v)
-        → SeesEnds (map after_drop links) s k → k.at_hand ≡ (plain_look s (without_old_flights st s.number d)).at_hand }
+        → AreOwnEndsIn d.flights s links → SeesEnds (map after_drop links) s k → k.at_hand ≡ (plain_look s (without_old_flights st s.number d)).at_hand }
+    ensures own { (s : SetUp) (d : Driver) (ends : ℕ → List EndView) → s.number < length s.repos → AreEndsIn d.flights (length s.repos) ends
+        → AreOwnEndsIn d.flights s (ends s.number) }
     ensures room { (links : List EndView) (s : SetUp) (st : State) (d : Driver) (a : EndName) (v : EndView) → Member a (all_ends s)
         → link_at links a ≡ Some v → IsEndIn d.flights s.number a v → v.sent + 1 < 2 ^ 62 → v.epoch < 2 ^ 32 - 1
         → room_at links a ≡ (plain_look s (without_old_flights st s.number d)).room a }
@@ -111,8 +112,8 @@ pub fn ends_begin_without_flights()
 {}
 
 /// What a step takes is the first frame at its end that isn't old, and what it sends is what the ends send next; an Opening is sent
-/// alone at an end, and that only where the end is closed and nothing was taken at it. The same holds of the Closes that a script
-/// makes (own).
+/// only as the first frame at an end, and that where the end is closed and nothing was taken at it. The same holds of the Closes that
+/// a script makes (own).
 pub fn steps_send_in_order()
     ensures takes { (links : List EndView) (s : SetUp) (st : State) (k : Look) (m : Made) (a : EndName) (v : EndView)
         → k.at_hand ≡ flat_map (λ b. option_to_list (hand_at links b)) (all_ends s) → step s st k ≡ Some m → link_at links a ≡ Some v
