@@ -38,10 +38,6 @@ module _ {X : Type 0} where
   each_filtered p [] = tt
   each_filtered p (x ∷ xs) = elim (cases_Bool (p x)) [ inl i ↦ rw i (i, each_filtered p xs) | inr i ↦ rw i (each_filtered p xs) ]
 
-  pub find_all : (p : X → Bool) (xs : List X) → Each (λ x. p x ≡ true) xs → filter p xs ≡ xs
-  find_all p [] all = refl
-  find_all p (x ∷ xs) all = rw all.0 (ap (λ (ys : List X). x ∷ ys) (find_all p xs all.1))
-
 pub filter_mapped : {X Y : Type 0} (f : X → Y) (p : Y → Bool) (q : X → Bool) → ((x : X) → p (f x) ≡ q x) → (xs : List X) → filter p (map f xs) ≡ map f (filter q xs)
 filter_mapped f p q same [] = refl
 filter_mapped {X} {Y} f p q same (x ∷ xs) = elim (cases_Bool (q x)) [

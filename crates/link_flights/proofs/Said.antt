@@ -6,6 +6,7 @@ use Rattle.std.specs.Option.{option_map}
 use Rattle.std.proofs.lemmas.Bool.Decides.{nat_tests}
 use Rattle.std.proofs.lemmas.List.{append-nil, map-append}
 use Rattle.annex_base.specs.Lists.{Each}
+use Rattle.annex_base.proofs.Lists.{filter_all}
 use Rattle.annex_base.specs.declared.kinds.EntryStamp.{EntryStamp}
 use Rattle.annex_base.specs.declared.kinds.Word.{Word}
 use Rattle.link_ring.specs.declared.frame.Frame.{Frame}
@@ -27,7 +28,7 @@ use Rattle.node_ends.specs.Sent.{link_sends, next_sent, opened_for, text_of_send
 use Rattle.driver_model.specs.Driver.{Driver, Flight, flight, piece_of}
 use Rattle.link_flights.specs.Entries.{HasPiece, OpensClosed}
 use Rattle.link_flights.specs.Flights.{flight_at, other_end}
-use Rattle.link_flights.proofs.Lists.{find_all, rest, rest_after}
+use Rattle.link_flights.proofs.Lists.{rest, rest_after}
 use Rattle.link_flights.proofs.Naming.{not_not}
 
 -- ---- how an end stands after what it takes and sends
@@ -157,7 +158,7 @@ module _ (d : Driver) (st : State) (r : ℕ) (a : EndName) (sender : EntryStamp)
 
   hand_opens : (x : Sending) (v : EndView) → Each (λ f. is_taken v f ≡ true) v.at_hand → (is_opening (text_of_sending x) ≡ true → not (is_closed v.phase) ≡ false)
       → (opened_for x v).at_hand ≡ v.at_hand
-  hand_opens sendings.Open v young opens = find_all (λ f. nat_lt v.epoch f.epoch) v.at_hand (all_later v (opens refl) v.at_hand young)
+  hand_opens sendings.Open v young opens = filter_all (λ f. nat_lt v.epoch f.epoch) v.at_hand (all_later v (opens refl) v.at_hand young)
   hand_opens sendings.Close v young opens = refl
   hand_opens (sendings.Line line l) v young opens = refl
   hand_opens (sendings.Bytes bytes) v young opens = refl
