@@ -1,0 +1,4 @@
+-- The definitions of this crate.
+pub mod Flights
+pub mod Entries
+pub mod Fleets

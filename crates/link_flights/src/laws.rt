@@ -1,0 +1,137 @@
+//! The laws of ends and flights. Each is the contract of a function that does nothing.
+ghost use Rattle.std.specs.Prelude.{◌≡◌, ◌≢◌, ◌<◌, ◌+◌, ◌-◌, ◌*◌, ◌^◌, ℕ, List, [], false, flat_map, length, map, replicate, IfSome, Option, Some, None};
+ghost use Rattle.std.specs.Option.{option_map, option_to_list};
+ghost use Rattle.annex_base.specs.Lists.{Each, Member};
+ghost use Rattle.annex_base.specs.declared.kinds.EntryStamp.{EntryStamp};
+ghost use Rattle.annex_base.specs.declared.kinds.Word.{Word};
+ghost use Rattle.link_ring.specs.Ends.{EndView, after_carry, after_drop, fresh, next_frame};
+ghost use Rattle.run_data.specs.declared.entry.Entry.{Entry};
+ghost use Rattle.run_data.specs.declared.entry.EntryKind.{EntryKind};
+ghost use Rattle.run_data.specs.declared.entry.FrameText.TheVariants as texts;
+ghost use Rattle.run_data.specs.declared.entry.FrameView.{FrameView};
+ghost use Rattle.node_model.specs.AnyTime.{all_ends, close_at, closes_all};
+ghost use Rattle.node_model.specs.Ends.{EndName, is_opening, sent_at, taken_at};
+ghost use Rattle.node_model.specs.Look.{Look, Made, entry_of};
+ghost use Rattle.node_model.specs.SetUp.{SetUp};
+ghost use Rattle.node_model.specs.State.{State};
+ghost use Rattle.node_model.specs.Step.{step};
+ghost use Rattle.node_ends.specs.declared.sending.Sending.{Sending};
+ghost use Rattle.node_ends.specs.declared.sending.Sending.TheVariants as sendings;
+ghost use Rattle.node_ends.specs.Ends.{AreEnds, SeesEnds, frame_at, hand_at, link_at, room_at, stands};
+ghost use Rattle.node_ends.specs.Sent.{text_of_sending};
+ghost use Rattle.driver_model.specs.Driver.{Driver, adds, at_first, piece_of, without_old_flights};
+ghost use Rattle.driver_model.specs.Turning.{makes, plain_look, store_after};
+ghost use Rattle.link_flights.specs.Entries.{PostsAt, SendsInOrder, link_after};
+ghost use Rattle.link_flights.specs.Fleets.{AreAllCarried, AreEndsIn, AreOwnEndsIn, Posted};
+ghost use Rattle.link_flights.specs.Flights.{HasAtHand, IsEndIn, other_end};
+
+use node_ends::ends_are_there;
+
+/// A look at the ends of a repository, before or after they dropped what is old, finds the frames and the room that a plain look of
+/// the driver finds once it dropped the old flights (own). Where the ends of all repositories are as the flights tell, so are its. An
+/// end has room there while numbers are left for its frames and
+/// openings, which the driver doesn't count.
+pub fn looks_see_the_flights()
+    ensures at_hand { (links : List EndView) (s : SetUp) (st : State) (d : Driver) (k : Look) → AreEnds links s st
+        → AreOwnEndsIn d.flights s links → SeesEnds links s k → k.at_hand ≡ (plain_look s (without_old_flights st s.number d)).at_hand }
+    ensures dropped { (links : List EndView) (s : SetUp) (st : State) (d : Driver) (k : Look) → AreEnds links s st
+        → AreOwnEndsIn d.flights s links → SeesEnds (map after_drop links) s k → k.at_hand ≡ (plain_look s (without_old_flights st s.number d)).at_hand }
+    ensures own { (s : SetUp) (d : Driver) (ends : ℕ → List EndView) → s.number < length s.repos → AreEndsIn d.flights (length s.repos) ends
+        → AreOwnEndsIn d.flights s (ends s.number) }
+    ensures room { (links : List EndView) (s : SetUp) (st : State) (d : Driver) (a : EndName) (v : EndView) → Member a (all_ends s)
+        → link_at links a ≡ Some v → IsEndIn d.flights s.number a v → v.sent + 1 < 2 ^ 62 → v.epoch < 2 ^ 32 - 1
+        → room_at links a ≡ (plain_look s (without_old_flights st s.number d)).room a }
+{
+    // For the proof, which cites it.
+    ends_are_there();
+}
+
+/// What the driver drops before a turn of r is what the ends of r drop. At the ends of others the same frames stay at hand (own).
+pub fn dropped_ends_keep_their_flights()
+    ensures own { (d : Driver) (st : State) (r : ℕ) (a : EndName) (v : EndView) → a.peer ≢ r → st.ends a ≡ stands v → IsEndIn d.flights r a v
+        → IsEndIn (without_old_flights st r d).flights r a (after_drop v) }
+    ensures others { (d : Driver) (st : State) (r q : ℕ) (b : EndName) (w : EndView) → q ≢ r → HasAtHand d.flights q b w
+        → HasAtHand (without_old_flights st r d).flights q b w }
+    ensures beside { (d : Driver) (st : State) (r q : ℕ) (b : EndName) (w : EndView) → q ≢ r → b.peer ≢ r → IsEndIn d.flights q b w
+        → IsEndIn (without_old_flights st r d).flights q b w }
+{}
+
+/// What an entry of r takes and sends at an end of r, it takes and sends in the driver, once frames were carried over the
+/// connection: both ends are as the flights tell. Old frames are dropped before a turn; a Close or a Crash of the script, which
+/// takes and opens nothing, comes without (own).
+pub fn entries_fly_over_connections()
+    ensures turn { (d : Driver) (st : State) (r : ℕ) (a : EndName) (v w : EndView) (e : Entry) (said : List Sending) (sender : EntryStamp) (word : Sending → Option Word)
+        → a.peer ≢ r → st.ends a ≡ stands v → IsEndIn d.flights r a v → IsEndIn d.flights a.peer (other_end r a) w
+        → PostsAt (without_old_flights st r d) st r a (after_drop v) e.taken e.sent said
+        → IsEndIn (adds st r e (without_old_flights st r d)).flights r a (after_carry (link_after sender word a e.taken said (after_drop v)) w)
+        × IsEndIn (adds st r e (without_old_flights st r d)).flights a.peer (other_end r a) (after_carry w (link_after sender word a e.taken said (after_drop v))) }
+    ensures idle { (d : Driver) (st : State) (r : ℕ) (a : EndName) (v w : EndView)
+        → a.peer ≢ r → st.ends a ≡ stands v → IsEndIn d.flights r a v → IsEndIn d.flights a.peer (other_end r a) w
+        → IsEndIn (without_old_flights st r d).flights r a (after_carry (after_drop v) w)
+        × IsEndIn (without_old_flights st r d).flights a.peer (other_end r a) (after_carry w (after_drop v)) }
+    ensures close { (d : Driver) (st : State) (r : ℕ) (a : EndName) (v w : EndView) (e : Entry) (said : List Sending) (sender : EntryStamp) (word : Sending → Option Word)
+        → a.peer ≢ r → IsEndIn d.flights r a v → IsEndIn d.flights a.peer (other_end r a) w
+        → PostsAt d st r a v e.taken e.sent said → taken_at a e.taken ≡ None → Each (λ b. is_opening b ≡ false) (map (λ f. f.body) (sent_at a e.sent))
+        → IsEndIn (adds st r e d).flights r a (after_carry (link_after sender word a e.taken said v) w)
+        × IsEndIn (adds st r e d).flights a.peer (other_end r a) (after_carry w (link_after sender word a e.taken said v)) }
+    ensures beside { (d : Driver) (st : State) (r q : ℕ) (b : EndName) (w : EndView) (e : Entry) → q ≢ r → b.peer ≢ r → IsEndIn d.flights q b w
+        → IsEndIn (adds st r e d).flights q b w }
+{}
+
+/// A turn of one repository, with an entry or without, after which frames were carried between it and each other one, leaves the ends
+/// of all repositories as the flights tell; and so does a Close or a Crash of the script, which takes and opens nothing (own).
+pub fn turns_keep_all_ends()
+    ensures moved { (s : SetUp) (st : State) (d : Driver) (was now : ℕ → List EndView) (mine : List EndView) (e : Entry) (sender : EntryStamp)
+        (word : EndName → Sending → Option Word) (said : EndName → List Sending) → s.number < length s.repos → AreEnds (was s.number) s st
+        → AreEndsIn d.flights (length s.repos) was
+        → Posted s st (without_old_flights st s.number d) sender word said (map after_drop (was s.number)) mine e
+        → AreAllCarried (length s.repos) s.number mine was now
+        → AreEndsIn (adds st s.number e (without_old_flights st s.number d)).flights (length s.repos) now }
+    ensures idle { (s : SetUp) (st : State) (d : Driver) (was now : ℕ → List EndView) → s.number < length s.repos → AreEnds (was s.number) s st
+        → AreEndsIn d.flights (length s.repos) was
+        → AreAllCarried (length s.repos) s.number (map after_drop (was s.number)) was now
+        → AreEndsIn (without_old_flights st s.number d).flights (length s.repos) now }
+    ensures closed { (s : SetUp) (st : State) (d : Driver) (was now : ℕ → List EndView) (mine : List EndView) (e : Entry) (sender : EntryStamp)
+        (word : EndName → Sending → Option Word) (said : EndName → List Sending) → s.number < length s.repos
+        → AreEndsIn d.flights (length s.repos) was
+        → e.taken ≡ None → Each (λ f. is_opening f.body ≡ false) e.sent → Posted s st d sender word said (was s.number) mine e
+        → AreAllCarried (length s.repos) s.number mine was now → AreEndsIn (adds st s.number e d).flights (length s.repos) now }
+{
+    // For the proof, which cites it.
+    ends_are_there();
+}
+
+/// Before the first entry no end has a frame, and there are no flights; an entry that takes and sends nothing changes neither, nor does
+/// what a step does to its store (own).
+pub fn ends_begin_without_flights()
+    ensures first { (r : ℕ) (a : EndName) → IsEndIn at_first.flights r a fresh }
+    ensures all { (count : ℕ) → AreEndsIn at_first.flights count (λ q. replicate (count * 8) fresh) }
+    ensures quiet { (d : Driver) (st : State) (r : ℕ) (e : Entry) → e.taken ≡ None → e.sent ≡ [] → (adds st r e d).flights ≡ d.flights }
+    ensures store { (d : Driver) (st : State) (r : ℕ) (m : Made) (bytes : List ℕ) (kind : EntryKind) → (store_after st r m bytes kind d).flights ≡ d.flights }
+    ensures made { (d : Driver) (st : State) (r : ℕ) (k : Look) (m : Made) → (makes st r k (Some m) d).flights ≡ (adds st r (entry_of r k m) d).flights }
+{}
+
+/// What a step takes is the first frame at its end that isn't old, and what it sends is what the ends send next; an Opening is sent
+/// only as the first frame at an end, and that where the end is closed and nothing was taken at it. The same holds of the Closes that
+/// a script makes (own).
+pub fn steps_send_in_order()
+    ensures takes { (links : List EndView) (s : SetUp) (st : State) (k : Look) (m : Made) (a : EndName) (v : EndView)
+        → k.at_hand ≡ flat_map (λ b. option_to_list (hand_at links b)) (all_ends s) → step s st k ≡ Some m → link_at links a ≡ Some v
+        → IfSome (taken_at a m.taken) (λ f. option_map (frame_at a) (next_frame v) ≡ Some f) }
+    ensures sends { (s : SetUp) (st : State) (k : Look) (m : Made) (a : EndName) → step s st k ≡ Some m → SendsInOrder (st.ends a) a m.taken m.sent }
+    ensures close { (s : SetUp) (st : State) (a b : EndName) → SendsInOrder (st.ends a) a None (close_at s st b) }
+    ensures crash { (s : SetUp) (st : State) (a : EndName) → SendsInOrder (st.ends a) a None (closes_all s st) }
+{}
+
+/// An entry with what a step takes and sends is posted, where what was said at each end is what the entry lists there, the ends became
+/// what node_ends' calls make of them, and each piece has the bytes that the definition gives (own).
+pub fn steps_are_posted()
+    ensures { (s : SetUp) (st : State) (d : Driver) (k : Look) (m : Made) (e : Entry) (was now : List EndView) (sender : EntryStamp)
+        (word : EndName → Sending → Option Word) (said : EndName → List Sending) → AreEnds was s st
+        → k.at_hand ≡ flat_map (λ b. option_to_list (hand_at was b)) (all_ends s) → step s st k ≡ Some m → e.taken ≡ m.taken → e.sent ≡ m.sent
+        → ((a : EndName) → map text_of_sending (said a) ≡ map (λ f. f.body) (sent_at a e.sent))
+        → ((a : EndName) → link_at now a ≡ option_map (link_after sender (word a) a e.taken (said a)) (link_at was a))
+        → ((a : EndName) (f : FrameView) (bytes : List ℕ) → Member f (sent_at a e.sent) → Member (sendings.Bytes bytes) (said a) → f.body ≡ texts.Bytes (length bytes)
+        → bytes ≡ piece_of d st s.number f f.body)
+        → Posted s st d sender word said was now e }
+{}
