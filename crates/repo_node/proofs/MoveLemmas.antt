@@ -1,16 +1,20 @@
 -- What a step of the sessions or of the jobs adds to a node.
 use Rattle.std.proofs.Common.{◌≡◌, ℕ, ◌+◌, Bool, false, List, [], ◌∷◌, ◌++◌, Option, Some, None, Result, Ok, Err, IfOk, length, is_some, refl, sym, ap, subst, ◌∙◌}
-use Rattle.std.specs.Prelude.{IfSome, vec_len}
+use Rattle.std.specs.Prelude.{IfSome, if◌then◌else◌, vec_len}
 use Rattle.std.specs.Option.{ForSome}
 use Rattle.annex_base.specs.Causes.{Rose}
+use Rattle.annex_base.proofs.Conditions.{bytes_eq-refl}
 use Rattle.trust_groups.specs.Reads.{Indices, Reads}
 use Rattle.trust_groups.specs.Settings.{Lines, settings}
 use Rattle.trust_groups.specs.View.{settings_of}
 use Rattle.run_data.specs.declared.entry.Entry.{Entry}
 use Rattle.run_data.specs.declared.entry.EntryKind.{EntryKind}
+use Rattle.run_data.specs.declared.entry.EntryKind.TheVariants.{Log}
 use Rattle.run_data.specs.declared.entry.FrameView.{FrameView}
+use Rattle.run_data.specs.Files.{file_path}
 use Rattle.object_store.specs.Stores.{Contents, Parts as StoredParts}
 use Rattle.union_merge.specs.Branch.{Files, lines_at}
+use Rattle.union_merge.specs.LineSet.{union}
 use Rattle.drop_worker.specs.Working.{failed_in}
 use Rattle.annex_base.specs.declared.memory.NoMemory.{NoMemory}
 use Rattle.node_model.specs.Look.{Look, Made, first_of}
@@ -22,6 +26,7 @@ use Rattle.node_model.specs.Turns.{job_step}
 use Rattle.node_sessions.specs.Sessions.{FedAll}
 use Rattle.node_parts.specs.declared.done.Done.{Done}
 use Rattle.node_parts.specs.declared.moment.Moment.{Moment}
+use Rattle.node_parts.specs.Kinds.{IsQuiet}
 use Rattle.node_parts.specs.Parts.{PartsView}
 use Rattle.node_parts.specs.Steps.{Acts, Leaves, LeavesSo, SeesParts, Serves, failed_by, made_of, words_heard}
 use Rattle.repo_node.specs.declared.past.Past.{Past}
@@ -30,8 +35,8 @@ use Rattle.repo_node.specs.declared.setup.Setup.{Setup}
 use Rattle.repo_node.specs.Kept.{IsFed, IsKept}
 use Rattle.repo_node.specs.Nodes.{Fits, NodeView, state_of, told_of}
 use Rattle.repo_node.specs.Pasts.{SamePast, frames_entry}
-use Rattle.repo_node.specs.Stepping.{AddsIf, EntersIf, EntersStep, MovesSo, NoStep, Stepper, StepsBy}
-use Rattle.repo_node.specs.Turning.{Adds, Looks, ended_by}
+use Rattle.repo_node.specs.Stepping.{AddsIf, EntersIf, EntersStep, MovesSo, NoStep}
+use Rattle.repo_node.specs.Turning.{Adds, Looks, Stepper, StepsBy, branch_by, ended_by}
 use Rattle.repo_node.proofs.StepLemmas.{CountLaw, DoesBy, sees_parts, told_some}
 
 -- the node that these are
@@ -86,9 +91,18 @@ pub seen_same : {K : Type 0} (k k' : K) (parts parts' : PartsView) (branch : Fil
 seen_same {K} k k' parts parts' branch was now owed owed' n view ep same eo =
     subst (λ (m : NodeView K). seen k' parts' branch now owed' ≡ record m { keeper = k' }) view (same_node k k' parts parts' branch was now owed owed' ep same eo)
 
+-- a step of these changes no log, so its entry leaves the branch
+one_line : [] ≡ ◌∷◌ {A = List ℕ} (0 ∷ []) [] → ⊥
+one_line is = absurd cc
+
+branch_stays : (b : Files) (kind : EntryKind) → IsQuiet kind → b ≡ branch_by b kind []
+branch_stays b (Log file) quiet =
+    absurd (one_line (sym (quiet.lines (file_path file) [] ((0 ∷ []) ∷ [])) ∙ ap (λ (t : Bool). if t then union [] ((0 ∷ []) ∷ []) else []) (bytes_eq-refl (file_path file))))
+branch_stays b _ quiet = refl
+
 adds_entry : {K : Type 0} (d : Done) (k k' : K) (parts parts' : PartsView) (branch : Files) (number : ℕ) (was now : Past) (owed owed' : List Owed) (faults faults' : ℕ)
-    → EntersStep d was now → Leaves number parts parts' d → IfSome (failed_in d.kind) (λ call. Rose faults faults') → Adds parts.links faults faults' (seen k parts branch was owed) (seen k' parts' branch now owed')
-adds_entry d k k' parts parts' branch number was now owed owed' faults faults' enters leaves cause = record {
+    → EntersStep d was now → Leaves number parts parts' d → IsQuiet d.kind → IfSome (failed_in d.kind) (λ call. Rose faults faults') → Adds parts.links faults faults' (seen k parts branch was owed) (seen k' parts' branch now owed')
+adds_entry d k k' parts parts' branch number was now owed owed' faults faults' enters leaves quiet cause = record {
   entry = frames_entry was d.kind d.taken d.sent;
   history = enters.history;
   outcomes = enters.outcomes ∙ ap (λ (n : ℕ). was.outcomes.items ++ ended_by d.kind n) was.history.ok.0;
@@ -98,20 +112,21 @@ adds_entry d k k' parts parts' branch number was now owed owed' faults faults' e
   counted = enters.count;
   at = enters.time;
   setup = enters.setup;
+  branch = branch_stays branch d.kind quiet;
   ends = leaves.ends;
   cause = cause;
 }
 
 pub adds_if : {K : Type 0} (o : Option Done) (b : Bool) (k k' : K) (parts parts' : PartsView) (branch : Files) (number : ℕ) (was ready now : Past) (debts debts' : List ℕ) (owed owed' : List Owed) (faults : K → ℕ) (faults' : ℕ) (n : NodeView K)
-    → seen k parts branch was owed ≡ n → b ≡ is_some o → SamePast was ready → EntersIf o ready now debts debts' → LeavesSo number parts parts' o → IfSome (failed_by o) (λ call. Rose (faults k) faults') → (o ≡ None → owed' ≡ owed)
+    → seen k parts branch was owed ≡ n → b ≡ is_some o → SamePast was ready → EntersIf o ready now debts debts' → LeavesSo number parts parts' o → ForSome o (λ d. IsQuiet d.kind) → IfSome (failed_by o) (λ call. Rose (faults k) faults') → (o ≡ None → owed' ≡ owed)
     → AddsIf b n.parts.links (faults n.keeper) faults' n (seen k' parts' branch now owed')
-adds_if {K} None b k k' parts parts' branch number was ready now debts debts' owed owed' faults faults' n view made same enters leaves cause stays =
+adds_if {K} None b k k' parts parts' branch number was ready now debts debts' owed owed' faults faults' n view made same enters leaves quiet cause stays =
     subst (λ (x : Bool). AddsIf x n.parts.links (faults n.keeper) faults' n (seen k' parts' branch now owed')) (sym made)
     (seen_same k k' parts parts' branch was now owed owed' n view leaves (subst (SamePast was) (sym enters.0) same) (stays refl))
-adds_if {K} (Some d) b k k' parts parts' branch number was ready now debts debts' owed owed' faults faults' n view made same enters leaves cause stays =
+adds_if {K} (Some d) b k k' parts parts' branch number was ready now debts debts' owed owed' faults faults' n view made same enters leaves quiet cause stays =
     subst (λ (x : Bool). AddsIf x n.parts.links (faults n.keeper) faults' n (seen k' parts' branch now owed')) (sym made)
     (subst (λ (m : NodeView K). Adds m.parts.links (faults m.keeper) faults' m (seen k' parts' branch now owed')) view
-    (adds_entry d k k' parts parts' branch number was now owed owed' (faults k) faults' (enters_after d was ready now same enters.0) leaves cause))
+    (adds_entry d k k' parts parts' branch number was now owed owed' (faults k) faults' (enters_after d was ready now same enters.0) leaves (quiet d refl) cause))
 
 -- ---- the step
 

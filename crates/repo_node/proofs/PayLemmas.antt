@@ -24,8 +24,7 @@ use Rattle.repo_node.specs.Owing.{is_owing}
 use Rattle.repo_node.specs.Refusals.{RefusesFor}
 use Rattle.repo_node.specs.declared.refused.NodeRefused.{NodeRefused}
 use Rattle.repo_node.specs.declared.refused.NodeRefused.TheVariants as refusals
-use Rattle.repo_node.specs.Stepping.{StepsBy}
-use Rattle.repo_node.specs.Turning.{Adds, ended_by}
+use Rattle.repo_node.specs.Turning.{Adds, StepsBy, branch_by, ended_by}
 
 -- the first of the lines that are owed
 pub owing_first : (os : List Owed) → is_owing os ≡ true → (o : Owed) × (os ≡ o ∷ drop 1 os)
@@ -50,9 +49,9 @@ abbrev pub StayLaw : Type 0
 StayLaw = (links : List EndView) → AreAfter links links None []
 
 adds_quiet : {K : Type 0} (law : StayLaw) (n m : NodeView K) (kind : EntryKind) (lines : List (List ℕ)) (f f' : ℕ)
-    → m.setup ≡ n.setup → m.time ≡ n.time → m.count ≡ n.count + 1 → m.history ≡ n.history ++ next_entry n kind lines ∷ [] → m.outcomes ≡ n.outcomes → m.parts ≡ n.parts → ended_by kind (length n.history) ≡ [] → IfSome (failed_in kind) (λ call. Rose f f')
+    → m.setup ≡ n.setup → m.time ≡ n.time → m.count ≡ n.count + 1 → m.history ≡ n.history ++ next_entry n kind lines ∷ [] → m.outcomes ≡ n.outcomes → m.branch ≡ branch_by n.branch kind lines → m.parts ≡ n.parts → ended_by kind (length n.history) ≡ [] → IfSome (failed_in kind) (λ call. Rose f f')
     → Adds n.parts.links f f' n m
-adds_quiet law n m kind lines f f' setup time count history outcomes parts none cause = record {
+adds_quiet law n m kind lines f f' setup time count history outcomes branch parts none cause = record {
   entry = next_entry n kind lines;
   history = history;
   outcomes = outcomes ∙ sym (append-nil n.outcomes) ∙ ap (λ (x : List Ended). n.outcomes ++ x) (sym none);
@@ -62,17 +61,18 @@ adds_quiet law n m kind lines f f' setup time count history outcomes parts none 
   counted = count;
   at = time;
   setup = setup;
+  branch = branch;
   ends = subst (λ (p : PartsView). AreAfter n.parts.links p.links None []) (sym parts) (law n.parts.links);
   cause = cause;
 }
 
 pub adds_paid : {K : Type 0} (law : StayLaw) (n m : NodeView K) (o : Owed) (f f' : ℕ) → m ≡ with_status n m.keeper o.key o.repo o.there → Adds n.parts.links f f' n m
 adds_paid {K} law n m o f f' is = adds_quiet law n m (Log (Location o.key)) (due_by n o.key o.repo o.there) f f' (ap (λ (x : NodeView K). x.setup) is) (ap (λ (x : NodeView K). x.time) is) (ap (λ (x : NodeView K). x.count) is) (ap (λ (x : NodeView K). x.history) is)
-    (ap (λ (x : NodeView K). x.outcomes) is) (ap (λ (x : NodeView K). x.parts) is) refl tt
+    (ap (λ (x : NodeView K). x.outcomes) is) (ap (λ (x : NodeView K). x.branch) is) (ap (λ (x : NodeView K). x.parts) is) refl tt
 
 pub adds_failed : {K : Type 0} (law : StayLaw) (n m : NodeView K) (o : Owed) (f f' : ℕ) → m ≡ with_entry n m.keeper n.branch (Fault PutFile o.by) [] → Rose f f' → Adds n.parts.links f f' n m
 adds_failed {K} law n m o f f' is rose = adds_quiet law n m (Fault PutFile o.by) [] f f' (ap (λ (x : NodeView K). x.setup) is) (ap (λ (x : NodeView K). x.time) is) (ap (λ (x : NodeView K). x.count) is) (ap (λ (x : NodeView K). x.history) is)
-    (ap (λ (x : NodeView K). x.outcomes) is) (ap (λ (x : NodeView K). x.parts) is) refl rose
+    (ap (λ (x : NodeView K). x.outcomes) is) (ap (λ (x : NodeView K). x.branch) is) (ap (λ (x : NodeView K). x.parts) is) refl rose
 
 -- ---- the step
 

@@ -40,7 +40,7 @@ returns-clause-adds g c =
     let it = c.in_ok-done in
     let e = c.enter_if in
     adds_if it.done e.result i.keeper w.new.keeper i.parts w.new.self i.branch c.moment-moment.result.number i.past room.new.past e.new.past room.new.debts.items e.new.debts.items (owed_in i.past i.debts.items) (owed_in e.new.past e.new.debts.items)
-    g.K.Keeper.faults (g.K.Keeper.faults w.new.keeper) c.args.self.now c.self.view_is e.ensures.made room.ensures.same e.ensures.enters it.ensures.leaves it.ensures.cause
+    g.K.Keeper.faults (g.K.Keeper.faults w.new.keeper) c.args.self.now c.self.view_is e.ensures.made room.ensures.same e.ensures.enters it.ensures.leaves it.ensures.kind it.ensures.cause
     (owed_if_none it.done i.past room.new.past e.new.past i.debts.items room.new.debts.items e.new.debts.items room.ensures.same room.ensures.same_debts e.ensures.enters c.self.invariant.4)
 
 pub returns-clause-step : goal.returns-clause-step
