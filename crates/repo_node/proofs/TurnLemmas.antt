@@ -20,7 +20,7 @@ use Rattle.node_model.specs.Turns.{job_step}
 use Rattle.repo_node.specs.declared.turn.Turn.TheVariants as turns
 use Rattle.repo_node.specs.Nodes.{Fits, IsState, NodeView, state_of, told_of}
 use Rattle.repo_node.specs.Owing.{is_owing}
-use Rattle.repo_node.specs.Stepping.{AddsIf, MovesSo, NoStep, ReadySo}
+use Rattle.repo_node.specs.Stepping.{AddsIf, MovesSo, NoStep, ReadySo, WhereStill}
 use Rattle.repo_node.specs.Turning.{Adds, HasStep, IsIdle, Looks, Stepper, StepsBy}
 use Rattle.repo_node.specs.Turns.{turn_full, turn_made}
 use Rattle.repo_node.proofs.StepLemmas.{told_known, told_some}
@@ -236,6 +236,16 @@ pub where_stays : {K : Type 0} (r : Result Bool NoMemory) (links : List EndView)
 where_stays (Ok true) links f f' n m other adds err = absurd (other refl)
 where_stays (Ok false) links f f' n m other adds err = adds
 where_stays (Err e) links f f' n m other adds err = err
+
+pub where_still : {P : Type 0} (r : Result Bool NoMemory) → turn_made r ≢ turns.Moved → WhereStill r P → P
+where_still (Ok true) other said = absurd (other refl)
+where_still (Ok false) other said = said
+where_still (Err e) other said = said
+
+pub still_said : {P : Type 0} (r : Result Bool NoMemory) → P → WhereStill r P
+still_said (Ok true) p = tt
+still_said (Ok false) p = p
+still_said (Err e) p = p
 
 -- the clauses of a turn, of the node before its frames were dropped
 pub turn_adds : {K : Type 0} (r : Result Bool NoMemory) (f f' : ℕ) (n n' m : NodeView K) → n' ≡ dropped n → turn_made r ≡ turns.Moved → IfOk r (λ b. AddsIf b n'.parts.links f f' n' m) → Adds (map after_drop n.parts.links) f f' n m

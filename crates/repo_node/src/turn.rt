@@ -63,6 +63,8 @@ impl<K: Keeper> Node<K> {
 
         // Else only those frames are gone.
         ensures stays { result ≢ Turn.Moved → self.new ≡ record self.old { keeper = self.new.keeper; parts = record self.old.parts { links = map after_drop self.old.parts.links } } }
+        ensures files { result ≢ Turn.Moved → K.files self.new.keeper ≡ K.files self.old.keeper }
+        ensures unasked { result ≡ Turn.Full → self.new.keeper ≡ self.old.keeper }
         ensures told_parts { is_some (K.parts self.new.keeper) ≡ is_some (K.parts self.old.keeper) }
         ensures told_contents { is_some (K.parts self.old.keeper) ≡ true → is_some (K.contents self.new.keeper) ≡ is_some (K.contents self.old.keeper) }
         ensures paired { StayPaired self.old.parts.links self.new.parts.links }
