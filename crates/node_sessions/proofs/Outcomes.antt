@@ -41,7 +41,7 @@ use Rattle.node_sessions.specs.Built.{IsClosed}
 use Rattle.node_sessions.specs.Moments.{GivesAt, IsReady, LeavesParts, Makes, SeesOne, Serves, WaitsAt}
 use Rattle.node_sessions.specs.Serving.{IsTalk, SeesPartAt, ServesAt, end_by, made_by, reply_by, says_by, taken_by}
 use Rattle.node_sessions.specs.Sessions.{end_of, owner_of}
-use Rattle.node_sessions.specs.Words.{word_of_kind}
+use Rattle.node_sessions.specs.Words.{word_beside, word_to}
 use Rattle.node_sessions.proofs.Answering.{KindSo, RepliesAreLines, given_kind, given_next, gives_made_so, giving_bare, giving_fills_so, keeps_on, parts_kept, parts_stay, says_so, sees_size, still_below, still_open, taken_is, taken_none, takes_made}
 use Rattle.node_sessions.proofs.Framing.{IsFrameAt, waits_form}
 
@@ -93,7 +93,7 @@ hung_up links clock number was now rows rows' frame contents parts records fault
       opened = λ e. absurd (true≢false e);
       talk = λ x e. absurd cc;
       shuts = λ e. absurd (true≢false (sym e));
-      word = refl;
+      word = sym (ap (λ (o : Option FrameView). word_to o (kinds.Close (place_of was).peer (place_of was).slot false)) w.waits ∙ ap (λ (b : Body). word_beside (text_in b) (kinds.Close (place_of was).peer (place_of was).slot false)) is);
     }
 
     makes : (s : SetUp) (st : State) (k : Look) → SeesOne links clock number (moment_of was rows contents parts records faults) (closing_at (place_of was)) s st k
@@ -132,14 +132,14 @@ pub record TookSo (clock number : ℕ) (i : Incoming) (was now : Session) (rows 
   pub later : faults ≤ faults'
   pub cause : IfSome (failed_in x.kind) (λ call. Rose faults faults')
 
-pub record AnsweredSo (p : Place) (x : Step) (v : Served) : Type 0 where
+pub record AnsweredSo (p : Place) (i : Incoming) (x : Step) (v : Served) : Type 0 where
   pub peer : v.peer ≡ p.peer
   pub slot : v.slot ≡ p.slot
   pub takes : v.takes ≡ true
   pub kind : v.kind ≡ x.kind
   pub reply : reply_by v ≡ reply_of x
   pub talk : ForSome v.reply IsTalk
-  pub word : v.word ≡ word_of_kind x.kind
+  pub word : (body : FrameText) → Brings body i → v.word ≡ word_beside body x.kind
 
 closing_only : (b : Body) → text_in b ≡ Closing → b ≡ bodies.Close
 closing_only bodies.Open e = absurd cc
@@ -149,7 +149,7 @@ closing_only bodies.Close e = refl
 
 pub replies : RepliesAreLines → (links : List EndView) (clock number : ℕ) (i : Incoming) (frame : Frame) (was now : Session) (rows rows' : Rows) (contents contents' : Option Contents) (parts parts' : Option Parts) (records records' : Option (List HoldRecord)) (faults faults' : ℕ)
     (x : Step) (p : Place) (v : Served) → (frame.body ≡ bodies.Close → ⊥) → Brings (text_in frame.body) i → WaitsAt links was frame → p ≡ place_of was
-    → TookSo clock number i was now rows rows' contents contents' parts parts' records' faults faults' x → AnsweredSo p x v
+    → TookSo clock number i was now rows rows' contents contents' parts parts' records' faults faults' x → AnsweredSo p i x v
     → Serves links clock number (moment_of was rows contents parts records faults) (moment_of now rows' contents' parts' records' faults') v
 replies law links clock number i frame was now rows rows' contents contents' parts parts' records records' faults faults' x p v other brings w place t y = record {
   place = t.place;
@@ -189,7 +189,7 @@ replies law links clock number i frame was now rows rows' contents contents' par
       talk = y.talk;
       shuts = λ e. ap (λ (b : EndName). (end_took (end_at links b) (taken_by links v)).opened) end ∙ ap (λ (o : Option FrameView). (end_took (end_at links (end_of was)) o).opened) took
           ∙ still_open (end_at links (end_of was)) (frame_at (end_of was) frame) form.may (λ e. other (closing_only frame.body e));
-      word = y.word ∙ sym (ap word_of_kind y.kind);
+      word = y.word (text_in frame.body) brings ∙ sym (ap (λ (o : Option FrameView). word_to o v.kind) took ∙ ap (word_beside (text_in frame.body)) y.kind);
     }
 
     said : (c : End) → SaysSo x (frames (end_by v) c (says_by v))
@@ -231,7 +231,7 @@ pub record GivenSo (p : Place) (m : More) (v : Served) : Type 0 where
   pub fails : failed_in v.kind ≡ failed_more m
   pub kind : (n : ℕ) → IsKind n v.kind
   pub talk : ForSome v.reply IsTalk
-  pub word : v.word ≡ word_of_kind v.kind
+  pub word : v.word ≡ None
 
 fed_same : (parts parts' : Option Parts) (p p' : Parts) (now : Session) → parts' ≡ parts → parts ≡ Some p → parts' ≡ Some p' → IsFedOf p now → IsFedOf p' now
 fed_same parts parts' p p' now same is is' fed =
@@ -281,7 +281,7 @@ gives_so links clock number was now rows contents contents' parts parts' records
       opened = λ e. ap (λ (b : EndName). (end_at links b).opened) end ∙ w.opened;
       talk = y.talk;
       shuts = λ e. ap (λ (o : Option FrameView). (end_took (end_at links (end_by v)) o).opened) took ∙ ap (λ (b : EndName). (end_at links b).opened) end ∙ w.opened;
-      word = y.word;
+      word = y.word ∙ sym (ap (λ (o : Option FrameView). word_to o v.kind) took);
     }
 
     makes : (s : SetUp) (st : State) (k : Look) → SeesOne links clock number (moment_of was rows contents parts records faults) v s st k

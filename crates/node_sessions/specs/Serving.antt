@@ -28,7 +28,7 @@ use Rattle.p2p_server.specs.States.{Keeps, Stand, stand_after, stand_of}
 use Rattle.p2p_server.specs.Talking.{AreAfterStep, Brings, IsJudgedOf, SeesPartOf}
 use Rattle.node_sessions.specs.declared.served.Served.{Served}
 use Rattle.node_sessions.specs.Sessions.{AreSessions, owner_of}
-use Rattle.node_sessions.specs.Words.{word_of_kind}
+use Rattle.node_sessions.specs.Words.{word_to}
 
 -- ---- what is served
 
@@ -68,7 +68,7 @@ pub record ServesAt (links : List EndView) (v : Served) : Type 0 where
   pub opened : v.takes ≡ false → (end_at links (end_by v)).opened ≡ true
   pub talk : ForSome v.reply IsTalk
   pub shuts : v.close ≡ true → (end_took (end_at links (end_by v)) (taken_by links v)).opened ≡ true
-  pub word : v.word ≡ word_of_kind v.kind
+  pub word : v.word ≡ word_to (taken_by links v) v.kind
 
 abbrev pub ServesIf : List EndView → Option Served → Type 0
 ServesIf links o = ForSome o (ServesAt links)

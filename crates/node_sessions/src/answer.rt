@@ -4,23 +4,25 @@ ghost use Rattle.std.specs.Option.{ForSome};
 ghost use Rattle.link_ring.specs.Ends.{EndView};
 ghost use Rattle.content_lock.specs.Stored.{Agrees};
 ghost use Rattle.content_lock.specs.Tokens.{Owns};
+ghost use Rattle.run_data.specs.declared.entry.FrameText.{FrameText};
 ghost use Rattle.link_ring.specs.declared.frame.Body.TheVariants as bodies;
+ghost use Rattle.node_ends.specs.Ends.{text_in};
 ghost use Rattle.p2p_server.specs.Answers.{reply_of};
 ghost use Rattle.p2p_server.specs.Bounds.{IsReplyIf};
 ghost use Rattle.p2p_server.specs.Stepping.{moment_of};
-ghost use Rattle.p2p_server.specs.Talking.{HasFillOf, share_of};
+ghost use Rattle.p2p_server.specs.Talking.{Brings, HasFillOf, share_of};
 ghost use Rattle.object_store.specs.declared.keeper.HoldRecord.{HoldRecord};
 ghost use Rattle.object_store.specs.Stores.{Contents, Parts};
 ghost use Rattle.std.specs.declared.option.Option.{Option};
 ghost use Rattle.node_sessions.specs.Moments.{Serves, WaitsAt};
 ghost use Rattle.node_sessions.specs.Serving.{IsTalk, reply_by};
 ghost use Rattle.node_sessions.specs.Sessions.{owner_of};
-ghost use Rattle.node_sessions.specs.Words.{word_of_kind};
+ghost use Rattle.node_sessions.specs.Words.{word_beside};
 
 use crate::heard::heard;
 use crate::room::Room;
 use crate::served::Served;
-use crate::words::word_of_kind;
+use crate::words::word_beside;
 use annex_base::NoMemory;
 use content_lock::LockTable;
 use link_ring::{Body, Frame};
@@ -29,8 +31,8 @@ use p2p_server::{Incoming, Place, Session, Step, replies_are_short_lines};
 use run_data::EntryKind;
 use std::alloc::Global;
 
-/// What a session serves that took a frame, and answers so.
-fn answered(place: &Place, room: Room, step: Step) -> Served
+/// What a session serves that took this, and answers so.
+fn answered(place: &Place, incoming: &Incoming, room: Room, step: Step) -> Served
     requires { IsReplyIf step.reply }
     ensures at { (result.peer ≡ place.now.peer) × (result.slot ≡ place.now.slot) }
     ensures takes { result.takes ≡ true }
@@ -38,10 +40,10 @@ fn answered(place: &Place, room: Room, step: Step) -> Served
     ensures close { result.close ≡ step.close }
     ensures reply { reply_by result ≡ reply_of step }
     ensures talk { ForSome result.reply IsTalk }
-    ensures word { result.word ≡ word_of_kind step.kind }
+    ensures word { (body : FrameText) → Brings body incoming.now → result.word ≡ word_beside body step.kind }
 {
     let Step { kind, reply, close } = step;
-    let word = word_of_kind(&kind);
+    let word = word_beside(incoming, &kind);
     let reply = room.reply(&reply);
     Served {
         peer: place.peer,
@@ -112,7 +114,7 @@ fn reply_to<K: Keeper>(
     let room = Room::new(alloc)?;
     let step = session.take(alloc, table, keeper, &incoming, clock, number)?;
     let place = session.place();
-    Ok(answered(&place, room, step))
+    Ok(answered(&place, &incoming, room, step))
 }
 
 /// The answer to the frame that waits at the session's end.

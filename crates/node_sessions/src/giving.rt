@@ -10,11 +10,9 @@ ghost use Rattle.p2p_server.specs.Stepping.{moment_of};
 ghost use Rattle.p2p_server.specs.Talking.{session_of};
 ghost use Rattle.node_sessions.specs.Moments.{GivesAt, IsReady, Serves};
 ghost use Rattle.node_sessions.specs.Serving.{IsTalk, reply_by};
-ghost use Rattle.node_sessions.specs.Words.{word_of_kind};
 
 use crate::room::Room;
 use crate::served::Served;
-use crate::words::word_of_kind;
 use annex_base::{NoMemory, Text};
 use node_ends::Sending;
 use object_store::Keeper;
@@ -24,9 +22,8 @@ use std::alloc::Global;
 
 /// What a session serves unasked.
 fn unasked(place: &Place, kind: EntryKind, reply: Option<Sending>, close: bool) -> Served
-    ensures { result ≡ record { peer = place.now.peer; slot = place.now.slot; takes = false; kind = kind; reply = reply; close = close; word = word_of_kind kind } }
+    ensures { result ≡ record { peer = place.now.peer; slot = place.now.slot; takes = false; kind = kind; reply = reply; close = close; word = None } }
 {
-    let word = word_of_kind(&kind);
     Served {
         peer: place.peer,
         slot: place.slot,
@@ -34,7 +31,7 @@ fn unasked(place: &Place, kind: EntryKind, reply: Option<Sending>, close: bool) 
         kind,
         reply,
         close,
-        word,
+        word: None,
     }
 }
 
@@ -48,7 +45,7 @@ fn given(place: &Place, room: Room, more: More) -> Served
     ensures fails { failed_in result.kind ≡ failed_more more }
     ensures kind { (number : ℕ) → IsKind number result.kind }
     ensures talk { ForSome result.reply IsTalk }
-    ensures word { result.word ≡ word_of_kind result.kind }
+    ensures word { result.word ≡ None }
 {
     match more {
         More::Piece(bytes) => {
