@@ -1,12 +1,14 @@
 -- What the proof of `parts::Parts::serve` needs beside the tactics.
-use Rattle.std.proofs.Common.{List, false, length, ◌+◌, refl, sym, ap, subst, ◌∙◌, arith}
+use Rattle.std.proofs.Common.{ℕ, List, false, length, ◌+◌, refl, sym, ap, subst, ◌∙◌, arith}
 use Rattle.std.specs.Option.{ForSome}
+use Rattle.annex_base.specs.declared.kinds.EntryStamp.{EntryStamp}
 use Rattle.run_data.specs.declared.entry.By.TheVariants.{Job as by_job}
 use Rattle.link_ring.specs.Ends.{EndView}
 use Rattle.node_ends.specs.Joined.{StayPaired}
 use Rattle.node_sessions.specs.Serving.{ServesIf}
 use Rattle.node_sessions.specs.Sessions.{FedAll}
 use Rattle.node_parts.specs.Parts.{PartsView}
+use Rattle.node_parts.specs.Posting.{Posts, stamp_of}
 use Rattle.node_parts.specs.Steps.{LeavesSo, Serves}
 use Rattle.node_parts.proofs.Served.{leaves_at, quiet_served, step_of}
 use Rattle.node_parts.proofs.Sounding.{no_jobs, sound_after, there_still}
@@ -58,3 +60,12 @@ returns-clause-leaves g c =
 pub returns-clause-kind : goal.returns-clause-kind
 returns-clause-kind g c =
     quiet_served c.sessions_entries_are_no_jobs.ensures c.args.moment.number c.step.new.ends c.in_ok-served.served c.serve_if.result c.serve_if.ensures.made c.in_ok-served.ensures.kind
+
+pub returns-clause-posts : goal.returns-clause-posts
+returns-clause-posts g c = λ d is.
+    let i = c.self.inside in
+    let m = c.args.moment in
+    subst (λ (p : PartsView). Posts (stamp_of m p.jobs.place.number) d.kind p.links c.serve_if.new.ends d.taken d.sent) c.self.view_is
+    (subst (λ (links : List EndView). Posts (stamp_of m i.jobs.place.number) d.kind links c.serve_if.new.ends d.taken d.sent) c.in_ok-served.ensures.same
+    (subst (λ (n : ℕ). Posts (stamp_of m n) d.kind c.step.new.ends c.serve_if.new.ends d.taken d.sent) c.number.ensures
+    (subst (λ (stamp : EntryStamp). Posts stamp d.kind c.step.new.ends c.serve_if.new.ends d.taken d.sent) c.stamp_at-stamp.ensures (c.serve_if.ensures.posts d is))))
