@@ -68,7 +68,6 @@ steps_first : {K : Type 0} (first : Stepper) (n m : NodeView K) → ((s : SetUp)
     → StepsBy first n m → StepsBy step n m
 steps_first first n m is by = record {
   kind = by.kind;
-  acting = by.acting;
   part = by.part;
   right = by.right;
   makes = λ s k fits looks fails part right words.
@@ -107,7 +106,6 @@ looks_over n x s k looks = record { ends = looks.ends; time = looks.time; count 
 moves_over : {K : Type 0} (b : Bool) (first : Stepper) (n m : NodeView K) (x : K) → MovesSo b first (record n { keeper = x }) m → MovesSo b first n m
 moves_over true first n m x by = record {
   kind = by.kind;
-  acting = by.acting;
   part = by.part;
   right = by.right;
   makes = λ s k fits looks fails part right words.
@@ -136,6 +134,8 @@ adds_over true links f f' f'' n m x later adds = record {
   setup = adds.setup;
   branch = adds.branch;
   ends = adds.ends;
+  posts = adds.posts;
+  jobs = adds.jobs;
   cause = cause_before (failed_in adds.entry.kind) f f' f'' later adds.cause;
 }
 adds_over false links f f' f'' n m x later adds = adds
@@ -177,7 +177,6 @@ looks_dropped n s k law looks = record { ends = law n.parts.links s k looks.ends
 turns_dropped : {K : Type 0} (n m : NodeView K) → DropLaw → StepsBy step (dropped n) m → StepsBy step n m
 turns_dropped n m law by = record {
   kind = by.kind;
-  acting = by.acting;
   part = by.part;
   right = by.right;
   makes = λ s k fits looks fails part right words.
@@ -198,6 +197,8 @@ adds_dropped f f' n m adds = record {
   setup = adds.setup;
   branch = adds.branch;
   ends = adds.ends;
+  posts = adds.posts;
+  jobs = adds.jobs;
   cause = adds.cause;
 }
 
