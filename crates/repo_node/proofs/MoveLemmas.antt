@@ -98,7 +98,7 @@ abbrev pub PostsIn : Past → PartsView → PartsView → Done → Type 0
 PostsIn was parts parts' d = Posts (record { time = was.time; count = was.count + 1; repo = was.setup.number }) d.kind parts.links parts'.links d.taken d.sent
 
 -- a step of these changes no log, so its entry leaves the branch
-one_line : [] ≡ ◌∷◌ {A = List ℕ} (0 ∷ []) [] → ⊥
+one_line : ◌≡◌ {A = List (List ℕ)} [] ((0 ∷ []) ∷ []) → ⊥
 one_line is = absurd cc
 
 branch_stays : (b : Files) (kind : EntryKind) → IsQuiet kind → b ≡ branch_by b kind []
