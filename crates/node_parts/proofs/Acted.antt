@@ -20,7 +20,6 @@ use Rattle.p2p_wire.specs.declared.message.Message.TheVariants.{Failure}
 use Rattle.trust_groups.specs.Settings.{Lines, settings}
 use Rattle.content_lock.specs.Rows.{Rows, bar_at}
 use Rattle.content_lock.specs.Tokens.{Owns}
-use Rattle.link_ring.specs.declared.frame.Frame.{Frame}
 use Rattle.link_ring.specs.Ends.{EndView, next_frame}
 use Rattle.node_model.specs.After.{read_after, state_after}
 use Rattle.node_model.specs.Clocks.{ClockSet}
@@ -42,7 +41,6 @@ use Rattle.p2p_server.specs.declared.session.Session.{Session}
 use Rattle.p2p_server.specs.Talking.{share_of}
 use Rattle.node_sessions.specs.Sessions.{AreFilled, AreSessions, HaveEnds, OwnAll, owner_of}
 use Rattle.drop_worker.specs.declared.phase.Heard.TheVariants as heards
-use Rattle.drop_worker.specs.declared.phase.Phase.{Phase}
 use Rattle.drop_worker.specs.declared.phase.Phase.TheVariants as phases
 use Rattle.drop_worker.specs.declared.turn.Taken.TheVariants as takens
 use Rattle.drop_worker.specs.Begun.{IsLast, IsOnward}

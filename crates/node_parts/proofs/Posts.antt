@@ -24,7 +24,9 @@ use Rattle.node_ends.specs.Going.{IsSent}
 use Rattle.node_ends.specs.Sent.{link_sends, text_of_sending}
 use Rattle.node_sessions.specs.Serving.{IsTalk}
 use Rattle.node_sessions.specs.Words.{word_to}
-use Rattle.node_parts.specs.Posting.{Posts, PostsOn, after_step, taken_off, word_with}
+use Rattle.node_parts.specs.declared.done.Done.{Done}
+use Rattle.node_parts.specs.declared.moment.Moment.{Moment}
+use Rattle.node_parts.specs.Posting.{Posts, PostsOn, after_step, stamp_of, taken_off, word_with}
 use Rattle.node_parts.proofs.Posting.{both, frame_end, same_bool_is, same_number, same_or_other, sends_its}
 
 -- ---- the word
@@ -188,3 +190,12 @@ posts_on sender first mid last sent sent' sent'' before behind = λ kind was tak
 
 pub posts_still : (sender : EntryStamp) (links : List EndView) (sent : List FrameView) → PostsOn sender links links sent sent
 posts_still sender links sent = λ kind was taken so_far. so_far
+
+-- ---- a whole step
+
+-- of the stamp and the links that these are
+pub posts_at : (m : Moment) (own number : ℕ) (stamp : EntryStamp) (was mid now : List EndView) (d : Done) → stamp ≡ stamp_of m own → own ≡ number → mid ≡ was → Posts stamp d.kind mid now d.taken d.sent
+    → Posts (stamp_of m number) d.kind was now d.taken d.sent
+posts_at m own number stamp was mid now d is numbered same posts =
+    subst (λ (links : List EndView). Posts (stamp_of m number) d.kind links now d.taken d.sent) same
+    (subst (λ (s : EntryStamp). Posts s d.kind mid now d.taken d.sent) (is ∙ ap (stamp_of m) numbered) posts)

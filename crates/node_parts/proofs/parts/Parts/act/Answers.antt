@@ -1,9 +1,8 @@
 -- What the proof of `parts::Parts::act` needs beside the tactics.
-use Rattle.std.proofs.Common.{◌≡◌, ℕ, List, Option, Some, None, length, refl, sym, ap, subst, ◌∙◌}
+use Rattle.std.proofs.Common.{◌≡◌, List, Option, Some, None, length, refl, sym, ap, subst, ◌∙◌}
 use Rattle.std.specs.Prelude.{All, IfSome, ◌<◌}
 use Rattle.run_data.specs.declared.row.Hold.{Hold}
 use Rattle.std.specs.Option.{ForSome}
-use Rattle.annex_base.specs.declared.kinds.EntryStamp.{EntryStamp}
 use Rattle.trust_groups.specs.View.{settings_of}
 use Rattle.link_ring.specs.Ends.{EndView}
 use Rattle.node_ends.specs.Joined.{StayPaired}
@@ -17,6 +16,7 @@ use Rattle.node_parts.specs.Parts.{PartsView}
 use Rattle.node_parts.specs.Posting.{Posts, stamp_of}
 use Rattle.node_parts.specs.Steps.{Acts, LeavesSo}
 use Rattle.node_parts.proofs.Acted.{IsActed, StepsThere, acts_none, acts_some, jobs_go_on, kind_of, leaves_acted, quiet_acted, sound_acted}
+use Rattle.node_parts.proofs.Posts.{posts_at}
 use Rattle.node_parts.proofs.parts.Parts.act.Goals as goal
 
 pub returns-in-None-clause-step : goal.returns-in-None-clause-step
@@ -110,9 +110,7 @@ returns-in-Some-clause-posts g c = λ x is.
     let same : d ≡ x = cc in
     subst (λ (y : Done). Posts (stamp_of m c.args.self.now.jobs.place.number) y.kind c.args.self.now.links c.act.new.ends y.taken y.sent) same
     (subst (λ (p : PartsView). Posts (stamp_of m p.jobs.place.number) d.kind p.links c.act.new.ends d.taken d.sent) c.self.view_is
-    (subst (λ (links : List EndView). Posts (stamp_of m i.jobs.place.number) d.kind links c.act.new.ends d.taken d.sent) c.in_ok-acted.ensures.ends
-    (subst (λ (n : ℕ). Posts (stamp_of m n) d.kind c.step.new.ends c.act.new.ends d.taken d.sent) c.number.ensures
-    (subst (λ (stamp : EntryStamp). Posts stamp d.kind c.step.new.ends c.act.new.ends d.taken d.sent) c.stamp_at-stamp.ensures c.act.ensures.posts))))
+    (posts_at m c.number.result i.jobs.place.number c.stamp_at-stamp.result i.ends c.step.new.ends c.act.new.ends d c.stamp_at-stamp.ensures c.number.ensures c.in_ok-acted.ensures.ends c.act.ensures.posts))
 
 pub invariant_of-self-in-Some : goal.invariant_of-self-in-Some
 invariant_of-self-in-Some g c =

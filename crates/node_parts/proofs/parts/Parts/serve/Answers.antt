@@ -1,7 +1,6 @@
 -- What the proof of `parts::Parts::serve` needs beside the tactics.
-use Rattle.std.proofs.Common.{ℕ, List, false, length, ◌+◌, refl, sym, ap, subst, ◌∙◌, arith}
+use Rattle.std.proofs.Common.{List, false, length, ◌+◌, refl, sym, ap, subst, ◌∙◌, arith}
 use Rattle.std.specs.Option.{ForSome}
-use Rattle.annex_base.specs.declared.kinds.EntryStamp.{EntryStamp}
 use Rattle.run_data.specs.declared.entry.By.TheVariants.{Job as by_job}
 use Rattle.link_ring.specs.Ends.{EndView}
 use Rattle.node_ends.specs.Joined.{StayPaired}
@@ -10,6 +9,7 @@ use Rattle.node_sessions.specs.Sessions.{FedAll}
 use Rattle.node_parts.specs.Parts.{PartsView}
 use Rattle.node_parts.specs.Posting.{Posts, stamp_of}
 use Rattle.node_parts.specs.Steps.{LeavesSo, Serves}
+use Rattle.node_parts.proofs.Posts.{posts_at}
 use Rattle.node_parts.proofs.Served.{leaves_at, quiet_served, step_of}
 use Rattle.node_parts.proofs.Sounding.{no_jobs, sound_after, there_still}
 use Rattle.node_parts.proofs.parts.Parts.serve.Goals as goal
@@ -66,6 +66,4 @@ returns-clause-posts g c = λ d is.
     let i = c.self.inside in
     let m = c.args.moment in
     subst (λ (p : PartsView). Posts (stamp_of m p.jobs.place.number) d.kind p.links c.serve_if.new.ends d.taken d.sent) c.self.view_is
-    (subst (λ (links : List EndView). Posts (stamp_of m i.jobs.place.number) d.kind links c.serve_if.new.ends d.taken d.sent) c.in_ok-served.ensures.same
-    (subst (λ (n : ℕ). Posts (stamp_of m n) d.kind c.step.new.ends c.serve_if.new.ends d.taken d.sent) c.number.ensures
-    (subst (λ (stamp : EntryStamp). Posts stamp d.kind c.step.new.ends c.serve_if.new.ends d.taken d.sent) c.stamp_at-stamp.ensures (c.serve_if.ensures.posts d is))))
+    (posts_at m c.number.result i.jobs.place.number c.stamp_at-stamp.result i.ends c.step.new.ends c.serve_if.new.ends d c.stamp_at-stamp.ensures c.number.ensures c.in_ok-served.ensures.same (c.serve_if.ensures.posts d is))
