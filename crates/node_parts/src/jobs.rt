@@ -60,6 +60,7 @@ impl Parts {
         ensures paired { StayPaired self.old.links self.new.links }
         ensures later { K.faults keeper.old ≤ K.faults keeper.new }
         ensures cause { IfOk result (λ o. IfSome (failed_by o) (λ call. Rose (K.faults keeper.old) (K.faults keeper.new))) }
+        ensures unasked { IfOk result (λ o. o ≡ None → keeper.new ≡ keeper.old) }
         ensures err { OnErr result ((self.new ≡ self.old) × (K.contents keeper.new ≡ K.contents keeper.old)) }
     {
         // Laws, for the proof.

@@ -168,6 +168,7 @@ impl Parts {
         ensures paired { StayPaired self.old.links self.new.links }
         ensures later { K.faults keeper.old ≤ K.faults keeper.new }
         ensures cause { IfOk result (λ o. IfSome (failed_by o) (λ call. Rose (K.faults keeper.old) (K.faults keeper.new))) }
+        ensures unasked { IfOk result (λ o. o ≡ None → keeper.new ≡ keeper.old) }
         ensures err { OnErr result (self.new ≡ self.old) }
         ensures err_contents { OnErr result (K.contents keeper.new ≡ K.contents keeper.old) }
         ensures err_parts { OnErr result (K.parts keeper.new ≡ K.parts keeper.old) }

@@ -260,3 +260,8 @@ pub posts_at : (m : Moment) (was ready : Past) (parts parts' : PartsView) (o : O
 posts_at m was ready parts parts' o at same place posts d is =
     subst (λ (p : PlaceView). Posts (record { time = was.time; count = was.count + 1; repo = p.number }) d.kind parts.links parts'.links d.taken d.sent) place
     (subst (λ (x : Moment). Posts (stamp_of x parts.jobs.place.number) d.kind parts.links parts'.links d.taken d.sent) (at ∙ moment_same was ready same) (posts d is))
+
+-- no step was made
+pub none_made : (o : Option Done) (b : Bool) → b ≡ is_some o → b ≡ false → o ≡ None
+none_made None b made none = refl
+none_made (Some d) b made none = absurd cc

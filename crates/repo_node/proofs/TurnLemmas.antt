@@ -5,7 +5,8 @@ use Rattle.std.specs.Option.{ForSome}
 use Rattle.annex_base.specs.Causes.{Rose}
 use Rattle.annex_base.specs.declared.kinds.Call.{Call}
 use Rattle.annex_base.specs.declared.memory.NoMemory.{NoMemory}
-use Rattle.object_store.specs.Stores.{Contents, Parts as StoredParts}
+use Rattle.object_store.specs.declared.keeper.HoldRecord.{HoldRecord}
+use Rattle.object_store.specs.Stores.{Contents, Files as StoredFiles, Parts as StoredParts}
 use Rattle.drop_worker.specs.Working.{failed_in}
 use Rattle.link_ring.specs.Ends.{EndView, after_drop}
 use Rattle.node_ends.specs.Ends.{SeesEnds}
@@ -20,7 +21,8 @@ use Rattle.node_model.specs.Turns.{job_step}
 use Rattle.repo_node.specs.declared.turn.Turn.TheVariants as turns
 use Rattle.repo_node.specs.Nodes.{Fits, IsState, NodeView, state_of, told_of}
 use Rattle.repo_node.specs.Owing.{is_owing}
-use Rattle.repo_node.specs.Stepping.{AddsIf, MovesSo, NoStep, ReadySo, WhereStill}
+use Rattle.repo_node.specs.Stepping.{AddsIf, MovesSo, NoStep, ReadySo}
+use Rattle.repo_node.specs.Stored.{TellsSame}
 use Rattle.repo_node.specs.Turning.{Adds, HasStep, IsIdle, Looks, Stepper, StepsBy}
 use Rattle.repo_node.specs.Turns.{turn_full, turn_made}
 use Rattle.repo_node.proofs.StepLemmas.{told_known, told_some}
@@ -238,15 +240,18 @@ where_stays (Ok true) links f f' n m other adds err = absurd (other refl)
 where_stays (Ok false) links f f' n m other adds err = adds
 where_stays (Err e) links f f' n m other adds err = err
 
-pub where_still : {P : Type 0} (r : Result Bool NoMemory) → turn_made r ≢ turns.Moved → WhereStill r P → P
-where_still (Ok true) other said = absurd (other refl)
-where_still (Ok false) other said = said
-where_still (Err e) other said = said
+pub where_unasked : {P : Type 0} (r : Result Bool NoMemory) → turn_made r ≢ turns.Moved → turn_made r ≢ turns.NoMemory → IfOk r (λ b. b ≡ false → P) → P
+where_unasked (Ok true) other short said = absurd (other refl)
+where_unasked (Ok false) other short said = said refl
+where_unasked (Err e) other short said = absurd (short refl)
 
-pub still_said : {P : Type 0} (r : Result Bool NoMemory) → P → WhereStill r P
-still_said (Ok true) p = tt
-still_said (Ok false) p = p
-still_said (Err e) p = p
+pub where_short : {P : Type 0} (r : Result Bool NoMemory) → turn_made r ≡ turns.NoMemory → OnErr r P → P
+where_short (Ok true) is said = absurd cc
+where_short (Ok false) is said = absurd cc
+where_short (Err e) is said = said
+
+pub tells_same : {K : Type 0} (cs : K → Option Contents) (ps : K → Option StoredParts) (rs : K → Option (List HoldRecord)) (fs : K → Option StoredFiles) (k k' : K) → k' ≡ k → TellsSame (cs k) (cs k') (ps k) (ps k') (rs k) (rs k') (fs k) (fs k')
+tells_same cs ps rs fs k k' same = record { contents = ap cs same; parts = ap ps same; records = ap rs same; files = ap fs same }
 
 -- the clauses of a turn, of the node before its frames were dropped
 pub turn_adds : {K : Type 0} (r : Result Bool NoMemory) (f f' : ℕ) (n n' m : NodeView K) → n' ≡ dropped n → turn_made r ≡ turns.Moved → IfOk r (λ b. AddsIf b n'.parts.links f f' n' m) → Adds (map after_drop n.parts.links) f f' n m

@@ -1,6 +1,5 @@
 -- One step of a node, of one of the three kinds; for private contracts.
-use Rattle.std.specs.Prelude.{◌≡◌, ℕ, Bool, true, false, List, [], ◌∷◌, ◌++◌, Option, Some, None, Result, Ok, Err, is_some, vec_len}
-use Rattle.annex_base.specs.declared.memory.NoMemory.{NoMemory}
+use Rattle.std.specs.Prelude.{◌≡◌, ℕ, Bool, true, false, List, [], ◌∷◌, ◌++◌, Option, Some, None, is_some, vec_len}
 use Rattle.run_data.specs.declared.entry.EntryKind.{EntryKind}
 use Rattle.run_data.specs.declared.entry.EntryKind.TheVariants.{Gain, Gone}
 use Rattle.link_ring.specs.Ends.{EndView}
@@ -30,12 +29,6 @@ ReadySo b step n = (s : SetUp) (k : Look) → Fits n.setup s → Looks n s k →
 abbrev pub AddsIf : {K : Type 0} → Bool → List EndView → ℕ → ℕ → NodeView K → NodeView K → Type 0
 AddsIf true links faults faults' was now = Adds links faults faults' was now
 AddsIf false links faults faults' was now = now ≡ record was { keeper = now.keeper }
-
--- this is said of a call that made no step
-abbrev pub WhereStill : Result Bool NoMemory → Type 0 → Type 0
-WhereStill (Ok true) P = Unit {0}
-WhereStill (Ok false) P = P
-WhereStill (Err e) P = P
 
 -- ---- what is noted of its entry
 

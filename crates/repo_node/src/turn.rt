@@ -7,6 +7,7 @@ ghost use Rattle.node_model.specs.SetUp.{SetUp};
 ghost use Rattle.node_model.specs.Step.{step};
 ghost use Rattle.repo_node.specs.Nodes.{Fits, told_of};
 ghost use Rattle.repo_node.specs.Refusals.{most_entries};
+ghost use Rattle.repo_node.specs.Stored.{TellsSame};
 ghost use Rattle.repo_node.specs.Turns.{turn_full, turn_made};
 ghost use Rattle.repo_node.specs.Turning.{Adds, HasStep, IsIdle, StepsBy};
 
@@ -63,8 +64,8 @@ impl<K: Keeper> Node<K> {
 
         // Else only those frames are gone.
         ensures stays { result ≢ Turn.Moved → self.new ≡ record self.old { keeper = self.new.keeper; parts = record self.old.parts { links = map after_drop self.old.parts.links } } }
-        ensures files { result ≢ Turn.Moved → K.files self.new.keeper ≡ K.files self.old.keeper }
-        ensures unasked { result ≡ Turn.Full → self.new.keeper ≡ self.old.keeper }
+        ensures unasked { result ≢ Turn.Moved → result ≢ Turn.NoMemory → self.new.keeper ≡ self.old.keeper }
+        ensures short { result ≡ Turn.NoMemory → TellsSame (K.contents self.old.keeper) (K.contents self.new.keeper) (K.parts self.old.keeper) (K.parts self.new.keeper) (K.records self.old.keeper) (K.records self.new.keeper) (K.files self.old.keeper) (K.files self.new.keeper) }
         ensures told_parts { is_some (K.parts self.new.keeper) ≡ is_some (K.parts self.old.keeper) }
         ensures told_contents { is_some (K.parts self.old.keeper) ≡ true → is_some (K.contents self.new.keeper) ≡ is_some (K.contents self.old.keeper) }
         ensures paired { StayPaired self.old.parts.links self.new.parts.links }

@@ -4,7 +4,7 @@ use Rattle.node_model.specs.Turns.{job_step}
 use Rattle.repo_node.specs.Nodes.{told_of}
 use Rattle.repo_node.specs.Owing.{is_owing}
 use Rattle.repo_node.proofs.BeginLemmas.{fed_links}
-use Rattle.repo_node.proofs.MoveLemmas.{acted_does, adds_if, leaves_at, posts_at, steps_if}
+use Rattle.repo_node.proofs.MoveLemmas.{acted_does, adds_if, leaves_at, none_made, posts_at, steps_if}
 use Rattle.repo_node.proofs.NoteLemmas.{debts_if, kept_if, owed_if_none}
 use Rattle.repo_node.proofs.OwedLemmas.{owed_in}
 use Rattle.repo_node.proofs.TurnLemmas.{none_owing}
@@ -62,3 +62,7 @@ returns-clause-step g c =
     (g.K.Keeper.contents i.keeper) (g.K.Keeper.contents w.new.keeper) (g.K.Keeper.parts i.keeper) c.args.self.now c.self.view_is e.ensures.made room.ensures.same e.ensures.enters c.self.invariant.0
     (acted_does at.result i.past room.new.past i.parts w.new.self i.branch (owed_in i.past i.debts.items) (g.K.Keeper.contents i.keeper) (g.K.Keeper.contents w.new.keeper) (g.K.Keeper.parts i.keeper) settings it.done at.ensures room.ensures.same law.read reads c.self.invariant.0 it.ensures.step)
     x (ap (λ v. told_of (g.K.Keeper.contents v.keeper) (g.K.Keeper.parts v.keeper)) c.self.view_is ∙ told)
+
+pub returns-clause-unasked : goal.returns-clause-unasked
+returns-clause-unasked g c = λ none.
+    c.in_ok-done.ensures.unasked (none_made c.in_ok-done.done c.enter_if.result c.enter_if.ensures.made none) ∙ ap (λ v. v.keeper) c.self.view_is
