@@ -177,6 +177,7 @@ impl Jobs {
         ensures cause { IfOk result (λ a. IfSome a (λ it. IfSome (failed_in it.kind) (λ call. Rose (K.faults keeper.old) (K.faults keeper.new)))) }
         ensures parts { K.parts keeper.new ≡ K.parts keeper.old }
         ensures files { K.files keeper.new ≡ K.files keeper.old }
+        ensures unasked { IfOk result (λ a. a ≡ None → keeper.new ≡ keeper.old) }
     {
         let Some(found) = find_ready(&self.running, alloc, &self.place, clock, ends, time)? else {
             return Ok(None);

@@ -283,3 +283,9 @@ quiet_served law number links (Some v) d same kinds_are x is =
     let kind : v.kind ≡ x.kind = sym (kind_of links v x (sym (ap (option_map made_of) is) ∙ same)) in
     let facts = law number x.kind (subst (IsKind number) kind (kinds_are v refl)) in
     record { begins = no_begin x.kind facts.0; crashes = facts.1; lines = facts.2 }
+
+-- where nothing was made, nothing was served
+pub none_served : (links : List EndView) (o : Option Served) (d : Option Done) → option_map made_of d ≡ option_map (made_by links) o → d ≡ None → o ≡ None
+none_served links None d made none = refl
+none_served links (Some v) None made none = absurd cc
+none_served links (Some v) (Some x) made none = absurd cc

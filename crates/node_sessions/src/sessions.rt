@@ -156,6 +156,7 @@ impl Sessions {
         ensures among { IfOk result (λ o. ForSome o (λ v. Member (v.peer, v.slot) (map connection_of self.old))) }
         ensures same { ends.new ≡ ends.old }
         ensures idle { IfOk result (λ o. o ≡ None → self.new ≡ self.old) }
+        ensures unasked { IfOk result (λ o. o ≡ None → keeper.new ≡ keeper.old) }
 
         // The holds and bars are those that the entry leaves, also where the store doesn't tell its contents; and the entry is a
         // session's.

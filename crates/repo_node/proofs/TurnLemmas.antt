@@ -1,11 +1,12 @@
 -- A turn of a node, from its steps.
-use Rattle.std.proofs.Common.{◌≡◌, ◌≢◌, ℕ, ◌≤◌, ◌+◌, Bool, true, false, List, [], ◌∷◌, Option, Some, None, Result, Ok, Err, IfOk, OnErr, map, is_some, refl, sym, ap, subst, arith, ◌∙◌}
+use Rattle.std.proofs.Common.{◌≡◌, ◌≢◌, ℕ, ◌≤◌, Bool, true, false, List, [], ◌∷◌, Option, Some, None, Result, Ok, Err, IfOk, OnErr, map, is_some, refl, ap, subst, arith, ◌∙◌}
 use Rattle.std.specs.Prelude.{IfSome}
 use Rattle.std.specs.Option.{ForSome}
 use Rattle.annex_base.specs.Causes.{Rose}
 use Rattle.annex_base.specs.declared.kinds.Call.{Call}
 use Rattle.annex_base.specs.declared.memory.NoMemory.{NoMemory}
-use Rattle.object_store.specs.Stores.{Contents, Parts as StoredParts}
+use Rattle.object_store.specs.declared.keeper.HoldRecord.{HoldRecord}
+use Rattle.object_store.specs.Stores.{Contents, Files as StoredFiles, Parts as StoredParts}
 use Rattle.drop_worker.specs.Working.{failed_in}
 use Rattle.link_ring.specs.Ends.{EndView, after_drop}
 use Rattle.node_ends.specs.Ends.{SeesEnds}
@@ -20,10 +21,11 @@ use Rattle.node_model.specs.Turns.{job_step}
 use Rattle.repo_node.specs.declared.turn.Turn.TheVariants as turns
 use Rattle.repo_node.specs.Nodes.{Fits, IsState, NodeView, state_of, told_of}
 use Rattle.repo_node.specs.Owing.{is_owing}
-use Rattle.repo_node.specs.Stepping.{AddsIf, MovesSo, NoStep, ReadySo, Stepper, StepsBy}
-use Rattle.repo_node.specs.Turning.{Adds, HasStep, IsIdle, Looks, TurnsSo, words_by}
+use Rattle.repo_node.specs.Stepping.{AddsIf, MovesSo, NoStep, ReadySo}
+use Rattle.repo_node.specs.Stored.{TellsSame}
+use Rattle.repo_node.specs.Turning.{Adds, HasStep, IsIdle, Looks, Stepper, StepsBy}
 use Rattle.repo_node.specs.Turns.{turn_full, turn_made}
-use Rattle.repo_node.proofs.StepLemmas.{look_of, look_sees, told_known, told_some}
+use Rattle.repo_node.proofs.StepLemmas.{told_known, told_some}
 
 -- ---- what is told
 
@@ -68,7 +70,6 @@ steps_first : {K : Type 0} (first : Stepper) (n m : NodeView K) → ((s : SetUp)
     → StepsBy first n m → StepsBy step n m
 steps_first first n m is by = record {
   kind = by.kind;
-  acting = by.acting;
   part = by.part;
   right = by.right;
   makes = λ s k fits looks fails part right words.
@@ -107,7 +108,6 @@ looks_over n x s k looks = record { ends = looks.ends; time = looks.time; count 
 moves_over : {K : Type 0} (b : Bool) (first : Stepper) (n m : NodeView K) (x : K) → MovesSo b first (record n { keeper = x }) m → MovesSo b first n m
 moves_over true first n m x by = record {
   kind = by.kind;
-  acting = by.acting;
   part = by.part;
   right = by.right;
   makes = λ s k fits looks fails part right words.
@@ -116,38 +116,8 @@ moves_over true first n m x by = record {
 }
 moves_over false first n m x idle = λ s k fits looks. idle s k fits (looks_over n x s k looks)
 
-rose_before : (f f' f'' : ℕ) → f ≤ f' → Rose f' f'' → Rose f f''
-rose_before f f' f'' later rose = omega (arith, later, rose)
-
-cause_before : (o : Option Call) (f f' f'' : ℕ) → f ≤ f' → IfSome o (λ call. Rose f' f'') → IfSome o (λ call. Rose f f'')
-cause_before None f f' f'' later cause = tt
-cause_before (Some call) f f' f'' later cause = rose_before f f' f'' later cause
-
-adds_over : {K : Type 0} (b : Bool) (links : List EndView) (f f' f'' : ℕ) (n m : NodeView K) (x : K) → f ≤ f' → AddsIf b links f' f'' (record n { keeper = x }) m → AddsIf b links f f'' n m
-adds_over true links f f' f'' n m x later adds = record {
-  entry = adds.entry;
-  history = adds.history;
-  outcomes = adds.outcomes;
-  time = adds.time;
-  count = adds.count;
-  repo = adds.repo;
-  counted = adds.counted;
-  at = adds.at;
-  setup = adds.setup;
-  ends = adds.ends;
-  cause = cause_before (failed_in adds.entry.kind) f f' f'' later adds.cause;
-}
-adds_over false links f f' f'' n m x later adds = adds
-
--- the job's step after the sessions had none
-pub adds_acted : {K : Type 0} (b : Bool) (f f' f'' : ℕ) (n n' m : NodeView K) → n' ≡ record n { keeper = n'.keeper } → f ≤ f' → AddsIf b n'.parts.links f' f'' n' m → AddsIf b n.parts.links f f'' n m
-adds_acted {K} b f f' f'' n n' m same later adds = adds_over b n.parts.links f f' f'' n m n'.keeper later (subst (λ (x : NodeView K). AddsIf b x.parts.links f' f'' x m) same adds)
-
 pub moves_acted : {K : Type 0} (b : Bool) (n n' m : NodeView K) → n' ≡ record n { keeper = n'.keeper } → Owes n → is_owing n.owed ≡ false → NoStep session_step n → MovesSo b job_step n' m → MovesSo b step n m
 moves_acted {K} b n n' m same owes none idle moves = acted_same b n m owes none idle (moves_over b job_step n m n'.keeper (subst (λ (x : NodeView K). MovesSo b job_step x m) same moves))
-
-pub same_over : {K : Type 0} (n n' m : NodeView K) → n' ≡ record n { keeper = n'.keeper } → m ≡ record n' { keeper = m.keeper } → m ≡ record n { keeper = m.keeper }
-same_over {K} n n' m first second = second ∙ ap (λ (x : NodeView K). record x { keeper = m.keeper }) first
 
 -- ---- a step is ready
 
@@ -173,35 +143,14 @@ DropLaw = (links : List EndView) (s : SetUp) (k : Look) → SeesEnds links s k �
 looks_dropped : {K : Type 0} (n : NodeView K) (s : SetUp) (k : Look) → DropLaw → Looks n s k → Looks (dropped n) s k
 looks_dropped n s k law looks = record { ends = law n.parts.links s k looks.ends; time = looks.time; count = looks.count }
 
-turns_dropped : {K : Type 0} (n m : NodeView K) → DropLaw → StepsBy step (dropped n) m → (s : SetUp) → Fits n.setup s → TurnsSo n m s
-turns_dropped n m law by s fits =
-    let look : Look = look_of n.parts.links s n.time (n.count + 1) by.kind by.part by.right (words_by n by.acting) in
-    let looks : Looks n s look = record { ends = look_sees n.parts.links s n.time (n.count + 1) by.kind by.part by.right (words_by n by.acting); time = refl; count = refl } in
-    let it = by.makes s look fits (looks_dropped n s look law looks) refl refl refl refl in
-    record {
-      look = look;
-      made = it.made;
-      acting = by.acting;
-      looks = looks;
-      words = refl;
-      fails = ap failed_in (sym it.same);
-      makes = it.makes;
-      adds = it.adds ∙ refl;
-    }
-
-adds_dropped : {K : Type 0} (f f' : ℕ) (n m : NodeView K) → Adds (map after_drop n.parts.links) f f' (dropped n) m → Adds (map after_drop n.parts.links) f f' n m
-adds_dropped f f' n m adds = record {
-  entry = adds.entry;
-  history = adds.history;
-  outcomes = adds.outcomes;
-  time = adds.time;
-  count = adds.count;
-  repo = adds.repo;
-  counted = adds.counted;
-  at = adds.at;
-  setup = adds.setup;
-  ends = adds.ends;
-  cause = adds.cause;
+turns_dropped : {K : Type 0} (n m : NodeView K) → DropLaw → StepsBy step (dropped n) m → StepsBy step n m
+turns_dropped n m law by = record {
+  kind = by.kind;
+  part = by.part;
+  right = by.right;
+  makes = λ s k fits looks fails part right words.
+      let it = by.makes s k fits (looks_dropped n s k law looks) fails part right words in
+      record { made = it.made; same = it.same; makes = it.makes; adds = it.adds };
 }
 
 -- by what the turn answers
@@ -215,16 +164,6 @@ where_idle P (Ok true) is p = absurd cc
 where_idle P (Ok false) is p = p
 where_idle P (Err e) is p = absurd cc
 
-pub never_full : {P : Type 0} (r : Result Bool NoMemory) → turn_made r ≡ turns.Full → P
-never_full (Ok true) is = absurd cc
-never_full (Ok false) is = absurd cc
-never_full (Err e) is = absurd cc
-
-pub full_never : {P : Type 0} (r : Result Bool NoMemory) → turn_full r ≡ turns.Moved → P
-full_never (Ok true) is = absurd cc
-full_never (Ok false) is = absurd cc
-full_never (Err e) is = absurd cc
-
 pub where_full : (P : Bool → Type 0) (r : Result Bool NoMemory) → turn_full r ≡ turns.Full → IfOk r P → P true
 where_full P (Ok true) is p = p
 where_full P (Ok false) is p = absurd cc
@@ -235,18 +174,21 @@ full_idle P (Ok true) is p = absurd cc
 full_idle P (Ok false) is p = p
 full_idle P (Err e) is p = absurd cc
 
-pub where_stays : {K : Type 0} (r : Result Bool NoMemory) (links : List EndView) (f f' : ℕ) (n m : NodeView K) → turn_made r ≢ turns.Moved → IfOk r (λ b. AddsIf b links f f' n m) → OnErr r (m ≡ record n { keeper = m.keeper }) → m ≡ record n { keeper = m.keeper }
-where_stays (Ok true) links f f' n m other adds err = absurd (other refl)
-where_stays (Ok false) links f f' n m other adds err = adds
-where_stays (Err e) links f f' n m other adds err = err
+pub where_unasked : {P : Type 0} (r : Result Bool NoMemory) → turn_made r ≢ turns.Moved → turn_made r ≢ turns.NoMemory → IfOk r (λ b. b ≡ false → P) → P
+where_unasked (Ok true) other short said = absurd (other refl)
+where_unasked (Ok false) other short said = said refl
+where_unasked (Err e) other short said = absurd (short refl)
 
--- the clauses of a turn, of the node before its frames were dropped
-pub turn_adds : {K : Type 0} (r : Result Bool NoMemory) (f f' : ℕ) (n n' m : NodeView K) → n' ≡ dropped n → turn_made r ≡ turns.Moved → IfOk r (λ b. AddsIf b n'.parts.links f f' n' m) → Adds (map after_drop n.parts.links) f f' n m
-turn_adds {K} r f f' n n' m same is adds =
-    adds_dropped f f' n m (subst (λ (x : NodeView K). Adds x.parts.links f f' x m) same (where_moved (λ b. AddsIf b n'.parts.links f f' n' m) r is adds))
+pub where_short : {P : Type 0} (r : Result Bool NoMemory) → turn_made r ≡ turns.NoMemory → OnErr r P → P
+where_short (Ok true) is said = absurd cc
+where_short (Ok false) is said = absurd cc
+where_short (Err e) is said = said
+
+pub tells_same : {K : Type 0} (cs : K → Option Contents) (ps : K → Option StoredParts) (rs : K → Option (List HoldRecord)) (fs : K → Option StoredFiles) (k k' : K) → k' ≡ k → TellsSame (cs k) (cs k') (ps k) (ps k') (rs k) (rs k') (fs k) (fs k')
+tells_same cs ps rs fs k k' same = record { contents = ap cs same; parts = ap ps same; records = ap rs same; files = ap fs same }
 
 pub turn_steps : {K : Type 0} (r : Result Bool NoMemory) (n n' m : NodeView K) (c : Contents) (told : Option Contents) → DropLaw → n' ≡ dropped n → turn_made r ≡ turns.Moved → told ≡ Some c → IfOk r (λ b. ForSome told (λ c. MovesSo b step n' m))
-    → (s : SetUp) → Fits n.setup s → TurnsSo n m s
+    → StepsBy step n m
 turn_steps {K} r n n' m c told law same is known moves = turns_dropped n m law (subst (λ (x : NodeView K). StepsBy step x m) same (where_moved (λ b. ForSome told (λ c. MovesSo b step n' m)) r is moves c known))
 
 pub turn_idle : {K : Type 0} (r : Result Bool NoMemory) (n n' m : NodeView K) (c : Contents) (told : Option Contents) → DropLaw → n' ≡ dropped n → turn_made r ≡ turns.Idle → told ≡ Some c → IfOk r (λ b. ForSome told (λ c. MovesSo b step n' m))
@@ -267,9 +209,6 @@ pub full_steps : {K : Type 0} (r : Result Bool NoMemory) (n n' : NodeView K) (c 
     → (s : SetUp) → Fits n.setup s → HasStep n s
 full_steps {K} r n n' c told law same is known ready s fits k looks =
     (subst (λ (x : NodeView K). ReadySo true step x) same (where_full (λ b. ForSome told (λ c. ReadySo b step n')) r is ready c known)) s k fits (looks_dropped n s k law looks)
-
-pub stays_dropped : {K : Type 0} (n n' m : NodeView K) → n' ≡ dropped n → m ≡ record n' { keeper = m.keeper } → m ≡ record n { keeper = m.keeper; parts = record n.parts { links = map after_drop n.parts.links } }
-stays_dropped {K} n n' m same over = over ∙ ap (λ (x : NodeView K). record x { keeper = m.keeper }) same
 
 -- ---- whether one is ready
 
@@ -297,7 +236,3 @@ then_acted {K} (Ok x) b n n' m cs cs' qs qs' links f f' is none made idle adds p
     let over : n' ≡ record n { keeper = n'.keeper } = subst (λ (y : Bool). AddsIf y links f f' n n') made adds in
     moves_acted x n n' m over (owes_told n (told_of cs qs) c is known) none (subst (λ (y : Bool). MovesSo y session_step n n') made (idle c known)) (moves after.0 after.1)
 then_acted (Err e) b n n' m cs cs' qs qs' links f f' is none made idle adds parts contents moves = tt
-
-pub then_adds : {K : Type 0} (r : Result Bool NoMemory) (b : Bool) (n n' m : NodeView K) (f f' f'' : ℕ) → b ≡ false → AddsIf b n.parts.links f f' n n' → f ≤ f' → IfOk r (λ x. AddsIf x n'.parts.links f' f'' n' m) → IfOk r (λ x. AddsIf x n.parts.links f f'' n m)
-then_adds {K} (Ok x) b n n' m f f' f'' made first later adds = adds_acted x f f' f'' n n' m (subst (λ (y : Bool). AddsIf y n.parts.links f f' n n') made first) later adds
-then_adds (Err e) b n n' m f f' f'' made first later adds = tt

@@ -16,3 +16,10 @@ pub record LeavesRest (cs cs' : Option Contents) (ps ps' : Option Parts) (rs rs'
   pub contents : cs' ≡ cs
   pub parts : ps' ≡ ps
   pub records : rs' ≡ rs
+
+-- it tells what it told
+pub record TellsSame (cs cs' : Option Contents) (ps ps' : Option Parts) (rs rs' : Option (List HoldRecord)) (fs fs' : Option Files) : Type 0 where
+  pub contents : cs' ≡ cs
+  pub parts : ps' ≡ ps
+  pub records : rs' ≡ rs
+  pub files : fs' ≡ fs

@@ -1,6 +1,7 @@
 -- What the proof of `node::Node::step` needs beside the tactics.
-use Rattle.std.proofs.Common.{sym, ◌∙◌}
+use Rattle.std.proofs.Common.{◌≡◌, false, IfOk, OnErr, sym, subst, ◌∙◌}
 use Rattle.repo_node.specs.Nodes.{told_of}
+use Rattle.repo_node.specs.Stored.{TellsSame}
 use Rattle.repo_node.proofs.TurnLemmas.{first_served, owed_first, then_acted}
 use Rattle.repo_node.proofs.node.Node.step.Goals as goal
 
@@ -23,3 +24,13 @@ returns-clause-step g c =
     let it = c.in_ok-served in
     then_acted c.act.result it.served n w.new.self c.act.new.self (g.K.Keeper.contents n.keeper) (g.K.Keeper.contents w.new.self.keeper) (g.K.Keeper.parts n.keeper) (g.K.Keeper.parts w.new.self.keeper) n.parts.links (g.K.Keeper.faults n.keeper) (g.K.Keeper.faults w.new.self.keeper)
     c.history.ensures.state (sym c.owes.ensures ∙ c.if-owes.false) c.if-served.false it.ensures.step it.ensures.adds w.ensures.told_parts w.ensures.told_contents c.act.ensures.step
+
+pub returns-clause-unasked : goal.returns-clause-unasked
+returns-clause-unasked g c =
+    subst (λ k. IfOk c.act.result (λ b. b ≡ false → c.act.new.self.keeper ≡ k)) (c.in_ok-served.ensures.unasked c.if-served.false) c.act.ensures.unasked
+
+pub returns-clause-err_store : goal.returns-clause-err_store
+returns-clause-err_store g c =
+    let m = c.act.new.self in
+    subst (λ k. OnErr c.act.result (TellsSame (g.K.Keeper.contents k) (g.K.Keeper.contents m.keeper) (g.K.Keeper.parts k) (g.K.Keeper.parts m.keeper) (g.K.Keeper.records k) (g.K.Keeper.records m.keeper) (g.K.Keeper.files k) (g.K.Keeper.files m.keeper)))
+    (c.in_ok-served.ensures.unasked c.if-served.false) c.act.ensures.err_store
