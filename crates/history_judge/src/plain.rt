@@ -1,0 +1,212 @@
+//! A plain repository: what its entries so far leave of it.
+use crate::logs::{KEYS, Logs, REPOS};
+use annex_base::NoMemory;
+use run_data::By;
+use std::alloc::Global;
+
+/// A hold on a key, by the key's place.
+#[derive(Clone, Copy)]
+pub struct Hold {
+    pub number: u64,
+    pub key: usize,
+    pub end: u64,
+    pub kept: bool,
+    pub by: By,
+}
+
+/// A drop that runs. What it knows of the other repositories: those that were trusted and claimed to have the key as it put its
+/// bar, those that were untrusted or dead then, those that held the key for it as it removed the content, and those that answered
+/// it since its bar that they have it.
+#[derive(Clone, Copy)]
+pub struct Work {
+    pub number: u32,
+    pub key: usize,
+    pub slot: u32,
+    pub need: Option<(u64, u64)>,
+    pub gone: bool,
+    pub failed: bool,
+    pub trusted: [bool; REPOS],
+    pub ignored: [bool; REPOS],
+    pub held: [bool; REPOS],
+    pub seen: [bool; REPOS],
+}
+
+/// A plain repository.
+#[derive(Drop)]
+pub struct Plain {
+    pub offset: u64,
+    pub locks: bool,
+    pub made: u64,
+    pub begun: u32,
+    pub present: [bool; KEYS],
+    pub bars: [Option<u32>; KEYS],
+    pub holds: Vec<Hold>,
+    pub works: Vec<Work>,
+    /// The keys whose lines it owes.
+    pub owed: Vec<usize>,
+    pub logs: Logs,
+}
+
+/// Whether this place of a list is true.
+pub fn is_set(list: &[bool], place: usize) -> bool {
+    list.get(place).is_some_and(|set| *set)
+}
+
+pub fn set(list: &mut [bool], place: usize, to: bool) {
+    if let Some(old) = list.get_mut(place) {
+        *old = to;
+    }
+}
+
+/// Whether a hold blocks the key at this clock.
+pub fn blocks(hold: &Hold, key: usize, clock: u64) -> bool {
+    hold.key == key && (!hold.kept || clock < hold.end)
+}
+
+/// Whether it is the session of this repository's slot.
+fn is_for(by: By, repo: usize, slot: u32) -> bool {
+    match by {
+        By::Peer { peer, slot: other } => peer as usize == repo && other == slot,
+        By::Script | By::Job(_) => false,
+    }
+}
+
+impl Plain {
+    pub fn new(alloc: Global, offset: u64, locks: bool) -> Plain {
+        Plain {
+            offset,
+            locks,
+            made: 0,
+            begun: 0,
+            present: [false; KEYS],
+            bars: [None; KEYS],
+            holds: Vec::new(alloc),
+            works: Vec::new(alloc),
+            owed: Vec::new(alloc),
+            logs: Logs::new(),
+        }
+    }
+
+    pub fn bar(&self, key: usize) -> Option<u32> {
+        self.bars.get(key).and_then(|bar| *bar)
+    }
+
+    pub fn set_bar(&mut self, key: usize, to: Option<u32>) {
+        if let Some(bar) = self.bars.get_mut(key) {
+            *bar = to;
+        }
+    }
+
+    /// Whether a hold blocks the key at this time.
+    pub fn is_held(&self, key: usize, time: u64) -> bool {
+        let clock = self.clock(time);
+        self.holds.iter().any(|hold| blocks(hold, key, clock))
+    }
+
+    /// Whether a hold on the key for the session of this repository's slot hasn't ended.
+    pub fn holds_for(&self, repo: usize, slot: u32, key: usize, time: u64) -> bool {
+        let clock = self.clock(time);
+        self.holds.iter().any(|hold| is_for(hold.by, repo, slot)
+            && hold.key == key
+            && clock < hold.end)
+    }
+
+    /// Until when holds block the key: while one is open, without end.
+    pub fn held_until(&self, key: usize, time: u64) -> Option<u64> {
+        let clock = self.clock(time);
+        let mut latest = 0_u64;
+        for hold in &self.holds {
+            if blocks(hold, key, clock) {
+                if !hold.kept {
+                    return None;
+                }
+                latest = latest.max(hold.end);
+            }
+        }
+        Some(latest)
+    }
+
+    pub fn clock(&self, time: u64) -> u64 {
+        time.saturating_add(self.offset)
+    }
+
+    /// The running job of this number, and of this slot.
+    pub fn work(&self, number: u32) -> Option<&Work> {
+        self.works.iter().find(|work| work.number == number)
+    }
+
+    pub fn work_mut(&mut self, number: u32) -> Option<&mut Work> {
+        self.works.iter_mut().find(|work| work.number == number)
+    }
+
+    pub fn work_in(&mut self, slot: u32) -> Option<&mut Work> {
+        self.works.iter_mut().find(|work| work.slot == slot)
+    }
+
+    /// Whether a drop has removed the key and hasn't ended.
+    pub fn is_removing(&self, key: usize) -> bool {
+        self.works.iter().any(|work| work.key == key && work.gone)
+    }
+
+    /// The least slot in which no job runs.
+    fn free_slot(&self) -> u32 {
+        for slot in 0..4_u32 {
+            if !self.works.iter().any(|work| work.slot == slot) {
+                return slot;
+            }
+        }
+        4
+    }
+
+    /// A drop of the key begins.
+    pub fn begin(&mut self, number: u32, key: usize) -> Result<(), NoMemory> {
+        let slot = self.free_slot();
+        self.begun = number;
+        self.works.push(Work {
+            number,
+            key,
+            slot,
+            need: None,
+            gone: false,
+            failed: false,
+            trusted: [false; REPOS],
+            ignored: [false; REPOS],
+            held: [false; REPOS],
+            seen: [false; REPOS],
+        })?;
+        Ok(())
+    }
+
+    /// The job is off, and so is its bar.
+    pub fn end(&mut self, number: u32) {
+        self.works.retain(|work| work.number != number);
+        for bar in self.bars.iter_mut() {
+            if *bar == Some(number) {
+                *bar = None;
+            }
+        }
+    }
+
+    /// The holds of this owner are kept from now on.
+    pub fn keep(&mut self, by: By) {
+        for hold in self.holds.iter_mut() {
+            if hold.by == by {
+                hold.kept = true;
+            }
+        }
+    }
+
+    /// The first owed line is off.
+    pub fn pay(&mut self) {
+        if !self.owed.is_empty() {
+            self.owed.remove(0);
+        }
+    }
+
+    /// Whether it has no job, no bar, no owed line and no open hold.
+    pub fn is_settled(&self) -> bool {
+        let free = self.bars.iter().all(|bar| bar.is_none());
+        let released = self.holds.iter().all(|hold| hold.kept);
+        free && released && self.works.is_empty() && self.owed.is_empty()
+    }
+}

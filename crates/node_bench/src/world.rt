@@ -1,0 +1,224 @@
+//! Two nodes that both have a key, and what is done with them.
+use crate::words::{Beside, Wanted, Work};
+use annex_base::{Items, NoMemory, RepoId, Text};
+use annex_key::Key;
+use joined_nodes::{Nodes, may_run, setups};
+use key_verify::{Verdict, matches};
+use object_store::MemoryKeeper;
+use repo_node::{NodeRefused, Turn};
+use run_data::{Job, JobKind, RepoView};
+use std::alloc::Global;
+use union_merge::is_line;
+
+const IDS: [&[u8]; 2] = [
+    b"11111111-1111-4111-8111-111111111111",
+    b"22222222-2222-4222-8222-222222222222",
+];
+
+/// The content of each key.
+const CONTENT: &[u8] = b"x";
+
+/// Two nodes, the key that both have, and how many entries they have made.
+pub struct World {
+    alloc: Global,
+    nodes: Nodes<MemoryKeeper>,
+    key: Key,
+    count: u64,
+}
+
+fn key_of(alloc: Global, number: u32) -> Result<Key, NoMemory> {
+    let mut text = String::new(alloc);
+    write!(text, "WORM-s1--key{number}")?;
+    let Ok(key) = Key::parse(alloc, text.as_bytes()) else {
+        return Err(NoMemory);
+    };
+    Ok(key)
+}
+
+fn views(alloc: Global) -> Result<Items<RepoView>, NoMemory> {
+    let mut views = Items::new(alloc);
+    for text in IDS {
+        let Ok(id) = RepoId::parse(text) else {
+            return Err(NoMemory);
+        };
+        views.push(RepoView {
+            name: Text::new(alloc, text)?,
+            id,
+            offset: 0,
+            version: 3,
+            locks: true,
+        })?;
+    }
+    Ok(views)
+}
+
+fn two_nodes(alloc: Global) -> Result<Nodes<MemoryKeeper>, NoMemory> {
+    let views = views(alloc)?;
+    if !may_run(views.as_slice()) {
+        return Err(NoMemory);
+    }
+    let setups = setups(alloc, views.as_slice())?;
+    let mut keepers = Vec::new(alloc);
+    for _ in 0..setups.len() {
+        keepers.push(MemoryKeeper::new(alloc)?)?;
+    }
+    Nodes::new(alloc, setups, keepers)
+}
+
+fn memory_of(answer: Result<(), NodeRefused>) -> Result<(), NoMemory> {
+    match answer {
+        Ok(()) => Ok(()),
+        Err(_) => Err(NoMemory),
+    }
+}
+
+impl World {
+    /// Two nodes that have the key, of which there are to be nine copies.
+    pub fn new(alloc: Global) -> Result<World, NoMemory> {
+        let key = key_of(alloc, 0)?;
+        let nodes = two_nodes(alloc)?;
+        let mut world = World {
+            alloc,
+            nodes,
+            key,
+            count: 0,
+        };
+        match world.start() {
+            Ok(()) => Ok(world),
+            Err(e) => {
+                world.dissolve();
+                Err(e)
+            }
+        }
+    }
+
+    fn start(&mut self) -> Result<(), NoMemory> {
+        let key = self.key.copy()?;
+        self.place(0, &key)?;
+        self.place(1, &key)?;
+        self.write(b"numcopies.log", b"1s 9")
+    }
+
+    fn raise(&mut self, repo: usize) {
+        self.nodes.advance(repo, 0, self.count);
+        self.count = self.count.saturating_add(2).min(1_000_000_000);
+    }
+
+    fn place(&mut self, repo: usize, key: &Key) -> Result<(), NoMemory> {
+        self.raise(repo);
+        match matches(self.alloc, key, CONTENT) {
+            Ok(Verdict::Right) => memory_of(self.nodes.place(repo, key, CONTENT)),
+            _ => Err(NoMemory),
+        }
+    }
+
+    fn write(&mut self, path: &[u8], line: &[u8]) -> Result<(), NoMemory> {
+        self.raise(0);
+        if is_line(path) && is_line(line) {
+            return memory_of(self.nodes.write_raw(0, path, line));
+        }
+        Ok(())
+    }
+
+    /// So many keys, entries or lines beside the key.
+    pub fn add(&mut self, beside: Beside, number: u32) -> Result<(), NoMemory> {
+        match beside {
+            Beside::Keys => self.add_keys(number),
+            Beside::Entries => self.add_entries(number),
+            Beside::Lines => self.add_lines(number),
+        }
+    }
+
+    fn add_keys(&mut self, number: u32) -> Result<(), NoMemory> {
+        for n in 0..number {
+            let key = key_of(self.alloc, n.saturating_add(1))?;
+            self.place(0, &key)?;
+        }
+        Ok(())
+    }
+
+    /// Files of one line.
+    fn add_entries(&mut self, number: u32) -> Result<(), NoMemory> {
+        for n in 0..number {
+            let mut path = String::new(self.alloc);
+            write!(path, "file{n}")?;
+            self.write(path.as_bytes(), b"1s line")?;
+        }
+        Ok(())
+    }
+
+    /// Lines of the trust log, by one entry.
+    fn add_lines(&mut self, number: u32) -> Result<(), NoMemory> {
+        let mut lines = String::new(self.alloc);
+        for n in 0..number {
+            write!(lines, "10000000-0000-4000-8000-{n:012} 0 timestamp=1s\n")?;
+        }
+        let mut text = String::new(self.alloc);
+        let size = lines.len();
+        write!(text, "annex-bundle 1\nfile {size} trust.log\n{lines}")?;
+        self.raise(0);
+        memory_of(self.nodes.merge_bundle(0, text.as_bytes()))
+    }
+
+    /// Does this so often, and says how many entries both nodes have then.
+    pub fn work(&mut self, wanted: Wanted) -> Result<usize, NoMemory> {
+        for n in 0..wanted.times {
+            match wanted.work {
+                Work::Drops => self.drop_once()?,
+                Work::Turns => {
+                    let _ = self.turn(0)?;
+                }
+                Work::Writes => self.write_once(n)?,
+            }
+        }
+        Ok(self.nodes.node(0).history().len() + self.nodes.node(1).history().len())
+    }
+
+    fn turn(&mut self, repo: usize) -> Result<bool, NoMemory> {
+        self.raise(repo);
+        match self.nodes.turn(repo) {
+            Turn::Moved => Ok(true),
+            Turn::Idle => Ok(false),
+            Turn::Full | Turn::NoMemory => Err(NoMemory),
+        }
+    }
+
+    /// A drop that is refused for want of copies, after it asked the other node.
+    fn drop_once(&mut self) -> Result<(), NoMemory> {
+        let job = Job {
+            kind: JobKind::Drop,
+            key: self.key.copy()?,
+            peer: None,
+            path: None,
+        };
+        self.raise(0);
+        if self.nodes.begin(0, job).is_err() {
+            return Err(NoMemory);
+        }
+        for _ in 0..100_u32 {
+            let first = self.turn(0)?;
+            let second = self.turn(1)?;
+            if !first && !second {
+                return Ok(());
+            }
+        }
+        Err(NoMemory)
+    }
+
+    fn write_once(&mut self, n: u32) -> Result<(), NoMemory> {
+        let mut line = String::new(self.alloc);
+        write!(line, "20000000-0000-4000-8000-{n:012} 0 timestamp=1s")?;
+        self.write(b"trust.log", line.as_bytes())
+    }
+
+    /// Spends the nodes.
+    pub fn dissolve(self) {
+        let World {
+            alloc: _,
+            nodes,
+            key: _,
+            count: _,
+        } = self;
+        nodes.dissolve();
+    }
+}
