@@ -213,8 +213,8 @@ impl Judge {
         }
     }
 
-    /// Whether nothing is left to be done: no job, no bar, no owed line, no open hold and no open connection.
+    /// Whether nothing is left to be done: no job, no bar, no owed line, no open hold, no open connection and no frame.
     pub fn is_settled(&self) -> bool {
-        self.wires.all_closed() && self.repos.iter().all(|plain| plain.is_settled())
+        self.wires.is_quiet() && self.repos.iter().all(|plain| plain.is_settled())
     }
 }

@@ -191,8 +191,8 @@ impl Wires {
         Ok(())
     }
 
-    /// Whether no end is open.
-    pub fn all_closed(&self) -> bool {
-        !self.ends.iter().any(|end| end.open)
+    /// Whether no end is open, and no frame is on its way.
+    pub fn is_quiet(&self) -> bool {
+        self.flights.is_empty() && !self.ends.iter().any(|end| end.open)
     }
 }

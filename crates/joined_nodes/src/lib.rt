@@ -1,9 +1,12 @@
 //! The nodes of a run, each two of which are joined.
 #![tactic(auto)]
 
+mod calls;
+mod carrying;
+mod laws;
 mod making;
 mod nodes;
-mod setting_up;
+mod repos;
 
 pub use nodes::Nodes;
-pub use setting_up::{may_run, setups};
+pub use repos::may_run;

@@ -1,8 +1,11 @@
 //! Nodes before their first entry, and the judge beside them.
+ghost use Rattle.std.specs.Prelude.{◌≡◌, ◌≤◌, IfOk, length};
+ghost use Rattle.joined_nodes.specs.Joined.{MayRun};
+
 use annex_base::{Items, RepoId, Text};
 use annex_key::Key;
-use history_judge::{IDS, Plain, Rule, Wrong, must};
-use joined_nodes::{Nodes, may_run, setups};
+use history_judge::{IDS, Judge, Plain, Rule, Wrong, must};
+use joined_nodes::{Nodes, may_run};
 use object_store::MemoryKeeper;
 use run_data::RepoView;
 use std::alloc::Global;
@@ -40,16 +43,15 @@ pub fn views(alloc: Global, count: u32, last_locks: bool) -> Result<Items<RepoVi
 /// Their nodes, each over an empty store.
 pub fn nodes(alloc: Global, views: &[RepoView]) -> Result<Nodes<MemoryKeeper>, Wrong> {
     must(may_run(views), Rule::Foreign)?;
-    let setups = setups(alloc, views)?;
     let mut keepers = Vec::new(alloc);
-    for _ in 0..views.len() {
+    for _view in views {
         keepers.push(MemoryKeeper::new(alloc)?)?;
     }
-    Ok(Nodes::new(alloc, setups, keepers)?)
+    Ok(Nodes::new(alloc, views, keepers)?)
 }
 
 /// The judge's repositories, as plain as the nodes.
-pub fn plains(alloc: Global, views: &[RepoView]) -> Result<Vec<Plain>, Wrong> {
+fn plains(alloc: Global, views: &[RepoView]) -> Result<Vec<Plain>, Wrong> {
     let mut plains = Vec::new(alloc);
     for view in views {
         plains.push(Plain::new(alloc, view.offset, view.locks))?;
@@ -68,10 +70,15 @@ pub fn keys(alloc: Global) -> Result<Vec<Key>, Wrong> {
     Ok(keys)
 }
 
-pub fn texts(alloc: Global, keys: &[Key]) -> Result<Vec<Text>, Wrong> {
+fn texts(alloc: Global, keys: &[Key]) -> Result<Vec<Text>, Wrong> {
     let mut texts = Vec::new(alloc);
     for key in keys {
         texts.push(Text::new(alloc, key.text())?)?;
     }
     Ok(texts)
+}
+
+/// A judge of these repositories, before their first entry.
+pub fn judge(alloc: Global, keys: &[Key], views: &[RepoView]) -> Result<Judge, Wrong> {
+    Ok(Judge::new(alloc, texts(alloc, keys)?, plains(alloc, views)?))
 }

@@ -1,121 +1,140 @@
-//! Nodes that do what is drawn, beside the judge that hears their entries.
+//! Nodes, and beside them the judge that hears their entries.
 ghost use Rattle.std.specs.Prelude.{◌≡◌, ◌<◌, length};
 
-use crate::lines::{claim_line, level_line, number_line};
-use crate::random::Random;
-use crate::start::{keys, nodes, plains, texts, views};
-use annex_base::Call;
+use crate::start::{judge, keys, nodes, views};
+use annex_base::Items;
 use annex_key::Key;
 use history_judge::{Judge, Rule, Wrong, must};
 use joined_nodes::Nodes;
-use key_verify::{Verdict, matches};
 use object_store::MemoryKeeper;
-use repo_node::{BeginRefused, NodeRefused, Turn};
-use run_data::{Job, JobKind, LogFile};
+use repo_node::{Node, Turn};
+use run_data::RepoView;
 use std::alloc::Global;
-use union_merge::is_line;
-
-/// The content of each key.
-const CONTENT: &[u8] = b"abc";
 
 /// Of how many rounds each sequence settles at most.
 const ROUNDS: u32 = 2_000;
 
 /// The most milliseconds and entries that a sequence may have.
-const MOST_TIME: u64 = 1_000_000_000;
+pub const MOST_TIME: u64 = 1_000_000_000;
 
 const MOST_COUNT: u64 = 1_000_000_000;
 
+/// Where an entry stands: of which node, and its place in the node's history.
+#[derive(Clone, Copy)]
+pub struct Place {
+    pub repo: usize,
+    pub at: usize,
+}
+
+/// What the judge has heard: the entries in their order, of each node how many, and the greatest count.
+#[derive(Drop)]
+pub struct Heard {
+    pub places: Vec<Place>,
+    told: Vec<usize>,
+    count: u64,
+}
+
 /// Nodes and the judge.
 pub struct World {
-    alloc: Global,
-    nodes: Nodes<MemoryKeeper>,
-    keys: Vec<Key>,
-    told: Vec<usize>,
-    time: u64,
-    count: u64,
-    /// Of the lines that are written so far; each has a stamp of its own.
-    stamps: u64,
+    pub alloc: Global,
+    pub views: Items<RepoView>,
+    pub keys: Vec<Key>,
+    pub nodes: Nodes<MemoryKeeper>,
     pub judge: Judge,
+    pub heard: Heard,
+    /// In milliseconds of the script.
+    pub time: u64,
+    /// Of the lines that are written so far; each has a stamp of its own.
+    pub stamps: u64,
 }
 
-/// One of the calls of the store that are made to fail.
-fn failing_call(place: u64) -> Call {
-    match place {
-        0 => Call::Has,
-        1 => Call::Hold,
-        2 => Call::Unhold,
-        3 => Call::Remove,
-        _ => Call::PutFile,
-    }
-}
-
-fn zeros(alloc: Global, count: u32) -> Result<Vec<usize>, Wrong> {
+/// Of each of so many nodes nothing is heard.
+fn nothing_heard(alloc: Global, count: u32) -> Result<Heard, Wrong> {
     let mut told = Vec::new(alloc);
     for _ in 0..count {
         told.push(0)?;
     }
-    Ok(told)
+    Ok(Heard {
+        places: Vec::new(alloc),
+        told,
+        count: 0,
+    })
 }
 
-/// An answer of a script's call: it may be refused, but for want of memory.
-fn is_remembered(answer: Result<(), NodeRefused>) -> Result<(), Wrong> {
-    match answer {
-        Err(NodeRefused::NoMemory) => Err(Wrong::NoMemory),
-        Err(NodeRefused::Full) => Err(Wrong::Broken(Rule::Foreign)),
-        Ok(()) | Err(NodeRefused::StoreFault | NodeRefused::BadBundle { .. }) => Ok(()),
+/// The judge hears the entries that a node has made since.
+fn hear_new(
+    judge: &mut Judge,
+    heard: &mut Heard,
+    repo: usize,
+    node: &Node<MemoryKeeper>,
+) -> Result<(), Wrong> {
+    let from = heard.told.get(repo).copied().unwrap_or(0);
+    for (at, entry) in node.history().iter().enumerate().skip(from) {
+        judge.hear(repo, entry)?;
+        heard.count = heard.count.max(entry.count);
+        heard.places.push(Place { repo, at })?;
     }
+    if let Some(told) = heard.told.get_mut(repo) {
+        *told = node.history().len();
+    }
+    Ok(())
 }
 
 impl World {
     pub fn new(alloc: Global, count: u32, last_locks: bool) -> Result<World, Wrong> {
         let views = views(alloc, count, last_locks)?;
         let keys = keys(alloc)?;
-        let plains = plains(alloc, views.as_slice())?;
-        let judge = Judge::new(alloc, texts(alloc, &keys)?, plains);
-        let told = zeros(alloc, count)?;
+        let judge = judge(alloc, &keys, views.as_slice())?;
+        let heard = nothing_heard(alloc, count)?;
         let nodes = nodes(alloc, views.as_slice())?;
         Ok(World {
             alloc,
-            nodes,
+            views,
             keys,
-            told,
-            time: 0,
-            count: 0,
-            stamps: 0,
+            nodes,
             judge,
+            heard,
+            time: 0,
+            stamps: 0,
         })
     }
 
+    /// How many nodes there are.
+    pub fn count(&self) -> usize
+        ensures { result ≡ length self.now.nodes }
+    {
+        self.nodes.count()
+    }
+
     /// The judge hears the entries that a node has made since.
-    fn tell(&mut self, repo: usize) -> Result<(), Wrong>
+    pub fn tell(&mut self, repo: usize) -> Result<(), Wrong>
         requires there { repo < length self.old.nodes }
         ensures stay { length self.new.nodes ≡ length self.old.nodes }
     {
-        let history = self.nodes.node(repo).history();
-        let from = self.told.get(repo).copied().unwrap_or(0);
-        for entry in history.iter().skip(from) {
-            self.judge.hear(repo, entry)?;
-            self.count = self.count.max(entry.count);
-        }
-        if let Some(told) = self.told.get_mut(repo) {
-            *told = history.len();
-        }
-        Ok(())
+        let node = self.nodes.node(repo);
+        hear_new(&mut self.judge, &mut self.heard, repo, node)
     }
 
     /// Raises the time and the count of a node.
-    fn raise(&mut self, repo: usize)
+    pub fn raise(&mut self, repo: usize)
         requires there { repo < length self.old.nodes }
         ensures stay { length self.new.nodes ≡ length self.old.nodes }
     {
         let time = self.time.min(MOST_TIME);
-        let count = self.count.min(MOST_COUNT);
+        let count = self.heard.count.min(MOST_COUNT);
         self.nodes.advance(repo, time, count);
     }
 
+    /// Frames come to a node, and go from it to the others.
+    pub fn carry(&mut self, repo: usize)
+        requires there { repo < length self.old.nodes }
+        ensures stay { length self.new.nodes ≡ length self.old.nodes }
+    {
+        self.nodes.carry(repo);
+    }
+
     /// One turn of a node; whether it moved.
-    fn turn(&mut self, repo: usize) -> Result<bool, Wrong>
+    pub fn turn(&mut self, repo: usize) -> Result<bool, Wrong>
         requires there { repo < length self.old.nodes }
         ensures stay { length self.new.nodes ≡ length self.old.nodes }
     {
@@ -130,14 +149,17 @@ impl World {
         }
     }
 
+    /// A turn of each node, after which its frames are carried; whether one moved.
     fn round(&mut self) -> Result<bool, Wrong>
         ensures { length self.new.nodes ≡ length self.old.nodes }
     {
         let mut moved = false;
         for repo in 0..self.nodes.count() {
+            self.carry(repo);
             if self.turn(repo)? {
                 moved = true;
             }
+            self.carry(repo);
         }
         Ok(moved)
     }
@@ -154,162 +176,17 @@ impl World {
         Err(Wrong::Broken(Rule::Left))
     }
 
-    fn place(&mut self, repo: usize, key: usize) -> Result<(), Wrong>
-        requires there { repo < length self.old.nodes }
-        ensures stay { length self.new.nodes ≡ length self.old.nodes }
-    {
-        let Some(key) = self.keys.get(key) else {
-            return Ok(());
-        };
-        match matches(self.alloc, key, CONTENT) {
-            Ok(Verdict::Right) => is_remembered(self.nodes.place(repo, key, CONTENT)),
-            Ok(_) => Ok(()),
-            Err(_) => Err(Wrong::NoMemory),
-        }
-    }
-
-    fn begin(&mut self, repo: usize, key: usize) -> Result<(), Wrong>
-        requires there { repo < length self.old.nodes }
-        ensures stay { length self.new.nodes ≡ length self.old.nodes }
-    {
-        let Some(key) = self.keys.get(key) else {
-            return Ok(());
-        };
-        let job = Job {
-            kind: JobKind::Drop,
-            key: key.copy()?,
-            peer: None,
-            path: None,
-        };
-        match self.nodes.begin(repo, job) {
-            Ok(_) | Err(BeginRefused::NoSlot) => Ok(()),
-            Err(BeginRefused::NoMemory) => Err(Wrong::NoMemory),
-            Err(BeginRefused::Full) => Err(Wrong::Broken(Rule::Foreign)),
-        }
-    }
-
-    fn write(&mut self, repo: usize, path: &[u8], line: &[u8]) -> Result<(), Wrong>
-        requires there { repo < length self.old.nodes }
-        ensures stay { length self.new.nodes ≡ length self.old.nodes }
-    {
-        if is_line(path) && is_line(line) {
-            return is_remembered(self.nodes.write_raw(repo, path, line));
-        }
-        Ok(())
-    }
-
-    /// A line about another repository, or about the whole: its level, a number of copies, or that it has a key.
-    fn write_drawn(&mut self, repo: usize, key: usize, random: &mut Random) -> Result<(), Wrong>
-        requires there { repo < length self.old.nodes }
-        ensures stay { length self.new.nodes ≡ length self.old.nodes }
-    {
-        self.stamps = self.stamps.saturating_add(1);
-        let stamp = self.stamps.saturating_add(1_600_000_000);
-        let other = random.draw(4) as usize;
-        match random.draw(6) {
-            0 | 1 => {
-                let line = level_line(self.alloc, other, random.draw(8), stamp)?;
-                self.write(repo, b"trust.log", line.as_bytes())
-            }
-            2 => {
-                let line = number_line(self.alloc, random.draw(4), stamp)?;
-                self.write(repo, b"numcopies.log", line.as_bytes())
-            }
-            3 => {
-                let line = number_line(self.alloc, random.draw(3), stamp)?;
-                self.write(repo, b"mincopies.log", line.as_bytes())
-            }
-            _ if other == repo => Ok(()),
-            _ => {
-                let line = claim_line(self.alloc, other, random.draw(4), stamp)?;
-                self.claim(repo, key, line.as_bytes())
-            }
-        }
-    }
-
-    fn claim(&mut self, repo: usize, key: usize, line: &[u8]) -> Result<(), Wrong>
-        requires there { repo < length self.old.nodes }
-        ensures stay { length self.new.nodes ≡ length self.old.nodes }
-    {
-        let Some(key) = self.keys.get(key) else {
-            return Ok(());
-        };
-        let path = LogFile::Location(key.copy()?).path(self.alloc)?;
-        self.write(repo, path.bytes(), line)
-    }
-
-    /// Does what is drawn at a node.
-    pub fn act(&mut self, repo: usize, random: &mut Random) -> Result<(), Wrong>
-        requires there { repo < length self.old.nodes }
-        ensures stay { length self.new.nodes ≡ length self.old.nodes }
-    {
-        self.raise(repo);
-        let key = random.draw(2) as usize;
-        match random.draw(24) {
-            0 | 1 => self.place(repo, key)?,
-            2 | 3 => self.write_drawn(repo, key, random)?,
-            4..=6 => self.begin(repo, key)?,
-            7 => {
-                let call = failing_call(random.draw(5));
-                let _ = self.nodes.fail_next(repo, call);
-            }
-            8 => self.wait(random.draw(4)),
-            _ => {
-                for _ in 0..random.draw(4) {
-                    let _ = self.turn(repo)?;
-                }
-            }
-        }
-        self.tell(repo)
-    }
-
-    /// The time rises, by up to ten minutes.
-    fn wait(&mut self, place: u64)
-        ensures { length self.new.nodes ≡ length self.old.nodes }
-    {
-        let ms = match place {
-            0 => 1,
-            1 => 1_000,
-            2 => 300_000,
-            _ => 600_000,
-        };
-        self.time = self.time.saturating_add(ms).min(MOST_TIME);
-    }
-
-    /// Each node has the first key's content at first, or some have.
-    pub fn fill(&mut self, random: &mut Random) -> Result<(), Wrong>
-        ensures { length self.new.nodes ≡ length self.old.nodes }
-    {
-        for repo in 0..self.nodes.count() {
-            for key in 0..2_usize {
-                if random.draw(4) != 0 {
-                    self.raise(repo);
-                    self.place(repo, key)?;
-                    self.tell(repo)?;
-                }
-            }
-        }
-        Ok(())
-    }
-
-    /// How many nodes there are.
-    pub fn count(&self) -> usize
-        ensures { result ≡ length self.now.nodes }
-    {
-        self.nodes.count()
-    }
-
     /// Spends the nodes, and gives the judge.
     pub fn dissolve(self) -> Judge {
         let World {
             alloc: _,
-            nodes,
+            views: _,
             keys: _,
-            told: _,
-            time: _,
-            count: _,
-            stamps: _,
+            nodes,
             judge,
+            heard: _,
+            time: _,
+            stamps: _,
         } = self;
         nodes.dissolve();
         judge
