@@ -2,7 +2,7 @@
 use crate::words::{Beside, Wanted, Work};
 use annex_base::{Items, NoMemory, RepoId, Text};
 use annex_key::Key;
-use joined_nodes::{Nodes, may_run, setups};
+use joined_nodes::{Nodes, may_run};
 use key_verify::{Verdict, matches};
 use object_store::MemoryKeeper;
 use repo_node::{NodeRefused, Turn};
@@ -57,12 +57,11 @@ fn two_nodes(alloc: Global) -> Result<Nodes<MemoryKeeper>, NoMemory> {
     if !may_run(views.as_slice()) {
         return Err(NoMemory);
     }
-    let setups = setups(alloc, views.as_slice())?;
     let mut keepers = Vec::new(alloc);
-    for _ in 0..setups.len() {
+    for _view in views.as_slice() {
         keepers.push(MemoryKeeper::new(alloc)?)?;
     }
-    Nodes::new(alloc, setups, keepers)
+    Nodes::new(alloc, views.as_slice(), keepers)
 }
 
 fn memory_of(answer: Result<(), NodeRefused>) -> Result<(), NoMemory> {
@@ -147,17 +146,14 @@ impl World {
         Ok(())
     }
 
-    /// Lines of the trust log, by one entry.
+    /// Lines of the trust log, one by one.
     fn add_lines(&mut self, number: u32) -> Result<(), NoMemory> {
-        let mut lines = String::new(self.alloc);
         for n in 0..number {
-            write!(lines, "10000000-0000-4000-8000-{n:012} 0 timestamp=1s\n")?;
+            let mut line = String::new(self.alloc);
+            write!(line, "10000000-0000-4000-8000-{n:012} 0 timestamp=1s")?;
+            self.write(b"trust.log", line.as_bytes())?;
         }
-        let mut text = String::new(self.alloc);
-        let size = lines.len();
-        write!(text, "annex-bundle 1\nfile {size} trust.log\n{lines}")?;
-        self.raise(0);
-        memory_of(self.nodes.merge_bundle(0, text.as_bytes()))
+        Ok(())
     }
 
     /// Does this so often, and says how many entries both nodes have then.
@@ -176,7 +172,10 @@ impl World {
 
     fn turn(&mut self, repo: usize) -> Result<bool, NoMemory> {
         self.raise(repo);
-        match self.nodes.turn(repo) {
+        self.nodes.carry(repo);
+        let turn = self.nodes.turn(repo);
+        self.nodes.carry(repo);
+        match turn {
             Turn::Moved => Ok(true),
             Turn::Idle => Ok(false),
             Turn::Full | Turn::NoMemory => Err(NoMemory),
