@@ -47,15 +47,16 @@ fn is_way(flight: &Flight, to: usize, frame: &FrameView) -> bool {
 }
 
 fn is_frame(flight: &Flight, frame: &FrameView) -> bool {
-    flight.seq == frame.seq
+    flight.epoch == frame.epoch
+        && flight.seq == frame.seq
         && flight.opening == is_opening(frame)
         && flight.closing == is_closing(frame)
         && flight.line.bytes() == line_of(frame)
 }
 
-/// Where the first frame of this way and opening stands.
+/// Where the first frame of this way stands.
 fn first_of(flights: &[Flight], to: usize, frame: &FrameView) -> Option<usize> {
-    flights.iter().position(|flight| is_way(flight, to, frame) && flight.epoch == frame.epoch)
+    flights.iter().position(|flight| is_way(flight, to, frame))
 }
 
 /// The end after it sent the frame; none where that isn't its next one.
@@ -165,8 +166,8 @@ impl Wires {
         Ok(())
     }
 
-    /// A repository takes a frame: it is the first of those that the other one sent on this way and in this opening. Those of
-    /// earlier openings are never taken.
+    /// A repository takes a frame: it is the first of those that the other one sent on this way. No connection is lost, so each
+    /// frame is taken.
     pub fn take(&mut self, repo: usize, frame: &FrameView) -> Result<(), Wrong> {
         let Some(first) = first_of(&self.flights, repo, frame) else {
             return Err(Wrong::Broken(Rule::Taken));
@@ -179,7 +180,6 @@ impl Wires {
         if first < self.flights.len() {
             self.flights.remove(first);
         }
-        self.flights.retain(|flight| !(is_way(flight, repo, frame) && flight.epoch < frame.epoch));
         let place = self.place(repo, frame.peer, frame.slot, !frame.up)?;
         let Some(end) = self.ends.get_mut(place) else {
             return Err(Wrong::Broken(Rule::Taken));
