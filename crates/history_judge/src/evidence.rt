@@ -1,4 +1,6 @@
 //! What the outcome of a drop may say of the other repositories, by what the drop knows of them (git-annex numcopies).
+ghost use Rattle.std.specs.Prelude.{◌≡◌, ◌==◌, count_by, max};
+
 use crate::logs::REPOS;
 use crate::plain::{Work, is_set};
 use run_data::{CandidateCause, Cause, Proof};
@@ -9,7 +11,9 @@ fn are_known(repos: &[u32], known: &[bool], ignored: &[bool]) -> bool {
 }
 
 /// How often the repository stands in the list.
-fn times_in(repos: &[u32], place: usize) -> usize {
+fn times_in(repos: &[u32], place: usize) -> usize
+    ensures { result ≡ count_by (λ repo. repo == place) repos.now }
+{
     repos.iter().filter(|repo| **repo as usize == place).count()
 }
 
@@ -60,7 +64,9 @@ fn names_all(proof: &Proof, causes: &[CandidateCause], repo: usize, repos: usize
 }
 
 /// How many copies the evidence has to be: the greater of numcopies and mincopies.
-fn needed(proof: &Proof) -> usize {
+fn needed(proof: &Proof) -> usize
+    ensures { result ≡ max proof.now.need.n proof.now.need.m }
+{
     proof.need.n.max(proof.need.m) as usize
 }
 

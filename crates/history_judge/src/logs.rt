@@ -1,4 +1,6 @@
 //! The plain reading of the log lines that a repository's entries add.
+ghost use Rattle.std.specs.Prelude.{◌≡◌, ◌==◌, ◌&&◌, ◌||◌, max, nat_lt};
+
 use annex_base::parse_decimal;
 use log_lines::LogKind;
 use run_data::LogFile;
@@ -81,7 +83,9 @@ fn stamp_of(word: &[u8]) -> Option<(u64, u64)> {
     }
 }
 
-fn is_newer(said: Said, stamp: (u64, u64)) -> bool {
+fn is_newer(said: Said, stamp: (u64, u64)) -> bool
+    ensures { result ≡ (nat_lt said.seconds stamp.0 || ((said.seconds == stamp.0) && nat_lt said.nanos stamp.1)) }
+{
     said.seconds < stamp.0 || (said.seconds == stamp.0 && said.nanos < stamp.1)
 }
 
@@ -157,7 +161,9 @@ impl Logs {
     }
 
     /// Numcopies and mincopies; each is at least 1.
-    pub fn need(&self) -> (u64, u64) {
+    pub fn need(&self) -> (u64, u64)
+        ensures { result ≡ (max self.now.numcopies.value 1, max self.now.mincopies.value 1) }
+    {
         (self.numcopies.value.max(1), self.mincopies.value.max(1))
     }
 

@@ -1,4 +1,6 @@
 //! A plain repository: what its entries so far leave of it.
+ghost use Rattle.std.specs.Prelude.{◌≡◌, ◌==◌, ◌≤◌, ◌<◌, ◌&&◌, ◌||◌, true, not, nat_lt, drop, length, Some, slice_get, slice_set};
+
 use crate::logs::{KEYS, Logs, REPOS};
 use annex_base::NoMemory;
 use run_data::By;
@@ -48,18 +50,26 @@ pub struct Plain {
 }
 
 /// Whether this place of a list is true.
-pub fn is_set(list: &[bool], place: usize) -> bool {
+pub fn is_set(list: &[bool], place: usize) -> bool
+    ensures yes { result ≡ true → slice_get list.now place ≡ Some true }
+    ensures no { slice_get list.now place ≡ Some true → result ≡ true }
+{
     list.get(place).is_some_and(|set| *set)
 }
 
-pub fn set(list: &mut [bool], place: usize, to: bool) {
-    if let Some(old) = list.get_mut(place) {
-        *old = to;
+pub fn set(list: &mut [bool], place: usize, to: bool)
+    ensures there { place < length list.old → list.new ≡ slice_set list.old place to }
+    ensures not_there { length list.old ≤ place → list.new ≡ list.old }
+{
+    if place < list.len() {
+        list[place] = to;
     }
 }
 
 /// Whether a hold blocks the key at this clock.
-pub fn blocks(hold: &Hold, key: usize, clock: u64) -> bool {
+pub fn blocks(hold: &Hold, key: usize, clock: u64) -> bool
+    ensures { result ≡ ((hold.now.key == key) && (not hold.now.kept || nat_lt clock hold.now.end)) }
+{
     hold.key == key && (!hold.kept || clock < hold.end)
 }
 
@@ -197,7 +207,9 @@ impl Plain {
     }
 
     /// The first owed line is off.
-    pub fn pay(&mut self) {
+    pub fn pay(&mut self)
+        ensures { self.new.owed.items ≡ drop 1 self.old.owed.items }
+    {
         if !self.owed.is_empty() {
             self.owed.remove(0);
         }
