@@ -9,6 +9,7 @@ mod changed;
 mod lines;
 mod random;
 mod start;
+mod stores;
 mod world;
 
 use crate::again::Change;

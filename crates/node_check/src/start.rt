@@ -1,7 +1,5 @@
 //! Nodes before their first entry, and the judge beside them.
-ghost use Rattle.std.specs.Prelude.{◌≡◌, ◌≤◌, IfOk, length};
-ghost use Rattle.joined_nodes.specs.Joined.{MayRun};
-
+use crate::stores::Stores;
 use annex_base::{Items, RepoId, Text};
 use annex_key::Key;
 use history_judge::{IDS, Judge, Plain, Rule, Wrong, must};
@@ -43,11 +41,11 @@ pub fn views(alloc: Global, count: u32, last_locks: bool) -> Result<Items<RepoVi
 /// Their nodes, each over an empty store.
 pub fn nodes(alloc: Global, views: &[RepoView]) -> Result<Nodes<MemoryKeeper>, Wrong> {
     must(may_run(views), Rule::Foreign)?;
-    let mut keepers = Vec::new(alloc);
+    let mut stores = Stores::new(alloc);
     for _view in views {
-        keepers.push(MemoryKeeper::new(alloc)?)?;
+        stores.add(MemoryKeeper::new(alloc)?)?;
     }
-    Ok(Nodes::new(alloc, views, keepers)?)
+    Ok(Nodes::new(alloc, views, stores.into_vec())?)
 }
 
 /// The judge's repositories, as plain as the nodes.
