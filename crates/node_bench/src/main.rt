@@ -2,6 +2,7 @@
 //! prints how many entries they have then: `node_bench keys|entries|lines NUMBER drops|turns|writes TIMES`.
 #![tactic(auto)]
 
+mod start;
 mod words;
 mod world;
 

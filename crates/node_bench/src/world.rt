@@ -1,19 +1,17 @@
 //! Two nodes that both have a key, and what is done with them.
+ghost use Rattle.std.specs.Prelude.{◌≡◌, ◌≤◌, ◌<◌, length};
+
+use crate::start::two_nodes;
 use crate::words::{Beside, Wanted, Work};
-use annex_base::{Items, NoMemory, RepoId, Text};
+use annex_base::NoMemory;
 use annex_key::Key;
-use joined_nodes::{Nodes, may_run};
+use joined_nodes::Nodes;
 use key_verify::{Verdict, matches};
 use object_store::MemoryKeeper;
 use repo_node::{NodeRefused, Turn};
-use run_data::{Job, JobKind, RepoView};
+use run_data::{Job, JobKind};
 use std::alloc::Global;
 use union_merge::is_line;
-
-const IDS: [&[u8]; 2] = [
-    b"11111111-1111-4111-8111-111111111111",
-    b"22222222-2222-4222-8222-222222222222",
-];
 
 /// The content of each key.
 const CONTENT: &[u8] = b"x";
@@ -24,6 +22,8 @@ pub struct World {
     nodes: Nodes<MemoryKeeper>,
     key: Key,
     count: u64,
+    ghost two: { length nodes ≡ 2 },
+    ghost few: { count ≤ 1000000000 },
 }
 
 fn key_of(alloc: Global, number: u32) -> Result<Key, NoMemory> {
@@ -33,35 +33,6 @@ fn key_of(alloc: Global, number: u32) -> Result<Key, NoMemory> {
         return Err(NoMemory);
     };
     Ok(key)
-}
-
-fn views(alloc: Global) -> Result<Items<RepoView>, NoMemory> {
-    let mut views = Items::new(alloc);
-    for text in IDS {
-        let Ok(id) = RepoId::parse(text) else {
-            return Err(NoMemory);
-        };
-        views.push(RepoView {
-            name: Text::new(alloc, text)?,
-            id,
-            offset: 0,
-            version: 3,
-            locks: true,
-        })?;
-    }
-    Ok(views)
-}
-
-fn two_nodes(alloc: Global) -> Result<Nodes<MemoryKeeper>, NoMemory> {
-    let views = views(alloc)?;
-    if !may_run(views.as_slice()) {
-        return Err(NoMemory);
-    }
-    let mut keepers = Vec::new(alloc);
-    for _view in views.as_slice() {
-        keepers.push(MemoryKeeper::new(alloc)?)?;
-    }
-    Nodes::new(alloc, views.as_slice(), keepers)
 }
 
 fn memory_of(answer: Result<(), NodeRefused>) -> Result<(), NoMemory> {
@@ -98,12 +69,16 @@ impl World {
         self.write(b"numcopies.log", b"1s 9")
     }
 
-    fn raise(&mut self, repo: usize) {
+    fn raise(&mut self, repo: usize)
+        requires { repo < 2 }
+    {
         self.nodes.advance(repo, 0, self.count);
         self.count = self.count.saturating_add(2).min(1_000_000_000);
     }
 
-    fn place(&mut self, repo: usize, key: &Key) -> Result<(), NoMemory> {
+    fn place(&mut self, repo: usize, key: &Key) -> Result<(), NoMemory>
+        requires { repo < 2 }
+    {
         self.raise(repo);
         match matches(self.alloc, key, CONTENT) {
             Ok(Verdict::Right) => memory_of(self.nodes.place(repo, key, CONTENT)),
@@ -121,39 +96,40 @@ impl World {
 
     /// So many keys, entries or lines beside the key.
     pub fn add(&mut self, beside: Beside, number: u32) -> Result<(), NoMemory> {
-        match beside {
-            Beside::Keys => self.add_keys(number),
-            Beside::Entries => self.add_entries(number),
-            Beside::Lines => self.add_lines(number),
-        }
-    }
-
-    fn add_keys(&mut self, number: u32) -> Result<(), NoMemory> {
         for n in 0..number {
-            let key = key_of(self.alloc, n.saturating_add(1))?;
-            self.place(0, &key)?;
+            match beside {
+                Beside::Keys => self.add_key(n)?,
+                Beside::Entries => self.add_file(n)?,
+                Beside::Lines => self.add_line(n)?,
+            }
         }
         Ok(())
     }
 
-    /// Files of one line.
-    fn add_entries(&mut self, number: u32) -> Result<(), NoMemory> {
-        for n in 0..number {
-            let mut path = String::new(self.alloc);
-            write!(path, "file{n}")?;
-            self.write(path.as_bytes(), b"1s line")?;
-        }
-        Ok(())
+    fn add_key(&mut self, n: u32) -> Result<(), NoMemory> {
+        let key = key_of(self.alloc, n.saturating_add(1))?;
+        self.place(0, &key)
     }
 
-    /// Lines of the trust log, one by one.
-    fn add_lines(&mut self, number: u32) -> Result<(), NoMemory> {
-        for n in 0..number {
-            let mut line = String::new(self.alloc);
-            write!(line, "10000000-0000-4000-8000-{n:012} 0 timestamp=1s")?;
-            self.write(b"trust.log", line.as_bytes())?;
-        }
-        Ok(())
+    /// A file of one line.
+    fn add_file(&mut self, n: u32) -> Result<(), NoMemory> {
+        let mut path = String::new(self.alloc);
+        write!(path, "file{n}")?;
+        self.write(path.as_bytes(), b"1s line")
+    }
+
+    /// A line of the trust log.
+    fn add_line(&mut self, n: u32) -> Result<(), NoMemory> {
+        let mut line = String::new(self.alloc);
+        write!(line, "10000000-0000-4000-8000-{n:012} 0 timestamp=1s")?;
+        self.write(b"trust.log", line.as_bytes())
+    }
+
+    /// Another line of the trust log.
+    fn write_once(&mut self, n: u32) -> Result<(), NoMemory> {
+        let mut line = String::new(self.alloc);
+        write!(line, "20000000-0000-4000-8000-{n:012} 0 timestamp=1s")?;
+        self.write(b"trust.log", line.as_bytes())
     }
 
     /// Does this so often, and says how many entries both nodes have then.
@@ -167,10 +143,14 @@ impl World {
                 Work::Writes => self.write_once(n)?,
             }
         }
-        Ok(self.nodes.node(0).history().len() + self.nodes.node(1).history().len())
+        let first = self.nodes.node(0).history().len();
+        let second = self.nodes.node(1).history().len();
+        Ok(first.saturating_add(second))
     }
 
-    fn turn(&mut self, repo: usize) -> Result<bool, NoMemory> {
+    fn turn(&mut self, repo: usize) -> Result<bool, NoMemory>
+        requires { repo < 2 }
+    {
         self.raise(repo);
         self.nodes.carry(repo);
         let turn = self.nodes.turn(repo);
@@ -182,8 +162,7 @@ impl World {
         }
     }
 
-    /// A drop that is refused for want of copies, after it asked the other node.
-    fn drop_once(&mut self) -> Result<(), NoMemory> {
+    fn begin(&mut self) -> Result<(), NoMemory> {
         let job = Job {
             kind: JobKind::Drop,
             key: self.key.copy()?,
@@ -191,9 +170,15 @@ impl World {
             path: None,
         };
         self.raise(0);
-        if self.nodes.begin(0, job).is_err() {
-            return Err(NoMemory);
+        match self.nodes.begin(0, job) {
+            Ok(_) => Ok(()),
+            Err(_) => Err(NoMemory),
         }
+    }
+
+    /// A drop that is refused for want of copies, after it asked the other node.
+    fn drop_once(&mut self) -> Result<(), NoMemory> {
+        self.begin()?;
         for _ in 0..100_u32 {
             let first = self.turn(0)?;
             let second = self.turn(1)?;
@@ -202,12 +187,6 @@ impl World {
             }
         }
         Err(NoMemory)
-    }
-
-    fn write_once(&mut self, n: u32) -> Result<(), NoMemory> {
-        let mut line = String::new(self.alloc);
-        write!(line, "20000000-0000-4000-8000-{n:012} 0 timestamp=1s")?;
-        self.write(b"trust.log", line.as_bytes())
     }
 
     /// Spends the nodes.
