@@ -15,12 +15,13 @@ use std::alloc::Global;
 /// What the entries so far leave: the repositories, their connections, and what the drops of each key promised (own).
 #[derive(Drop)]
 pub struct Judge {
-    pub keys: Vec<Text>,
-    pub repos: Vec<Plain>,
+    pub(crate) keys: Vec<Text>,
+    pub(crate) repos: Vec<Plain>,
+    /// What was heard so far.
     pub tally: Tally,
     /// What the drops of each key promised as they removed it, and as they ended.
-    pub at_removal: [Promise; KEYS],
-    pub at_end: [Promise; KEYS],
+    pub(crate) at_removal: [Promise; KEYS],
+    pub(crate) at_end: [Promise; KEYS],
     wires: Wires,
     time: u64,
     count: u64,
@@ -46,7 +47,7 @@ fn is_scripts(call: Call) -> bool {
 }
 
 impl Judge {
-    /// Before the first entry: the texts of the two keys, and as many repositories as there are, at most four.
+    /// Before the first entry: the texts of the two keys, whose contents have three bytes, and the repositories, at most four.
     pub fn new(alloc: Global, keys: Vec<Text>, repos: Vec<Plain>) -> Judge {
         Judge {
             keys,
@@ -61,19 +62,19 @@ impl Judge {
     }
 
     /// The place of a key.
-    pub fn key(&self, key: &Key) -> Option<usize> {
+    pub(crate) fn key(&self, key: &Key) -> Option<usize> {
         self.keys.iter().position(|text| text.bytes() == key.text())
     }
 
     /// The text of the key at a place.
-    pub fn key_text(&self, place: usize) -> &[u8] {
+    pub(crate) fn key_text(&self, place: usize) -> &[u8] {
         match self.keys.get(place) {
             Some(text) => text.bytes(),
             None => &[],
         }
     }
 
-    /// Judges the next entry of a repository.
+    /// Judges the next entry of a repository. Where one breaks a rule, those after it are judged by what is left then.
     pub fn hear(&mut self, repo: usize, entry: &Entry) -> Result<(), Wrong> {
         count(&mut self.tally.entries);
         self.hear_stamp(repo, entry)?;

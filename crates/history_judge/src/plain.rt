@@ -33,20 +33,20 @@ pub struct Work {
     pub seen: [bool; REPOS],
 }
 
-/// A plain repository.
+/// A plain repository: rows of keys, running drops, owed lines and logs (own).
 #[derive(Drop)]
 pub struct Plain {
-    pub offset: u64,
-    pub locks: bool,
-    pub made: u64,
-    pub begun: u32,
-    pub present: [bool; KEYS],
-    pub bars: [Option<u32>; KEYS],
-    pub holds: Vec<Hold>,
-    pub works: Vec<Work>,
+    pub(crate) offset: u64,
+    pub(crate) locks: bool,
+    pub(crate) made: u64,
+    pub(crate) begun: u32,
+    pub(crate) present: [bool; KEYS],
+    pub(crate) bars: [Option<u32>; KEYS],
+    pub(crate) holds: Vec<Hold>,
+    pub(crate) works: Vec<Work>,
     /// The keys whose lines it owes.
-    pub owed: Vec<usize>,
-    pub logs: Logs,
+    pub(crate) owed: Vec<usize>,
+    pub(crate) logs: Logs,
 }
 
 /// Whether this place of a list is true.
@@ -82,6 +82,7 @@ fn is_for(by: By, repo: usize, slot: u32) -> bool {
 }
 
 impl Plain {
+    /// Before its first entry: its clock is so many milliseconds ahead, and it gives locks or doesn't.
     pub fn new(alloc: Global, offset: u64, locks: bool) -> Plain {
         Plain {
             offset,
@@ -97,24 +98,24 @@ impl Plain {
         }
     }
 
-    pub fn bar(&self, key: usize) -> Option<u32> {
+    pub(crate) fn bar(&self, key: usize) -> Option<u32> {
         self.bars.get(key).and_then(|bar| *bar)
     }
 
-    pub fn set_bar(&mut self, key: usize, to: Option<u32>) {
+    pub(crate) fn set_bar(&mut self, key: usize, to: Option<u32>) {
         if let Some(bar) = self.bars.get_mut(key) {
             *bar = to;
         }
     }
 
     /// Whether a hold blocks the key at this time.
-    pub fn is_held(&self, key: usize, time: u64) -> bool {
+    pub(crate) fn is_held(&self, key: usize, time: u64) -> bool {
         let clock = self.clock(time);
         self.holds.iter().any(|hold| blocks(hold, key, clock))
     }
 
     /// Whether a hold on the key for the session of this repository's slot hasn't ended.
-    pub fn holds_for(&self, repo: usize, slot: u32, key: usize, time: u64) -> bool {
+    pub(crate) fn holds_for(&self, repo: usize, slot: u32, key: usize, time: u64) -> bool {
         let clock = self.clock(time);
         self.holds.iter().any(|hold| is_for(hold.by, repo, slot)
             && hold.key == key
@@ -122,7 +123,7 @@ impl Plain {
     }
 
     /// Until when holds block the key: while one is open, without end.
-    pub fn held_until(&self, key: usize, time: u64) -> Option<u64> {
+    pub(crate) fn held_until(&self, key: usize, time: u64) -> Option<u64> {
         let clock = self.clock(time);
         let mut latest = 0_u64;
         for hold in &self.holds {
@@ -136,25 +137,25 @@ impl Plain {
         Some(latest)
     }
 
-    pub fn clock(&self, time: u64) -> u64 {
+    pub(crate) fn clock(&self, time: u64) -> u64 {
         time.saturating_add(self.offset)
     }
 
     /// The running job of this number, and of this slot.
-    pub fn work(&self, number: u32) -> Option<&Work> {
+    pub(crate) fn work(&self, number: u32) -> Option<&Work> {
         self.works.iter().find(|work| work.number == number)
     }
 
-    pub fn work_mut(&mut self, number: u32) -> Option<&mut Work> {
+    pub(crate) fn work_mut(&mut self, number: u32) -> Option<&mut Work> {
         self.works.iter_mut().find(|work| work.number == number)
     }
 
-    pub fn work_in(&mut self, slot: u32) -> Option<&mut Work> {
+    pub(crate) fn work_in(&mut self, slot: u32) -> Option<&mut Work> {
         self.works.iter_mut().find(|work| work.slot == slot)
     }
 
     /// Whether a drop has removed the key and hasn't ended.
-    pub fn is_removing(&self, key: usize) -> bool {
+    pub(crate) fn is_removing(&self, key: usize) -> bool {
         self.works.iter().any(|work| work.key == key && work.gone)
     }
 
@@ -169,7 +170,7 @@ impl Plain {
     }
 
     /// A drop of the key begins.
-    pub fn begin(&mut self, number: u32, key: usize) -> Result<(), NoMemory> {
+    pub(crate) fn begin(&mut self, number: u32, key: usize) -> Result<(), NoMemory> {
         let slot = self.free_slot();
         self.begun = number;
         self.works.push(Work {
@@ -188,7 +189,7 @@ impl Plain {
     }
 
     /// The job is off, and so is its bar.
-    pub fn end(&mut self, number: u32) {
+    pub(crate) fn end(&mut self, number: u32) {
         self.works.retain(|work| work.number != number);
         for bar in self.bars.iter_mut() {
             if *bar == Some(number) {
@@ -198,7 +199,7 @@ impl Plain {
     }
 
     /// The holds of this owner are kept from now on.
-    pub fn keep(&mut self, by: By) {
+    pub(crate) fn keep(&mut self, by: By) {
         for hold in self.holds.iter_mut() {
             if hold.by == by {
                 hold.kept = true;
@@ -207,7 +208,7 @@ impl Plain {
     }
 
     /// The first owed line is off.
-    pub fn pay(&mut self)
+    pub(crate) fn pay(&mut self)
         ensures { self.new.owed.items ≡ drop 1 self.old.owed.items }
     {
         if !self.owed.is_empty() {
@@ -216,7 +217,7 @@ impl Plain {
     }
 
     /// Whether it has no job, no bar, no owed line and no open hold.
-    pub fn is_settled(&self) -> bool {
+    pub(crate) fn is_settled(&self) -> bool {
         let free = self.bars.iter().all(|bar| bar.is_none());
         let released = self.holds.iter().all(|hold| hold.kept);
         free && released && self.works.is_empty() && self.owed.is_empty()
