@@ -35,6 +35,15 @@ fn key_of(alloc: Global, number: u32) -> Result<Key, NoMemory> {
     Ok(key)
 }
 
+/// So many lines, as a file of a bundle has them.
+fn trust_lines(alloc: Global, number: u32) -> Result<String, NoMemory> {
+    let mut lines = String::new(alloc);
+    for n in 0..number {
+        write!(lines, "10000000-0000-4000-8000-{n:012} 0 timestamp=1s\n")?;
+    }
+    Ok(lines)
+}
+
 fn memory_of(answer: Result<(), NodeRefused>) -> Result<(), NoMemory> {
     match answer {
         Ok(()) => Ok(()),
@@ -96,33 +105,39 @@ impl World {
 
     /// So many keys, entries or lines beside the key.
     pub fn add(&mut self, beside: Beside, number: u32) -> Result<(), NoMemory> {
+        match beside {
+            Beside::Keys => self.add_keys(number),
+            Beside::Entries => self.add_files(number),
+            Beside::Lines => self.add_lines(number),
+        }
+    }
+
+    fn add_keys(&mut self, number: u32) -> Result<(), NoMemory> {
         for n in 0..number {
-            match beside {
-                Beside::Keys => self.add_key(n)?,
-                Beside::Entries => self.add_file(n)?,
-                Beside::Lines => self.add_line(n)?,
-            }
+            let key = key_of(self.alloc, n.saturating_add(1))?;
+            self.place(0, &key)?;
         }
         Ok(())
     }
 
-    fn add_key(&mut self, n: u32) -> Result<(), NoMemory> {
-        let key = key_of(self.alloc, n.saturating_add(1))?;
-        self.place(0, &key)
+    /// Files of one line.
+    fn add_files(&mut self, number: u32) -> Result<(), NoMemory> {
+        for n in 0..number {
+            let mut path = String::new(self.alloc);
+            write!(path, "file{n}")?;
+            self.write(path.as_bytes(), b"1s line")?;
+        }
+        Ok(())
     }
 
-    /// A file of one line.
-    fn add_file(&mut self, n: u32) -> Result<(), NoMemory> {
-        let mut path = String::new(self.alloc);
-        write!(path, "file{n}")?;
-        self.write(path.as_bytes(), b"1s line")
-    }
-
-    /// A line of the trust log.
-    fn add_line(&mut self, n: u32) -> Result<(), NoMemory> {
-        let mut line = String::new(self.alloc);
-        write!(line, "10000000-0000-4000-8000-{n:012} 0 timestamp=1s")?;
-        self.write(b"trust.log", line.as_bytes())
+    /// Lines of the trust log, by one entry.
+    fn add_lines(&mut self, number: u32) -> Result<(), NoMemory> {
+        let lines = trust_lines(self.alloc, number)?;
+        let size = lines.len();
+        let mut text = String::new(self.alloc);
+        write!(text, "annex-bundle 1\nfile {size} trust.log\n{lines}")?;
+        self.raise(0);
+        memory_of(self.nodes.merge_bundle(0, text.as_bytes()))
     }
 
     /// Another line of the trust log.
