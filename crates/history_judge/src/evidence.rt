@@ -77,19 +77,20 @@ fn items(proof: &Proof) -> usize {
     locked.saturating_add(trusted).saturating_add(recent)
 }
 
-/// Whether the drop may rely on all of its evidence, where these held the key for it, and read that need.
-fn may_rely(work: &Work, proof: &Proof, held: &[bool]) -> bool {
-    let locked = are_known(proof.locked.as_slice(), held, &work.ignored);
+/// Whether the drop may rely on all of its evidence, and read that need.
+fn may_rely(work: &Work, proof: &Proof) -> bool {
+    let locked = are_known(proof.locked.as_slice(), &work.locks, &work.ignored);
     let trusted = are_known(proof.trusted.as_slice(), &work.trusted, &work.ignored);
     let recent = are_known(proof.recent.as_slice(), &work.seen, &work.ignored);
     let read = (u64::from(proof.need.n), u64::from(proof.need.m));
     locked && trusted && recent && work.need == Some(read)
 }
 
-/// A drop that is done has removed the content, and its evidence was just enough: it asked no one more.
+/// A drop that is done has removed the content while its locks held, and its evidence was just enough: it asked no one more.
 pub fn is_done(work: &Work, proof: &Proof, repo: usize) -> bool {
     let enough = items(proof) == needed(proof) && names_each_once(proof, repo);
-    work.gone && enough && may_rely(work, proof, &work.held)
+    let locked = are_known(proof.locked.as_slice(), &work.held, &work.ignored);
+    work.gone && locked && enough && may_rely(work, proof)
 }
 
 /// A drop that lacks evidence has asked all others.
@@ -101,5 +102,5 @@ pub fn is_lacking(
     repos: usize,
 ) -> bool {
     let lacks = items(proof) < needed(proof) && names_all(proof, causes, repo, repos);
-    lacks && are_causes(causes, &work.ignored) && may_rely(work, proof, &[true; REPOS])
+    lacks && are_causes(causes, &work.ignored) && may_rely(work, proof)
 }

@@ -46,6 +46,13 @@ fn is_scripts(call: Call) -> bool {
     }
 }
 
+fn text_at(keys: &[Text], place: usize) -> &[u8] {
+    match keys.get(place) {
+        Some(text) => text.bytes(),
+        None => &[],
+    }
+}
+
 impl Judge {
     /// Before the first entry: the texts of the two keys, whose contents have three bytes, and the repositories, at most four.
     pub fn new(alloc: Global, keys: Vec<Text>, repos: Vec<Plain>) -> Judge {
@@ -68,10 +75,7 @@ impl Judge {
 
     /// The text of the key at a place.
     pub(crate) fn key_text(&self, place: usize) -> &[u8] {
-        match self.keys.get(place) {
-            Some(text) => text.bytes(),
-            None => &[],
-        }
+        text_at(&self.keys, place)
     }
 
     /// Judges the next entry of a repository. Where one breaks a rule, those after it are judged by what is left then.
@@ -200,7 +204,20 @@ impl Judge {
                 None => false,
             },
         };
-        must(right, Rule::Talked)
+        must(right, Rule::Talked)?;
+        if let Some(number) = job {
+            self.learn(repo, entry, number);
+        }
+        Ok(())
+    }
+
+    fn learn(&mut self, repo: usize, entry: &Entry, job: u32) {
+        if let Some(plain) = self.repos.get_mut(repo) {
+            if let Some(work) = plain.work_mut(job) {
+                let key = text_at(&self.keys, work.key);
+                talks::learn(work, entry, key);
+            }
+        }
     }
 
     fn failed(&mut self, repo: usize, entry: &Entry, call: Call, by: By) -> Result<(), Wrong> {

@@ -17,8 +17,8 @@ pub struct Hold {
 }
 
 /// A drop that runs. What it knows of the other repositories: those that were trusted and claimed to have the key as it put its
-/// bar, those that were untrusted or dead then, those that held the key for it as it removed the content, and those that answered
-/// it since its bar that they have it.
+/// bar, those that were untrusted or dead then, those that gave it a lock, those that held the key for it as it removed the
+/// content, those that it asked whether they have the content, and those that said so.
 #[derive(Clone, Copy)]
 pub struct Work {
     pub number: u32,
@@ -29,7 +29,9 @@ pub struct Work {
     pub failed: bool,
     pub trusted: [bool; REPOS],
     pub ignored: [bool; REPOS],
+    pub locks: [bool; REPOS],
     pub held: [bool; REPOS],
+    pub looks: [bool; REPOS],
     pub seen: [bool; REPOS],
 }
 
@@ -141,17 +143,13 @@ impl Plain {
         time.saturating_add(self.offset)
     }
 
-    /// The running job of this number, and of this slot.
+    /// The running job of this number.
     pub(crate) fn work(&self, number: u32) -> Option<&Work> {
         self.works.iter().find(|work| work.number == number)
     }
 
     pub(crate) fn work_mut(&mut self, number: u32) -> Option<&mut Work> {
         self.works.iter_mut().find(|work| work.number == number)
-    }
-
-    pub(crate) fn work_in(&mut self, slot: u32) -> Option<&mut Work> {
-        self.works.iter_mut().find(|work| work.slot == slot)
     }
 
     /// Whether a drop has removed the key and hasn't ended.
@@ -182,7 +180,9 @@ impl Plain {
             failed: false,
             trusted: [false; REPOS],
             ignored: [false; REPOS],
+            locks: [false; REPOS],
             held: [false; REPOS],
+            looks: [false; REPOS],
             seen: [false; REPOS],
         })?;
         Ok(())

@@ -1,7 +1,7 @@
 //! What sessions may do, by the row of the key.
 use crate::frames::{answers, asks, is_closing, served, session_of};
 use crate::judge::Judge;
-use crate::plain::{Hold, Plain, is_set, set};
+use crate::plain::{Hold, Plain, is_set};
 use crate::rule::{Rule, Wrong, must};
 use annex_base::{Call, Found};
 use annex_key::Key;
@@ -122,20 +122,7 @@ pub fn checked(
     } else {
         answers(entry, b"FAILURE")
     };
-    must(right && said, Rule::Checked)?;
-    if is_there {
-        see(judge, repo, frame);
-    }
-    Ok(())
-}
-
-/// The job that asked may rely on this repository's answer.
-fn see(judge: &mut Judge, repo: usize, frame: &FrameView) {
-    if let Some(asker) = judge.repos.get_mut(frame.peer as usize) {
-        if let Some(work) = asker.work_in(frame.slot) {
-            set(&mut work.seen, repo, true);
-        }
-    }
+    must(right && said, Rule::Checked)
 }
 
 /// A session whose client has closed the connection closes its own end: the holds that it has are kept.

@@ -145,6 +145,7 @@ impl World {
             0 => 1,
             1 => 1_000,
             2 => 300_000,
+            3 => 599_999,
             _ => 600_000,
         };
         self.time = self.time.saturating_add(ms).min(MOST_TIME);
@@ -165,7 +166,7 @@ impl World {
                 let call = failing_call(random.draw(5));
                 self.nodes.fail_next(repo, call)?;
             }
-            8 => self.wait(random.draw(4)),
+            8 => self.wait(random.draw(5)),
             _ => self.turns(repo, random)?,
         }
         self.tell(repo)
