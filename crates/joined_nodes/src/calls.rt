@@ -42,7 +42,7 @@ impl<K: Keeper> Nodes<K> {
         ensures count { length self.new ≡ length self.old }
     {
         // A law, for the proof.
-        nodes_stay_joined();
+        nodes_stay_joined::<K>();
         self.nodes[repo].advance(time, count);
     }
 
@@ -51,29 +51,29 @@ impl<K: Keeper> Nodes<K> {
         requires there { repo < length self.old }
         requires kind { job.kind ≡ JobKind.Drop }
         requires peer { job.peer ≡ None }
-        ensures number { IfOk result (λ number. AtNode repo self.old self.new (λ was now. number ≡ was.parts.jobs.begun + 1)) }
-        ensures ok { IfOk result (λ number. AtNode repo self.old self.new (λ was now. now ≡ record (with_entry was was.keeper was.branch (Begin number job) []) { parts = record was.parts { jobs = with_job was.parts.jobs job } })) }
-        ensures slot { IsErrOf result BeginRefused.NoSlot → AtNode repo self.old self.new (λ was now. 4 ≤ length was.parts.jobs.running) }
-        ensures free { (result ≡ Err BeginRefused.NoSlot → ⊥) → AtNode repo self.old self.new (λ was now. length was.parts.jobs.running < 4) }
-        ensures full { IsErrOf result BeginRefused.Full → AtNode repo self.old self.new (λ was now. length was.history ≡ most_entries) }
-        ensures err { OnErr result (self.new ≡ self.old) }
+        ensures number { AtNode repo self.old self.new (λ was now. IfOk result (λ number. number ≡ was.parts.jobs.begun + 1)) }
+        ensures ok { AtNode repo self.old self.new (λ was now. IfOk result (λ number. now ≡ record (with_entry was was.keeper was.branch (Begin number job) []) { parts = record was.parts { jobs = with_job was.parts.jobs job } })) }
+        ensures slot { AtNode repo self.old self.new (λ was now. IsErrOf result BeginRefused.NoSlot → 4 ≤ length was.parts.jobs.running) }
+        ensures free { AtNode repo self.old self.new (λ was now. (result ≡ Err BeginRefused.NoSlot → ⊥) → length was.parts.jobs.running < 4) }
+        ensures full { AtNode repo self.old self.new (λ was now. IsErrOf result BeginRefused.Full → length was.history ≡ most_entries) }
+        ensures err { AtNode repo self.old self.new (λ was now. OnErr result (now ≡ was)) }
         ensures others { (i : ℕ) → i ≢ repo → slice_get self.new i ≡ slice_get self.old i }
         ensures count { length self.new ≡ length self.old }
     {
         // A law, for the proof.
-        nodes_stay_joined();
+        nodes_stay_joined::<K>();
         self.nodes[repo].begin(job)
     }
 
     /// One turn of a node, as `Node::turn` makes it. What it sent stays on its way until frames are carried.
     pub fn turn(&mut self, repo: usize) -> Turn
         requires there { repo < length self.old }
-        ensures moved { result ≡ Turn.Moved → AtNode repo self.old self.new (λ was now. Adds (map after_drop was.parts.links) (K.faults was.keeper) (K.faults now.keeper) was now) }
-        ensures step { result ≡ Turn.Moved → AtNode repo self.old self.new (λ was now. ForSome (told_of (K.contents was.keeper) (K.parts was.keeper)) (λ c. (s : SetUp) → Fits was.setup s → TurnsSo was now s)) }
-        ensures idle { result ≡ Turn.Idle → AtNode repo self.old self.new (λ was now. ForSome (told_of (K.contents was.keeper) (K.parts was.keeper)) (λ c. (s : SetUp) → Fits was.setup s → IsIdle was s)) }
-        ensures full { result ≡ Turn.Full → AtNode repo self.old self.new (λ was now. length was.history ≡ most_entries) }
-        ensures ready { result ≡ Turn.Full → AtNode repo self.old self.new (λ was now. ForSome (told_of (K.contents was.keeper) (K.parts was.keeper)) (λ c. (s : SetUp) → Fits was.setup s → HasStep was s)) }
-        ensures stays { result ≢ Turn.Moved → AtNode repo self.old self.new (λ was now. now ≡ record was { keeper = now.keeper; parts = record was.parts { links = map after_drop was.parts.links } }) }
+        ensures moved { AtNode repo self.old self.new (λ was now. result ≡ Turn.Moved → Adds (map after_drop was.parts.links) (K.faults was.keeper) (K.faults now.keeper) was now) }
+        ensures step { AtNode repo self.old self.new (λ was now. result ≡ Turn.Moved → ForSome (told_of (K.contents was.keeper) (K.parts was.keeper)) (λ c. (s : SetUp) → Fits was.setup s → TurnsSo was now s)) }
+        ensures idle { AtNode repo self.old self.new (λ was now. result ≡ Turn.Idle → ForSome (told_of (K.contents was.keeper) (K.parts was.keeper)) (λ c. (s : SetUp) → Fits was.setup s → IsIdle was s)) }
+        ensures full { AtNode repo self.old self.new (λ was now. result ≡ Turn.Full → length was.history ≡ most_entries) }
+        ensures ready { AtNode repo self.old self.new (λ was now. result ≡ Turn.Full → ForSome (told_of (K.contents was.keeper) (K.parts was.keeper)) (λ c. (s : SetUp) → Fits was.setup s → HasStep was s)) }
+        ensures stays { AtNode repo self.old self.new (λ was now. result ≢ Turn.Moved → now ≡ record was { keeper = now.keeper; parts = record was.parts { links = map after_drop was.parts.links } }) }
         ensures told_parts { AtNode repo self.old self.new (λ was now. is_some (K.parts now.keeper) ≡ is_some (K.parts was.keeper)) }
         ensures told_contents { AtNode repo self.old self.new (λ was now. is_some (K.parts was.keeper) ≡ true → is_some (K.contents now.keeper) ≡ is_some (K.contents was.keeper)) }
         ensures paired { AtNode repo self.old self.new (λ was now. StayPaired was.parts.links now.parts.links) }
@@ -82,7 +82,7 @@ impl<K: Keeper> Nodes<K> {
         ensures count { length self.new ≡ length self.old }
     {
         // A law, for the proof.
-        nodes_stay_joined();
+        nodes_stay_joined::<K>();
         self.nodes[repo].turn()
     }
 
@@ -91,17 +91,17 @@ impl<K: Keeper> Nodes<K> {
         requires there { repo < length self.old }
         requires path { IsLine path.now }
         requires line { IsLine line.now }
-        ensures ok { OnOk result (AtNode repo self.old self.new (λ was now. now ≡ with_lines was now.keeper (file_of path.now) (line.now ∷ []))) }
-        ensures err { IfErr result (λ e. AtNode repo self.old self.new (λ was now. RefusesSo e calls.PutFile was now)) }
+        ensures ok { AtNode repo self.old self.new (λ was now. OnOk result (now ≡ with_lines was now.keeper (file_of path.now) (line.now ∷ []))) }
+        ensures err { AtNode repo self.old self.new (λ was now. IfErr result (λ e. RefusesSo e calls.PutFile was now)) }
         ensures contents { AtNode repo self.old self.new (λ was now. K.contents now.keeper ≡ K.contents was.keeper) }
         ensures parts { AtNode repo self.old self.new (λ was now. K.parts now.keeper ≡ K.parts was.keeper) }
         ensures later { AtNode repo self.old self.new (λ was now. K.faults was.keeper ≤ K.faults now.keeper) }
-        ensures cause { IsErrOf result NodeRefused.StoreFault → AtNode repo self.old self.new (λ was now. Rose (K.faults was.keeper) (K.faults now.keeper)) }
+        ensures cause { AtNode repo self.old self.new (λ was now. IsErrOf result NodeRefused.StoreFault → Rose (K.faults was.keeper) (K.faults now.keeper)) }
         ensures others { (i : ℕ) → i ≢ repo → slice_get self.new i ≡ slice_get self.old i }
         ensures count { length self.new ≡ length self.old }
     {
         // A law, for the proof.
-        nodes_stay_joined();
+        nodes_stay_joined::<K>();
         self.nodes[repo].write_raw(path, line)
     }
 
@@ -117,17 +117,17 @@ impl<K: Keeper> Nodes<K> {
         requires file { IsLogOf kind (option_copied key) }
         requires line { (n : NodeView K) → slice_get self.old repo ≡ Some n → HasLine kind (stamped_by n kind (option_copied key) entry.now) }
         requires short { (n : NodeView K) → slice_get self.old repo ≡ Some n → length (line_text kind (stamped_by n kind (option_copied key) entry.now)) ≤ 8192 }
-        ensures ok { OnOk result (AtNode repo self.old self.new (λ was now. now ≡ with_lines was now.keeper (log_of kind (option_copied key.entry)) (line_text kind (stamped_by was kind (option_copied key.entry) entry.now) ∷ []))) }
-        ensures err { IfErr result (λ e. AtNode repo self.old self.new (λ was now. RefusesSo e calls.PutFile was now)) }
+        ensures ok { AtNode repo self.old self.new (λ was now. OnOk result (now ≡ with_lines was now.keeper (log_of kind (option_copied key.entry)) (line_text kind (stamped_by was kind (option_copied key.entry) entry.now) ∷ []))) }
+        ensures err { AtNode repo self.old self.new (λ was now. IfErr result (λ e. RefusesSo e calls.PutFile was now)) }
         ensures contents { AtNode repo self.old self.new (λ was now. K.contents now.keeper ≡ K.contents was.keeper) }
         ensures parts { AtNode repo self.old self.new (λ was now. K.parts now.keeper ≡ K.parts was.keeper) }
         ensures later { AtNode repo self.old self.new (λ was now. K.faults was.keeper ≤ K.faults now.keeper) }
-        ensures cause { IsErrOf result NodeRefused.StoreFault → AtNode repo self.old self.new (λ was now. Rose (K.faults was.keeper) (K.faults now.keeper)) }
+        ensures cause { AtNode repo self.old self.new (λ was now. IsErrOf result NodeRefused.StoreFault → Rose (K.faults was.keeper) (K.faults now.keeper)) }
         ensures others { (i : ℕ) → i ≢ repo → slice_get self.new i ≡ slice_get self.old i }
         ensures count { length self.new ≡ length self.old }
     {
         // A law, for the proof.
-        nodes_stay_joined();
+        nodes_stay_joined::<K>();
         self.nodes[repo].write_log(kind, key, entry)
     }
 
@@ -135,17 +135,17 @@ impl<K: Keeper> Nodes<K> {
     pub fn merge(&mut self, repo: usize, from: usize) -> Result<(), NodeRefused>
         requires there { repo < length self.old }
         requires other { from < length self.old }
-        ensures ok { OnOk result ((other : NodeView K) → slice_get self.old from ≡ Some other → AtNode repo self.old self.new (λ was now. now ≡ over now.keeper (merge_files was other.branch))) }
-        ensures err { IfErr result (λ e. (other : NodeView K) → slice_get self.old from ≡ Some other → AtNode repo self.old self.new (λ was now. StopsAfter (merge_files was) other.branch e now)) }
+        ensures ok { (other : NodeView K) → slice_get self.old from ≡ Some other → AtNode repo self.old self.new (λ was now. OnOk result (now ≡ over now.keeper (merge_files was other.branch))) }
+        ensures err { (other : NodeView K) → slice_get self.old from ≡ Some other → AtNode repo self.old self.new (λ was now. IfErr result (λ e. StopsAfter (merge_files was) other.branch e now)) }
         ensures contents { AtNode repo self.old self.new (λ was now. K.contents now.keeper ≡ K.contents was.keeper) }
         ensures parts { AtNode repo self.old self.new (λ was now. K.parts now.keeper ≡ K.parts was.keeper) }
         ensures later { AtNode repo self.old self.new (λ was now. K.faults was.keeper ≤ K.faults now.keeper) }
-        ensures cause { IsErrOf result NodeRefused.StoreFault → AtNode repo self.old self.new (λ was now. Rose (K.faults was.keeper) (K.faults now.keeper)) }
+        ensures cause { AtNode repo self.old self.new (λ was now. IsErrOf result NodeRefused.StoreFault → Rose (K.faults was.keeper) (K.faults now.keeper)) }
         ensures others { (i : ℕ) → i ≢ repo → slice_get self.new i ≡ slice_get self.old i }
         ensures count { length self.new ≡ length self.old }
     {
         // A law, for the proof.
-        nodes_stay_joined();
+        nodes_stay_joined::<K>();
         let bundle = self.nodes[from].bundle()?;
         self.nodes[repo].merge_bundle(&bundle)
     }
@@ -153,17 +153,17 @@ impl<K: Keeper> Nodes<K> {
     /// Takes the outdated lines of a node's files away, as `Node::compact` does.
     pub fn compact(&mut self, repo: usize) -> Result<(), NodeRefused>
         requires there { repo < length self.old }
-        ensures ok { OnOk result (AtNode repo self.old self.new (λ was now. now ≡ over now.keeper (compact_files was (keys_of was.branch)))) }
-        ensures err { IfErr result (λ e. AtNode repo self.old self.new (λ was now. StopsAfter (compact_files was) (keys_of was.branch) e now)) }
+        ensures ok { AtNode repo self.old self.new (λ was now. OnOk result (now ≡ over now.keeper (compact_files was (keys_of was.branch)))) }
+        ensures err { AtNode repo self.old self.new (λ was now. IfErr result (λ e. StopsAfter (compact_files was) (keys_of was.branch) e now)) }
         ensures contents { AtNode repo self.old self.new (λ was now. K.contents now.keeper ≡ K.contents was.keeper) }
         ensures parts { AtNode repo self.old self.new (λ was now. K.parts now.keeper ≡ K.parts was.keeper) }
         ensures later { AtNode repo self.old self.new (λ was now. K.faults was.keeper ≤ K.faults now.keeper) }
-        ensures cause { IsErrOf result NodeRefused.StoreFault → AtNode repo self.old self.new (λ was now. Rose (K.faults was.keeper) (K.faults now.keeper)) }
+        ensures cause { AtNode repo self.old self.new (λ was now. IsErrOf result NodeRefused.StoreFault → Rose (K.faults was.keeper) (K.faults now.keeper)) }
         ensures others { (i : ℕ) → i ≢ repo → slice_get self.new i ≡ slice_get self.old i }
         ensures count { length self.new ≡ length self.old }
     {
         // A law, for the proof.
-        nodes_stay_joined();
+        nodes_stay_joined::<K>();
         self.nodes[repo].compact()
     }
 
@@ -171,32 +171,32 @@ impl<K: Keeper> Nodes<K> {
     pub fn place(&mut self, repo: usize, key: &Key, bytes: &[u8]) -> Result<(), NodeRefused>
         requires there { repo < length self.old }
         requires right { MatchesKey key.now bytes.now }
-        ensures ok { OnOk result (AtNode repo self.old self.new (λ was now. IsPlaced key.now bytes.now (K.contents was.keeper) (K.parts was.keeper) (K.contents now.keeper) was now)) }
-        ensures err { IfErr result (λ e. AtNode repo self.old self.new (λ was now. StopsPlacing key.now bytes.now (K.contents was.keeper) (K.parts was.keeper) (K.contents now.keeper) e was now)) }
+        ensures ok { AtNode repo self.old self.new (λ was now. OnOk result (IsPlaced key.now bytes.now (K.contents was.keeper) (K.parts was.keeper) (K.contents now.keeper) was now)) }
+        ensures err { AtNode repo self.old self.new (λ was now. IfErr result (λ e. StopsPlacing key.now bytes.now (K.contents was.keeper) (K.parts was.keeper) (K.contents now.keeper) e was now)) }
         ensures later { AtNode repo self.old self.new (λ was now. K.faults was.keeper ≤ K.faults now.keeper) }
-        ensures cause { IsErrOf result NodeRefused.StoreFault → AtNode repo self.old self.new (λ was now. Rose (K.faults was.keeper) (K.faults now.keeper)) }
+        ensures cause { AtNode repo self.old self.new (λ was now. IsErrOf result NodeRefused.StoreFault → Rose (K.faults was.keeper) (K.faults now.keeper)) }
         ensures others { (i : ℕ) → i ≢ repo → slice_get self.new i ≡ slice_get self.old i }
         ensures count { length self.new ≡ length self.old }
     {
         // A law, for the proof.
-        nodes_stay_joined();
+        nodes_stay_joined::<K>();
         self.nodes[repo].place(key, bytes)
     }
 
     /// Replaces a part at a node, as `Node::place_part` does.
     pub fn place_part(&mut self, repo: usize, key: &Key, bytes: &[u8]) -> Result<(), NodeRefused>
         requires there { repo < length self.old }
-        ensures ok { OnOk result (AtNode repo self.old self.new (λ was now. now ≡ over now.keeper was)) }
-        ensures part { OnOk result (AtNode repo self.old self.new (λ was now. (taken : Bool) × IsTaken taken (K.contents was.keeper) was.parts.table key.now × PartAfter taken key.now bytes.now (K.parts was.keeper) (K.parts now.keeper))) }
-        ensures err { IfErr result (λ e. AtNode repo self.old self.new (λ was now. StopsBefore e was now)) }
+        ensures ok { AtNode repo self.old self.new (λ was now. OnOk result (now ≡ over now.keeper was)) }
+        ensures part { AtNode repo self.old self.new (λ was now. OnOk result ((taken : Bool) × IsTaken taken (K.contents was.keeper) was.parts.table key.now × PartAfter taken key.now bytes.now (K.parts was.keeper) (K.parts now.keeper))) }
+        ensures err { AtNode repo self.old self.new (λ was now. IfErr result (λ e. StopsBefore e was now)) }
         ensures contents { AtNode repo self.old self.new (λ was now. K.contents now.keeper ≡ K.contents was.keeper) }
         ensures later { AtNode repo self.old self.new (λ was now. K.faults was.keeper ≤ K.faults now.keeper) }
-        ensures cause { IsErrOf result NodeRefused.StoreFault → AtNode repo self.old self.new (λ was now. Rose (K.faults was.keeper) (K.faults now.keeper)) }
+        ensures cause { AtNode repo self.old self.new (λ was now. IsErrOf result NodeRefused.StoreFault → Rose (K.faults was.keeper) (K.faults now.keeper)) }
         ensures others { (i : ℕ) → i ≢ repo → slice_get self.new i ≡ slice_get self.old i }
         ensures count { length self.new ≡ length self.old }
     {
         // A law, for the proof.
-        nodes_stay_joined();
+        nodes_stay_joined::<K>();
         self.nodes[repo].place_part(key, bytes)
     }
 }
@@ -205,8 +205,8 @@ impl<K: FailingKeeper> Nodes<K> {
     /// Lets one more of the next calls of this kind of a node's store fail, as `Node::fail_next` does.
     pub fn fail_next(&mut self, repo: usize, call: Call) -> Result<(), NoMemory>
         requires there { repo < length self.old }
-        ensures ok { OnOk result (AtNode repo self.old self.new (λ was now. K.failing now.keeper ≡ option_map (one_more call) (K.failing was.keeper))) }
-        ensures err { OnErr result (AtNode repo self.old self.new (λ was now. K.failing now.keeper ≡ K.failing was.keeper)) }
+        ensures ok { AtNode repo self.old self.new (λ was now. OnOk result (K.failing now.keeper ≡ option_map (one_more call) (K.failing was.keeper))) }
+        ensures err { AtNode repo self.old self.new (λ was now. OnErr result (K.failing now.keeper ≡ K.failing was.keeper)) }
         ensures contents { AtNode repo self.old self.new (λ was now. K.contents now.keeper ≡ K.contents was.keeper) }
         ensures parts { AtNode repo self.old self.new (λ was now. K.parts now.keeper ≡ K.parts was.keeper) }
         ensures records { AtNode repo self.old self.new (λ was now. K.records now.keeper ≡ K.records was.keeper) }
@@ -217,7 +217,7 @@ impl<K: FailingKeeper> Nodes<K> {
         ensures count { length self.new ≡ length self.old }
     {
         // A law, for the proof.
-        nodes_stay_joined();
+        nodes_stay_joined::<K>();
         self.nodes[repo].fail_next(call)
     }
 }
