@@ -1,9 +1,11 @@
 -- The nodes of a run, each two of which are joined (own).
-use Rattle.std.specs.Prelude.{◌≡◌, ◌≢◌, ◌⊎◌, ℕ, ◌*◌, ◌≤◌, ◌<◌, ◌^◌, Bool, not, List, [], length, map, replicate, All, AllPairs, Some, slice_get}
+use Rattle.std.specs.Prelude.{◌≡◌, ◌≢◌, ◌⊎◌, ℕ, ◌*◌, ◌≤◌, ◌<◌, ◌^◌, Bool, not, List, [], length, map, replicate, AllPairs, Some, slice_get}
+use Rattle.annex_base.specs.Lists.{Each}
 use Rattle.link_ring.specs.Ends.{EndView, fresh}
 use Rattle.node_model.specs.Ends.{EndName}
 use Rattle.node_ends.specs.Ends.{link_at}
 use Rattle.node_ends.specs.Joined.{AreJoined, end_with, link_carried}
+use Rattle.run_data.specs.Repos.{IsSetUp}
 use Rattle.run_data.specs.declared.run.RepoView.{RepoView}
 use Rattle.repo_node.specs.declared.setup.Setup.{Setup}
 use Rattle.repo_node.specs.Nodes.{NodeView}
@@ -14,16 +16,10 @@ use Rattle.repo_node.specs.Nodes.{NodeView}
 abbrev pub ids_of : List RepoView → List (List ℕ)
 ids_of repos = map (λ repo. repo.id) repos
 
--- a repository's clock isn't too far ahead, and it speaks a version of the protocol that is known
-pub record IsInRange (repo : RepoView) : Type 0 where
-  pub offset : repo.offset ≤ 100000000000
-  pub oldest : 1 ≤ repo.version
-  pub newest : repo.version ≤ 3
-
 -- these repositories may make a run: no two have one identifier
 pub record MayRun (repos : List RepoView) : Type 0 where
   pub few : length repos < 2 ^ 32
-  pub ranges : All IsInRange repos
+  pub each : Each IsSetUp repos
   pub apart : AllPairs (λ a b. a ≢ b) (ids_of repos)
 
 -- what the repository of this number is given, among those with these identifiers

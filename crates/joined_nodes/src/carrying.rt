@@ -2,37 +2,50 @@
 ghost use Rattle.std.specs.Prelude.{◌≡◌, ◌≢◌, ℕ, ◌<◌, length, slice_get};
 ghost use Rattle.node_ends.specs.Joined.{AreCarried};
 ghost use Rattle.repo_node.specs.Nodes.{NodeView};
+ghost use Rattle.joined_nodes.specs.Carrying.{AreCarriedTo, AreCarriedTwo, AreCarriedWith};
 ghost use Rattle.joined_nodes.specs.Joined.{AreAllCarried, AreNodes, AtNode, with_links};
 
-use crate::laws::nodes_stay_joined;
 use crate::nodes::Nodes;
+use node_ends::ends_stay_joined;
 use object_store::Keeper;
 use repo_node::{Node, carry_nodes};
 
 /// Carries frames between two of the nodes.
-fn carry_two<K: Keeper>(nodes: &mut Vec<Node<K>>, low: usize, high: usize)
+fn carry_two<K: Keeper>(nodes: &mut [Node<K>], low: usize, high: usize)
     requires order { low < high }
-    requires there { high < length nodes.old.items }
-    requires nodes { AreNodes nodes.old.items }
+    requires there { high < length nodes.old }
+    requires nodes { AreNodes nodes.old }
+    ensures carried { AreCarriedTwo low high nodes.old nodes.new }
+    ensures nodes { AreNodes nodes.new }
 {
+    // A law, for the proof.
+    ends_stay_joined();
     let (before, from) = nodes.split_at_mut(high);
-    if let Some((node, _)) = from.split_first_mut() {
-        carry_nodes(&mut before[low], node);
+    carry_nodes(&mut before[low], &mut from[0]);
+}
+
+/// Carries frames between one of the nodes and another one, if it is another one.
+fn carry_with<K: Keeper>(nodes: &mut [Node<K>], repo: usize, other: usize)
+    requires repo { repo < length nodes.old }
+    requires other { other < length nodes.old }
+    requires nodes { AreNodes nodes.old }
+    ensures { AreCarriedWith repo other nodes.old nodes.new }
+{
+    if other < repo {
+        carry_two(nodes, other, repo);
+    } else if repo < other {
+        carry_two(nodes, repo, other);
     }
 }
 
 /// Carries frames between one of the nodes and each other one.
-fn carry_all<K: Keeper>(nodes: &mut Vec<Node<K>>, repo: usize)
-    requires there { repo < length nodes.old.items }
-    requires nodes { AreNodes nodes.old.items }
+fn carry_all<K: Keeper>(nodes: &mut [Node<K>], repo: usize)
+    requires there { repo < length nodes.old }
+    requires nodes { AreNodes nodes.old }
+    ensures { AreCarriedTo (length nodes.old) repo nodes.old nodes.new }
 {
     for other in 0..nodes.len() {
-        if other < repo {
-            carry_two(nodes, other, repo);
-        }
-        if repo < other {
-            carry_two(nodes, repo, other);
-        }
+        carry_with(nodes, repo, other);
     }
 }
 
@@ -46,6 +59,6 @@ impl<K: Keeper> Nodes<K> {
         ensures other_links { (i : ℕ) (node : NodeView K) → i ≢ repo → slice_get self.old repo ≡ Some node → AtNode i self.old self.new (λ was now. AreCarried i repo was.parts.links now.parts.links node.parts.links) }
         ensures count { length self.new ≡ length self.old }
     {
-        carry_all(&mut self.nodes, repo);
+        carry_all(self.nodes.as_mut_slice(), repo);
     }
 }

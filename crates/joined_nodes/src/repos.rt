@@ -1,7 +1,10 @@
 //! The repositories of a run, and how each of their nodes is set up.
-ghost use Rattle.std.specs.Prelude.{◌≡◌, ◌<◌, ◌^◌, true, AllPairs, IfOk, Some, length, slice_get};
+ghost use Rattle.std.specs.Prelude.{◌≡◌, ◌<◌, ◌^◌, ◌↔◌, IfOk, IsTrue, Some, length, slice_get};
+ghost use Rattle.annex_base.specs.Lists.{Each};
+ghost use Rattle.run_data.specs.Repos.{IsSetUp};
 ghost use Rattle.run_data.specs.declared.run.RepoView.{RepoView};
-ghost use Rattle.joined_nodes.specs.Joined.{IsInRange, MayRun, ids_of, setup_of};
+ghost use Rattle.joined_nodes.specs.Apart.{are_apart, is_among};
+ghost use Rattle.joined_nodes.specs.Joined.{MayRun, ids_of, setup_of};
 
 use annex_base::{Items, NoMemory, RepoId};
 use repo_node::Setup;
@@ -17,22 +20,37 @@ const TOO_MANY: usize = 1 << 32;
 /// Whether these repositories may make a run: no two have one identifier, their clocks are at most 100,000,000,000 milliseconds
 /// ahead, their versions are 1 to 3, and they are fewer than 2^32.
 pub fn may_run(repos: &[RepoView]) -> bool
-    ensures yes { result ≡ true → MayRun repos.now }
-    ensures no { MayRun repos.now → result ≡ true }
+    ensures { IsTrue result ↔ MayRun repos.now }
 {
-    repos.len() < TOO_MANY && are_in_range(repos) && are_apart(repos)
+    if TOO_MANY <= repos.len() {
+        return false;
+    }
+    are_set_up(repos) && are_apart(repos)
 }
 
-fn are_in_range(repos: &[RepoView]) -> bool {
-    repos.iter().all(|repo| is_in_range(repo))
+fn are_set_up(repos: &[RepoView]) -> bool
+    ensures { IsTrue result ↔ Each IsSetUp repos.now }
+{
+    for repo in repos.iter() {
+        if !is_set_up(repo) {
+            return false;
+        }
+    }
+    true
 }
 
-fn is_in_range(repo: &RepoView) -> bool {
+fn is_set_up(repo: &RepoView) -> bool
+    ensures { IsTrue result ↔ IsSetUp repo.now }
+{
+    // For the proof: an identifier has sixteen bytes.
+    let _ = repo.id.print();
     repo.offset <= MOST_OFFSET && 1 <= repo.version && repo.version <= 3
 }
 
 /// Whether one of these repositories has the identifier.
-fn is_among(id: RepoId, repos: &[RepoView]) -> bool {
+fn is_among(id: RepoId, repos: &[RepoView]) -> bool
+    ensures { result ≡ is_among id repos.now }
+{
     for repo in repos.iter() {
         if repo.id == id {
             return true;
@@ -42,7 +60,9 @@ fn is_among(id: RepoId, repos: &[RepoView]) -> bool {
 }
 
 /// Whether no two have one identifier.
-fn are_apart(repos: &[RepoView]) -> bool {
+fn are_apart(repos: &[RepoView]) -> bool
+    ensures { result ≡ are_apart repos.now }
+{
     for (place, repo) in repos.iter().enumerate() {
         let (_before, others) = repos.split_at(place + 1);
         if is_among(repo.id, others) {
