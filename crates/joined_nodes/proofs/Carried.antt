@@ -114,8 +114,10 @@ two_nodes laws {K} was i j a b x y all apart at_a at_b first second joined = rec
 } where
   count : length (slice_set (slice_set was i x) j y) ≡ length was
   count = set_count (slice_set was i x) j y ∙ set_count was i x
+
   first_so : (l : ℕ) (n : NodeView K) → l ≢ i → l ≢ j → slice_get was l ≡ Some n → AreJoined i l x.parts.links n.parts.links
   first_so l n not_i not_j at = laws.elsewhere i j l a.parts.links x.parts.links b.parts.links n.parts.links not_j first.links (all.joined i l a n (λ e. not_i (sym e)) at_a at)
+
   second_so : (l : ℕ) (n : NodeView K) → l ≢ i → l ≢ j → slice_get was l ≡ Some n → AreJoined j l y.parts.links n.parts.links
   second_so l n not_i not_j at = laws.elsewhere j i l b.parts.links y.parts.links a.parts.links n.parts.links not_i second.links (all.joined j l b n (λ e. not_j (sym e)) at_b at)
 
@@ -155,7 +157,7 @@ pub parts_after : Laws → {K : Type 0} (whole fs bs : List (NodeView K)) (i j :
     → AreCarriedTwo i j whole (slice_set fs i x ++ slice_set bs 0 y) × AreNodes (slice_set fs i x ++ slice_set bs 0 y)
 parts_after laws {K} whole fs bs i j a b x y is front order all at_a at_b so =
     subst (λ (now : List (NodeView K)). AreCarriedTwo i j whole now × AreNodes now) same (two_after laws whole i j a b x y all (λ e. omega (arith, order, e)) at_a at_b so) where
-  same : slice_set (slice_set whole i x) j y ≡ slice_set fs i x ++ slice_set bs 0 y
-  same =
-      ap (λ zs. slice_set (slice_set zs i x) j y) is
-      ∙ (ap (λ n. slice_set (slice_set (fs ++ bs) i x) n y) (sym front) ∙ two_set fs bs i x y (omega (arith, order, front)))
+      same : slice_set (slice_set whole i x) j y ≡ slice_set fs i x ++ slice_set bs 0 y
+      same =
+          ap (λ zs. slice_set (slice_set zs i x) j y) is
+          ∙ (ap (λ n. slice_set (slice_set (fs ++ bs) i x) n y) (sym front) ∙ two_set fs bs i x y (omega (arith, order, front)))

@@ -69,6 +69,7 @@ one_more {K} n repo was mid now in_repo in_n so with = elim (same_or_other n rep
     later = λ i from other. so.later i (omega (arith, from)) other;
     nodes = so.nodes;
   }
+
   more : n ≢ repo → AreCarriedTwo repo n mid now → AreCarriedTo (n + 1) repo was now
   more isn't two = record {
     count = two.count ∙ so.count;
@@ -93,8 +94,10 @@ one_more {K} n repo was mid now in_repo in_n so with = elim (same_or_other n rep
   } where
     mid_at : (d : NodeView K) → slice_get mid repo ≡ Some (get_or mid repo d)
     mid_at d = slice_get-get_or mid repo d (omega (arith, in_repo, so.count))
+
     mid_next : (d : NodeView K) → slice_get mid n ≡ Some (get_or was n d)
     mid_next d = so.later n (omega arith) isn't ∙ slice_get-get_or was n d in_n
+
     links_more : (a m x z : NodeView K) → LinksCarriedTo n repo was a.parts.links m.parts.links → slice_get was n ≡ Some z → AreCarried repo n m.parts.links x.parts.links z.parts.links → LinksCarriedTo (n + 1) repo was a.parts.links x.parts.links
     links_more a m x z before at_z step = record {
       count = step.count ∙ before.count;
@@ -111,6 +114,7 @@ one_more {K} n repo was mid now in_repo in_n so with = elim (same_or_other n rep
         | inr from ↦ step.others w (λ e. omega (arith, from, e)) ∙ before.others w (inr (omega (arith, from)))
       ];
     }
+
     done_now : (a b m y : NodeView K) → LinksCarriedTo n repo was a.parts.links m.parts.links → IsCarried n repo m b y → IsCarried n repo a b y
     done_now a b m y before step = record {
       rest = step.rest;

@@ -1,5 +1,6 @@
 -- The lemmas of this crate.
 pub mod Apart
+pub mod Bundles
 pub mod Made
 pub mod Setting
 pub mod Staying

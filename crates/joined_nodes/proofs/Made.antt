@@ -102,14 +102,18 @@ new_nodes law {K} repos keepers nodes same new = record {
 } where
   in_repos : (i : ℕ) (n : NodeView K) → slice_get nodes i ≡ Some n → i < length repos
   in_repos i n at = let low : i < length nodes = slice_get_within nodes i n at in omega (arith, low, new.count)
+
   repo_at : (i : ℕ) → i < length repos → (repo : RepoView) × (slice_get repos i ≡ Some repo)
   repo_at i low = at_some repos i low
+
   keeper_at : (i : ℕ) → i < length keepers → (keeper : K) × (slice_get keepers i ≡ Some keeper)
   keeper_at i low = at_some keepers i low
+
   is_new : (i : ℕ) (n : NodeView K) (at : slice_get nodes i ≡ Some n) → IsNew (setup_of (ids_of repos) i (repo_at i (in_repos i n at)).0) (keeper_at i (omega (arith, in_repos i n at, same))).0 n
   is_new i n at =
       let repo = repo_at i (in_repos i n at) in
       let keeper = keeper_at i (omega (arith, in_repos i n at, same)) in
       new.each i repo.0 keeper.0 n repo.1 keeper.1 at
+
   within : (i : ℕ) (n : NodeView K) → slice_get nodes i ≡ Some n → i < length (ids_of repos)
   within i n at = let count : length (ids_of repos) ≡ length repos = ids_count repos in omega (arith, in_repos i n at, count)

@@ -1,9 +1,10 @@
 //! Calls of one of the nodes: each does what the node's own does, and leaves the others as they are.
-ghost use Rattle.std.specs.Prelude.{◌≡◌, ◌≢◌, ℕ, ◌+◌, ◌≤◌, ◌<◌, ◌^◌, Bool, true, [], ◌∷◌, Err, None, Some, max, length, map, is_some, slice_get, IfOk, IfErr, IsErrOf, OnErr, OnOk};
+ghost use Rattle.std.specs.Prelude.{◌≡◌, ◌≢◌, ◌⊎◌, ℕ, ◌+◌, ◌≤◌, ◌<◌, ◌^◌, Bool, true, [], ◌∷◌, Err, None, Some, max, length, map, is_some, slice_get, IfOk, IfErr, IsErrOf, OnErr, OnOk};
 ghost use Rattle.std.specs.Map.{keys_of};
 ghost use Rattle.std.specs.Option.{ForSome, option_copied, option_map};
 ghost use Rattle.annex_base.specs.Causes.{Rose};
 ghost use Rattle.annex_base.specs.declared.kinds.Call.TheVariants as calls;
+ghost use Rattle.branch_bundle.specs.Bundle.{IsBundle, IsFirstWrong};
 ghost use Rattle.key_verify.specs.Matching.{MatchesKey};
 ghost use Rattle.link_ring.specs.Ends.{after_drop};
 ghost use Rattle.log_lines.specs.LineText.{HasLine, line_text};
@@ -13,19 +14,21 @@ ghost use Rattle.node_model.specs.SetUp.{SetUp};
 ghost use Rattle.object_store.specs.Calls.{one_more};
 ghost use Rattle.run_data.specs.Files.{file_of};
 ghost use Rattle.run_data.specs.declared.entry.EntryKind.TheVariants.{Begin};
+ghost use Rattle.union_merge.specs.Branch.{Files};
 ghost use Rattle.union_merge.specs.LineSet.{IsLine};
 ghost use Rattle.repo_node.specs.Logs.{IsLogOf, log_of, stamped_by, with_lines};
 ghost use Rattle.repo_node.specs.Nodes.{Fits, NodeView, told_of, with_entry};
 ghost use Rattle.repo_node.specs.Placing.{IsPlaced, IsTaken, PartAfter, StopsBefore, StopsPlacing};
 ghost use Rattle.repo_node.specs.Refusals.{RefusesSo, most_entries};
 ghost use Rattle.repo_node.specs.Turning.{Adds, HasStep, IsIdle, TurnsSo};
-ghost use Rattle.repo_node.specs.Walks.{StopsAfter, compact_files, merge_files, over};
+ghost use Rattle.repo_node.specs.Walks.{IsOfBundle, StopsAfter, compact_files, merge_files, over};
 ghost use Rattle.joined_nodes.specs.Joined.{AtNode};
 
 use crate::laws::nodes_stay_joined;
 use crate::nodes::Nodes;
 use annex_base::{Call, NoMemory};
 use annex_key::Key;
+use branch_bundle::bundles_are_exact;
 use log_lines::{Entry, LogKind};
 use object_store::{FailingKeeper, Keeper};
 use repo_node::{BeginRefused, NodeRefused, Turn};
@@ -148,6 +151,28 @@ impl<K: Keeper> Nodes<K> {
         nodes_stay_joined::<K>();
         let bundle = self.nodes[from].bundle()?;
         self.nodes[repo].merge_bundle(&bundle)
+    }
+
+    /// Merges a bundle into the branch of a node, as `Node::merge_bundle` does.
+    pub fn merge_bundle(&mut self, repo: usize, bytes: &[u8]) -> Result<(), NodeRefused>
+        requires there { repo < length self.old }
+        ensures found { OnOk result (IsOfBundle bytes.now) }
+        ensures ok { (files : Files) → IsBundle bytes.now files → AtNode repo self.old self.new (λ was now. OnOk result (now ≡ over now.keeper (merge_files was files))) }
+        ensures err { (files : Files) → IsBundle bytes.now files → AtNode repo self.old self.new (λ was now. IfErr result (λ e. StopsAfter (merge_files was) files e now)) }
+        ensures wrong { (at : ℕ) → result ≡ Err (NodeRefused.BadBundle at) → IsFirstWrong bytes.now at }
+        ensures first { (at : ℕ) → IsFirstWrong bytes.now at → (result ≡ Err (NodeRefused.BadBundle at)) ⊎ (result ≡ Err NodeRefused.NoMemory) }
+        ensures unread { (at : ℕ) → IsFirstWrong bytes.now at → AtNode repo self.old self.new (λ was now. now ≡ was) }
+        ensures contents { AtNode repo self.old self.new (λ was now. K.contents now.keeper ≡ K.contents was.keeper) }
+        ensures parts { AtNode repo self.old self.new (λ was now. K.parts now.keeper ≡ K.parts was.keeper) }
+        ensures later { AtNode repo self.old self.new (λ was now. K.faults was.keeper ≤ K.faults now.keeper) }
+        ensures cause { AtNode repo self.old self.new (λ was now. IsErrOf result NodeRefused.StoreFault → Rose (K.faults was.keeper) (K.faults now.keeper)) }
+        ensures others { (i : ℕ) → i ≢ repo → slice_get self.new i ≡ slice_get self.old i }
+        ensures count { length self.new ≡ length self.old }
+    {
+        // Laws, for the proof.
+        nodes_stay_joined::<K>();
+        bundles_are_exact();
+        self.nodes[repo].merge_bundle(bytes)
     }
 
     /// Takes the outdated lines of a node's files away, as `Node::compact` does.

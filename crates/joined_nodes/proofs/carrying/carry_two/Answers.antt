@@ -11,9 +11,11 @@ carry_nodes-requires g c =
     let fs = c.split_at_mut-before.result.0.now in
     let bs = c.split_at_mut-before.result.1.now in
     let split = c.split_at_mut-before.ensures in
-    record { joined = numbered_joined nodes c.args.low c.args.high (get_or fs c.args.low c.index-before-low.result) (get_or bs 0 c.index-from-0.result) c.requires.nodes (λ e. omega (arith, c.requires.order, e))
-    (at_front nodes fs bs c.args.low c.index-before-low.result split.value (omega (arith, split.front_len, c.requires.order)))
-    (at_back nodes fs bs c.args.high c.index-from-0.result split.value split.front_len c.requires.there) }
+    record {
+      joined = numbered_joined nodes c.args.low c.args.high (get_or fs c.args.low c.index-before-low.result) (get_or bs 0 c.index-from-0.result) c.requires.nodes (λ e. omega (arith, c.requires.order, e))
+          (at_front nodes fs bs c.args.low c.index-before-low.result split.value (omega (arith, split.front_len, c.requires.order)))
+          (at_back nodes fs bs c.args.high c.index-from-0.result split.value split.front_len c.requires.there);
+    }
 
 pub returns-clause-carried : goal.returns-clause-carried
 returns-clause-carried g c =

@@ -10,32 +10,32 @@ use Rattle.joined_nodes.proofs.Made.{suits}
 use Rattle.joined_nodes.proofs.making.add_node.Goals as goal
 
 pub new-requires-clause-own : goal.new-requires-clause-own
-new-requires-clause-own g c = 
+new-requires-clause-own g c =
     let at : c.len.result < length c.args.repos.now = omega (arith, c.len.ensures, c.args.nodes.now.ok.0, c.requires.there) in
     (suits c.args.repos.now c.len.result c.in_ok-setup.setup c.requires.run at c.in_ok-setup.ensures).own
 
 pub new-requires-clause-apart : goal.new-requires-clause-apart
-new-requires-clause-apart g c = 
+new-requires-clause-apart g c =
     let at : c.len.result < length c.args.repos.now = omega (arith, c.len.ensures, c.args.nodes.now.ok.0, c.requires.there) in
     (suits c.args.repos.now c.len.result c.in_ok-setup.setup c.requires.run at c.in_ok-setup.ensures).apart
 
 pub new-requires-clause-offset : goal.new-requires-clause-offset
-new-requires-clause-offset g c = 
+new-requires-clause-offset g c =
     let at : c.len.result < length c.args.repos.now = omega (arith, c.len.ensures, c.args.nodes.now.ok.0, c.requires.there) in
     (suits c.args.repos.now c.len.result c.in_ok-setup.setup c.requires.run at c.in_ok-setup.ensures).offset
 
 pub new-requires-clause-oldest : goal.new-requires-clause-oldest
-new-requires-clause-oldest g c = 
+new-requires-clause-oldest g c =
     let at : c.len.result < length c.args.repos.now = omega (arith, c.len.ensures, c.args.nodes.now.ok.0, c.requires.there) in
     (suits c.args.repos.now c.len.result c.in_ok-setup.setup c.requires.run at c.in_ok-setup.ensures).oldest
 
 pub new-requires-clause-newest : goal.new-requires-clause-newest
-new-requires-clause-newest g c = 
+new-requires-clause-newest g c =
     let at : c.len.result < length c.args.repos.now = omega (arith, c.len.ensures, c.args.nodes.now.ok.0, c.requires.there) in
     (suits c.args.repos.now c.len.result c.in_ok-setup.setup c.requires.run at c.in_ok-setup.ensures).newest
 
 pub new-requires-clause-few : goal.new-requires-clause-few
-new-requires-clause-few g c = 
+new-requires-clause-few g c =
     let at : c.len.result < length c.args.repos.now = omega (arith, c.len.ensures, c.args.nodes.now.ok.0, c.requires.there) in
     (suits c.args.repos.now c.len.result c.in_ok-setup.setup c.requires.run at c.in_ok-setup.ensures).few
 
@@ -50,9 +50,9 @@ pub returns-clause-ok : goal.returns-clause-ok
 returns-clause-ok g c =
     let place : c.len.result ≡ length c.args.nodes.now.items = c.len.ensures ∙ c.args.nodes.now.ok.0 in
     record {
-  node = c.in_ok-node.node;
-  adds = c.push_reserved.ensures.items;
-  new = λ repo at. subst (λ setup. IsNew setup c.args.keeper c.in_ok-node.node)
-      (c.in_ok-setup.ensures repo (ap (slice_get c.args.repos.now) place ∙ at) ∙ ap (λ n. setup_of (ids_of c.args.repos.now) n repo) place)
-      (record { node = c.in_ok-node.ensures.node; table = c.in_ok-node.ensures.table; links = c.in_ok-node.ensures.links; jobs = c.in_ok-node.ensures.jobs });
-}
+      node = c.in_ok-node.node;
+      adds = c.push_reserved.ensures.items;
+      new = λ repo at. subst (λ setup. IsNew setup c.args.keeper c.in_ok-node.node)
+          (c.in_ok-setup.ensures repo (ap (slice_get c.args.repos.now) place ∙ at) ∙ ap (λ n. setup_of (ids_of c.args.repos.now) n repo) place)
+          (record { node = c.in_ok-node.ensures.node; table = c.in_ok-node.ensures.table; links = c.in_ok-node.ensures.links; jobs = c.in_ok-node.ensures.jobs });
+    }
