@@ -1,4 +1,6 @@
 //! Jobs that begin at a node.
+ghost use Rattle.std.specs.Prelude.{◌≡◌, IfOk, None};
+
 use crate::scripted::some_nodes;
 use annex_base::NoMemory;
 use annex_key::Key;
@@ -8,7 +10,11 @@ use repo_node::BeginRefused;
 use run_data::{Job, JobKind};
 use std::test::Fail;
 
-fn drop_of(key: &Key) -> Result<Job, NoMemory> {
+/// A drop of the repository's own copy.
+fn drop_of(key: &Key) -> Result<Job, NoMemory>
+    ensures kind { IfOk result (λ job. job.kind ≡ JobKind.Drop) }
+    ensures peer { IfOk result (λ job. job.peer ≡ None) }
+{
     Ok(Job {
         kind: JobKind::Drop,
         key: key.copy()?,

@@ -1,5 +1,6 @@
 //! Nodes that do what a test says, and the journal of what they did.
-ghost use Rattle.std.specs.Prelude.{◌≡◌, ◌<◌, length};
+ghost use Rattle.std.specs.Prelude.{◌≡◌, ◌<◌, All, IfOk, length};
+ghost use Rattle.repo_node.specs.Stored.{HasNothing};
 
 use annex_base::{Call, Failed, Items, NoMemory, RepoId, Text};
 use annex_key::Key;
@@ -125,9 +126,13 @@ fn nodes_of(alloc: Global, repos: &[RepoView]) -> Result<Nodes<MemoryKeeper>, No
     Nodes::new(alloc, repos, keepers)
 }
 
-fn keepers(alloc: Global, count: usize) -> Result<Vec<MemoryKeeper>, NoMemory> {
+/// So many stores that are empty.
+fn keepers(alloc: Global, count: usize) -> Result<Vec<MemoryKeeper>, NoMemory>
+    ensures count { IfOk result (λ keepers. length keepers.items ≡ count) }
+    ensures empty { IfOk result (λ keepers. All (λ k. HasNothing (⟦<MemoryKeeper as Keeper>⟧.contents k) (⟦<MemoryKeeper as Keeper>⟧.parts k) (⟦<MemoryKeeper as Keeper>⟧.records k) (⟦<MemoryKeeper as Keeper>⟧.files k)) keepers.items) }
+{
     let mut keepers = Vec::new(alloc);
-    for _ in 0..count {
+    for _made in 0..count {
         keepers.push(MemoryKeeper::new(alloc)?)?;
     }
     Ok(keepers)
@@ -369,10 +374,17 @@ impl Scripted {
             sent: Items::new(alloc),
             lines: Items::new(alloc),
         };
+        self.put(&entry)
+    }
+
+    /// Adds an entry that is no node's; once more, where memory ran out in its midst.
+    fn put(&mut self, entry: &Entry) -> Result<(), NoMemory>
+        ensures { length self.new.nodes ≡ length self.old.nodes }
+    {
         let length = self.text.len();
-        if put_entry(&mut self.text, self.repos.as_slice(), &[], &entry).is_err() {
+        if put_entry(&mut self.text, self.repos.as_slice(), &[], entry).is_err() {
             self.text.truncate(length);
-            put_entry(&mut self.text, self.repos.as_slice(), &[], &entry)?;
+            put_entry(&mut self.text, self.repos.as_slice(), &[], entry)?;
         }
         Ok(())
     }
