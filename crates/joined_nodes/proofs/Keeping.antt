@@ -1,6 +1,7 @@
 -- What the calls of a node keep: its set-up, and all but a turn its links.
 use Rattle.std.proofs.Common.{◌≡◌, ◌≢◌, ◌⊎◌, inl, inr, ℕ, Bool, true, false, List, [], ◌∷◌, length, Option, Some, None, refl, sym, ap, subst, ◌∙◌}
 use Rattle.std.specs.Prelude.{Result, Ok, Err, IfOk, IfErr, OnOk, OnErr, map, nat_lt, if◌then◌else◌}
+use Rattle.std.proofs.lemmas.Bool.{true≢false}
 use Rattle.annex_base.specs.declared.kinds.Call.{Call}
 use Rattle.annex_base.specs.declared.kinds.Call.TheVariants.{PutFile}
 use Rattle.link_ring.specs.Ends.{EndView}
@@ -136,9 +137,15 @@ begin_keeps (Err e) kind job was now ok err = record { setup = ap (λ n. n.setup
 
 -- ---- a turn
 
+abbrev is_moved : Turn → Bool
+is_moved turns.Moved = true
+is_moved turns.Idle = false
+is_moved turns.Full = false
+is_moved turns.NoMemory = false
+
 pub turn_setup : {K : Type 0} (t : Turn) (was now : NodeView K) (links : List EndView) (faults faults' : ℕ) → (t ≡ turns.Moved → Adds links faults faults' was now)
     → (t ≢ turns.Moved → now ≡ record was { keeper = now.keeper; parts = record was.parts { links = links } }) → now.setup ≡ was.setup
 turn_setup turns.Moved was now links faults faults' moved stays = (moved refl).setup
-turn_setup turns.Idle was now links faults faults' moved stays = ap (λ n. n.setup) (stays (λ e. absurd (idle_moved e)))
-turn_setup turns.Full was now links faults faults' moved stays = ap (λ n. n.setup) (stays (λ e. absurd (full_moved e)))
-turn_setup turns.NoMemory was now links faults faults' moved stays = ap (λ n. n.setup) (stays (λ e. absurd (memory_moved e)))
+turn_setup turns.Idle was now links faults faults' moved stays = ap (λ n. n.setup) (stays (λ e. true≢false (sym (ap is_moved e))))
+turn_setup turns.Full was now links faults faults' moved stays = ap (λ n. n.setup) (stays (λ e. true≢false (sym (ap is_moved e))))
+turn_setup turns.NoMemory was now links faults faults' moved stays = ap (λ n. n.setup) (stays (λ e. true≢false (sym (ap is_moved e))))

@@ -1,5 +1,5 @@
 -- Nodes are made.
-use Rattle.std.proofs.Common.{◌≡◌, ◌≢◌, ◌<◌, ◌≤◌, ◌+◌, ◌*◌, ◌^◌, ◌⊎◌, inl, inr, arith, ℕ, zero, suc, List, [], ◌∷◌, ◌++◌, Some, None, length, get_or, map, replicate, AllPairs, refl, sym, ap, subst, ◌∙◌}
+use Rattle.std.proofs.Common.{◌≡◌, ◌≢◌, ◌<◌, ◌≤◌, ◌+◌, ◌*◌, ◌^◌, ◌⊎◌, inl, inr, arith, ℕ, zero, suc, List, [], ◌∷◌, ◌++◌, Some, None, length, get_or, map, replicate, All, AllPairs, refl, sym, ap, subst, ◌∙◌}
 use Rattle.std.specs.Prelude.{slice_get, option_map}
 use Rattle.std.proofs.lemmas.List.{length-append}
 use Rattle.std.proofs.lemmas.Option.{same_Some, none-some, slice_get-get_or, slice_get-map, slice_get_within}
@@ -84,6 +84,18 @@ one_new {K} repos keepers keeper was now so adds = record {
     ]
   ];
 }
+
+-- ---- one of the stores
+
+at_middle : {X : Type 0} (xs : List X) (x : X) (ys : List X) (d : X) → get_or (xs ++ x ∷ ys) (length xs) d ≡ x
+at_middle [] x ys d = refl
+at_middle (z ∷ xs) x ys d = at_middle xs x ys d
+
+-- what holds of all holds of one in the middle
+pub of_middle : {X : Type 0} (P : X → Type 0) (all xs ys : List X) (x : X) → All P all → xs ++ x ∷ ys ≡ all → P x
+of_middle P all xs ys x each is =
+    let count : length xs + length (x ∷ ys) ≡ length all = sym (length-append xs (x ∷ ys)) ∙ ap length is in
+    subst P (ap (λ zs. get_or zs (length xs) x) (sym is) ∙ at_middle xs x ys x) (each (length xs) x (omega (arith, count)))
 
 -- ---- all
 

@@ -11,6 +11,7 @@ ghost use Rattle.log_lines.specs.LineText.{HasLine, line_text};
 ghost use Rattle.node_ends.specs.Joined.{StayPaired};
 ghost use Rattle.node_jobs.specs.Acting.{with_job};
 ghost use Rattle.node_model.specs.SetUp.{SetUp};
+ghost use Rattle.node_model.specs.Step.{step};
 ghost use Rattle.object_store.specs.Calls.{one_more};
 ghost use Rattle.run_data.specs.Files.{file_of};
 ghost use Rattle.run_data.specs.declared.entry.EntryKind.TheVariants.{Begin};
@@ -20,7 +21,7 @@ ghost use Rattle.repo_node.specs.Logs.{IsLogOf, log_of, stamped_by, with_lines};
 ghost use Rattle.repo_node.specs.Nodes.{Fits, NodeView, told_of, with_entry};
 ghost use Rattle.repo_node.specs.Placing.{IsPlaced, IsTaken, PartAfter, StopsBefore, StopsPlacing};
 ghost use Rattle.repo_node.specs.Refusals.{RefusesSo, most_entries};
-ghost use Rattle.repo_node.specs.Turning.{Adds, HasStep, IsIdle, TurnsSo};
+ghost use Rattle.repo_node.specs.Turning.{Adds, HasStep, IsIdle, StepsBy};
 ghost use Rattle.repo_node.specs.Walks.{IsOfBundle, StopsAfter, compact_files, merge_files, over};
 ghost use Rattle.joined_nodes.specs.Joined.{AtNode};
 
@@ -72,11 +73,13 @@ impl<K: Keeper> Nodes<K> {
     pub fn turn(&mut self, repo: usize) -> Turn
         requires there { repo < length self.old }
         ensures moved { AtNode repo self.old self.new (λ was now. result ≡ Turn.Moved → Adds (map after_drop was.parts.links) (K.faults was.keeper) (K.faults now.keeper) was now) }
-        ensures step { AtNode repo self.old self.new (λ was now. result ≡ Turn.Moved → ForSome (told_of (K.contents was.keeper) (K.parts was.keeper)) (λ c. (s : SetUp) → Fits was.setup s → TurnsSo was now s)) }
+        ensures step { AtNode repo self.old self.new (λ was now. result ≡ Turn.Moved → ForSome (told_of (K.contents was.keeper) (K.parts was.keeper)) (λ c. StepsBy step was now)) }
         ensures idle { AtNode repo self.old self.new (λ was now. result ≡ Turn.Idle → ForSome (told_of (K.contents was.keeper) (K.parts was.keeper)) (λ c. (s : SetUp) → Fits was.setup s → IsIdle was s)) }
         ensures full { AtNode repo self.old self.new (λ was now. result ≡ Turn.Full → length was.history ≡ most_entries) }
         ensures ready { AtNode repo self.old self.new (λ was now. result ≡ Turn.Full → ForSome (told_of (K.contents was.keeper) (K.parts was.keeper)) (λ c. (s : SetUp) → Fits was.setup s → HasStep was s)) }
         ensures stays { AtNode repo self.old self.new (λ was now. result ≢ Turn.Moved → now ≡ record was { keeper = now.keeper; parts = record was.parts { links = map after_drop was.parts.links } }) }
+        ensures files { AtNode repo self.old self.new (λ was now. result ≢ Turn.Moved → K.files now.keeper ≡ K.files was.keeper) }
+        ensures unasked { AtNode repo self.old self.new (λ was now. result ≡ Turn.Full → now.keeper ≡ was.keeper) }
         ensures told_parts { AtNode repo self.old self.new (λ was now. is_some (K.parts now.keeper) ≡ is_some (K.parts was.keeper)) }
         ensures told_contents { AtNode repo self.old self.new (λ was now. is_some (K.parts was.keeper) ≡ true → is_some (K.contents now.keeper) ≡ is_some (K.contents was.keeper)) }
         ensures paired { AtNode repo self.old self.new (λ was now. StayPaired was.parts.links now.parts.links) }

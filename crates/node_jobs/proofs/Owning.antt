@@ -26,16 +26,16 @@ use Rattle.drop_worker.specs.declared.phase.Phase.TheVariants as phases
 use Rattle.drop_worker.specs.declared.turn.Taken.TheVariants as takens
 use Rattle.drop_worker.specs.declared.phase.Token.TheVariants as tokens
 use Rattle.drop_worker.specs.Working.{end_in, phase_as, taken_of}
-use Rattle.drop_worker.specs.Doing.{HasToken, OthersStay}
+use Rattle.drop_worker.specs.Doing.{Grows, HasToken, OthersStay}
 use Rattle.node_jobs.specs.declared.acted.Acted.{Acted}
 use Rattle.node_jobs.specs.declared.finding.Found.{Found}
 use Rattle.node_jobs.specs.Acting.{new_worker, running_now, with_job, word_at}
 use Rattle.node_jobs.specs.Changes.{Changes, kept, output_of}
-use Rattle.node_jobs.specs.Leaving.{KeepsWord, Leaves}
-use Rattle.node_jobs.specs.Running.{AllApart, AreApart, DropJob, IsDrop, IsOwn, Jobs, OwnAll, place_reading}
+use Rattle.node_jobs.specs.Leaving.{KeepsWord, Leaves, heard_at}
+use Rattle.node_jobs.specs.Running.{AllApart, AreApart, DropJob, IsDrop, IsOwn, Jobs, OwnAll, job_at, place_reading}
 use Rattle.node_jobs.specs.declared.feed.Feed.{Feed}
 use Rattle.node_jobs.specs.Feeds.{IsFedAt, feed_at, feed_by, feed_of, told}
-use Rattle.node_jobs.proofs.Among.{found_by_number, apart_before, apart_behind, apart_with, apart_without}
+use Rattle.node_jobs.proofs.Among.{found_by_number, apart_before, apart_behind, apart_with, apart_without, none_by_number, others_found}
 use Rattle.node_jobs.proofs.Knowing.{can_stand}
 use Rattle.drop_worker.specs.Begun.{HasBegun, HasGone}
 
@@ -137,8 +137,40 @@ module _ (links : List EndView) (clock : ClockSet) (settings : Settings) (jobs :
           let same : feed ≡ record { taken = taken_of f.body; word = word; takes = Some peer } = cc in
           (ap (λ (x : Feed). x.taken) same, ap (λ (x : Feed). x.word) same)
 
+  -- ---- what it has heard, and the other jobs
+
+  abbrev heard_in : Option DropJob → List (ℕ × Heard)
+  heard_in o = option_map_or (λ (x : DropJob). x.worker.heard) o []
+
+  heard_grows : a.ended ≡ false → Grows (heard_at jobs.running a.job) (heard_at now a.job)
+  heard_grows going =
+      subst (λ (hs : List (ℕ × Heard)). Grows hs (heard_at now a.job)) (sym (ap heard_in j_found))
+      (subst (Grows ch.j.worker.heard) (sym (ap heard_in (j'_found going))) ch.steps.heard)
+
+  off_the_list : a.ended ≡ true → job_at now a.job ≡ None
+  off_the_list ended =
+      ap (λ (js : List DropJob). job_at js a.job) (ch.now_is ∙ ap (λ (b : Bool). ch.front ++ (kept b ch.j' ++ ch.back)) ended)
+      ∙ (ap (job_at (ch.front ++ ch.back)) ch.job
+      ∙ none_by_number (ch.front ++ ch.back) ch.j.worker.number (Each-append (λ x. x.worker.number ≢ ch.j.worker.number) ch.front ch.back
+      (Each-weaker (λ x. AreApart x ch.j) (λ x. x.worker.number ≢ ch.j.worker.number) (λ x h. h.number) ch.front (apart_before ch.front ch.j ch.back apart))
+      (Each-weaker (AreApart ch.j) (λ x. x.worker.number ≢ ch.j.worker.number) (λ x h e. h.number (sym e)) ch.back (apart_behind ch.front ch.j ch.back apart))))
+
+  others_as_they_were : (job : ℕ) → job ≢ a.job → job_at now job ≡ job_at jobs.running job
+  others_as_they_were job other =
+      ap (λ (js : List DropJob). job_at js job) ch.now_is
+      ∙ (others_found job ch.front ch.j ch.j' ch.back a.ended (λ e. other (sym (ch.job ∙ e))) ch.steps.number
+      ∙ ap (λ (js : List DropJob). job_at js job) (sym ch.was_is))
+
   pub leaves_after : IsFedAt links ch.j found.feed → Leaves links jobs (record jobs { running = now }) rows rows' known known' a
-  leaves_after fed = record { after = ch.steps.after; stored = ch.steps.stored; others = subst (λ (n : ℕ). OthersStay n rows rows') (sym ch.job) ch.others; word = word_kept fed }
+  leaves_after fed = record {
+    after = ch.steps.after;
+    stored = ch.steps.stored;
+    others = subst (λ (n : ℕ). OthersStay n rows rows') (sym ch.job) ch.others;
+    word = word_kept fed;
+    grows = heard_grows;
+    off = off_the_list;
+    apart = others_as_they_were;
+  }
 
 -- ---- a slot for one more
 

@@ -20,7 +20,7 @@ use Rattle.content_lock.specs.Rows.{AreAfter, Rows}
 use Rattle.drop_worker.specs.Begun.{CanStand, HasGone}
 use Rattle.drop_worker.specs.declared.turn.Input.{Input}
 use Rattle.drop_worker.specs.declared.turn.Output.{Output}
-use Rattle.drop_worker.specs.Doing.{contents_after}
+use Rattle.drop_worker.specs.Doing.{Grows, contents_after}
 use Rattle.drop_worker.specs.Feeding.{FedAt, FindsAt, FitsLocal, KeepsWord}
 use Rattle.drop_worker.specs.Leaving.{stands_on}
 use Rattle.drop_worker.specs.States.{Keeps, Sees, StepsSo}
@@ -41,6 +41,7 @@ Does p clock links known input contents rows w w' out =
 -- what it leaves of rows and contents, and where it leaves the worker
 pub record Steps (p : PlaceView) (contents contents' : Option Contents) (input : Input) (rows rows' : Rows) (w w' : Worker) (out : Output) : Type 0 where
   pub word : KeepsWord input.taken input.word w w'
+  pub heard : Grows w.heard w'.heard
   pub after : AreAfter out.kind rows rows'
   pub stored : contents' ≡ contents_after contents out.kind
   pub fits : out.ended ≡ false → FitsLocal w'.phase w'.token

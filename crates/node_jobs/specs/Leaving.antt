@@ -1,5 +1,5 @@
--- What a step of the jobs leaves of rows, contents and words (own).
-use Rattle.std.specs.Prelude.{◌≡◌, ℕ, ◌==◌, false, List, [], ◌∷◌, find, Option, Some, None}
+-- What a step of the jobs leaves of rows, contents, words and jobs (own).
+use Rattle.std.specs.Prelude.{◌≡◌, ◌≢◌, ℕ, true, false, List, [], ◌∷◌, Option, Some, None}
 use Rattle.std.specs.Option.{option_map, option_map_or}
 use Rattle.link_ring.specs.Ends.{EndView}
 use Rattle.node_ends.specs.Ends.{wait_at}
@@ -12,30 +12,34 @@ use Rattle.drop_worker.specs.declared.phase.Heard.TheVariants as heards
 use Rattle.drop_worker.specs.declared.phase.Phase.{Phase}
 use Rattle.drop_worker.specs.declared.phase.Phase.TheVariants as phases
 use Rattle.drop_worker.specs.declared.turn.Taken.TheVariants as takens
-use Rattle.drop_worker.specs.Doing.{OthersStay, contents_after}
+use Rattle.drop_worker.specs.Doing.{Grows, OthersStay, contents_after}
 use Rattle.drop_worker.specs.Working.{end_in, taken_of}
 use Rattle.node_jobs.specs.declared.acted.Acted.{Acted}
 use Rattle.node_jobs.specs.Acting.{word_at}
-use Rattle.node_jobs.specs.Running.{DropJob, Jobs}
+use Rattle.node_jobs.specs.Running.{DropJob, Jobs, job_at}
 
 -- where the job of this number stands, and what it has heard
 abbrev pub phase_at : List DropJob → ℕ → Option Phase
-phase_at js job = option_map (λ (j : DropJob). j.worker.phase) (find (λ j. j.worker.number == job) js)
+phase_at js job = option_map (λ (j : DropJob). j.worker.phase) (job_at js job)
 
 abbrev pub heard_at : List DropJob → ℕ → List (ℕ × Heard)
-heard_at js job = option_map_or (λ (j : DropJob). j.worker.heard) (find (λ j. j.worker.number == job) js) []
+heard_at js job = option_map_or (λ (j : DropJob). j.worker.heard) (job_at js job) []
 
 -- the word beside a refused look is kept
 abbrev pub KeepsWord : List EndView → List DropJob → List DropJob → Acted → Type 0
 KeepsWord links was now a = a.ended ≡ false → (peer : ℕ) (f : FrameView) → phase_at was a.job ≡ Some (phases.AsksLook peer) → a.takes ≡ Some peer → wait_at links (end_in a.slot peer) ≡ Some f
     → taken_of f.body ≡ takens.Message Failure → heard_at now a.job ≡ (peer, heards.Unseen (word_at links (end_in a.slot peer))) ∷ heard_at was a.job
 
--- rows and contents are those after the entry, and other jobs have what they had
+-- Rows and contents are those after the entry, and other jobs have what they had. The acting job has heard what it had heard, or
+-- one thing more in front; where it has ended it is off the list. Each other job is as it was.
 pub record Leaves (links : List EndView) (was now : Jobs) (rows rows' : Rows) (contents contents' : Option Contents) (a : Acted) : Type 0 where
   pub after : AreAfter a.kind rows rows'
   pub stored : contents' ≡ contents_after contents a.kind
   pub others : OthersStay a.job rows rows'
   pub word : KeepsWord links was.running now.running a
+  pub grows : a.ended ≡ false → Grows (heard_at was.running a.job) (heard_at now.running a.job)
+  pub off : a.ended ≡ true → job_at now.running a.job ≡ None
+  pub apart : (job : ℕ) → job ≢ a.job → job_at now.running job ≡ job_at was.running job
 
 -- where no job has a step, nothing changes
 abbrev pub LeavesSo : List EndView → Jobs → Jobs → Rows → Rows → Option Contents → Option Contents → Option Acted → Type 0

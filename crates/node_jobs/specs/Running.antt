@@ -115,8 +115,12 @@ pub record Follows (s : SetUp) (st : State) (e : Entry) (st' : State) : Type 0 w
   pub logs : st'.logs ≡ st.logs
   pub read : (job : ℕ) → st'.read job ≡ read_after st.logs (st.read job) (find (λ w. w.number == job) st.works)
 
--- ---- words
+-- ---- one of them
+
+-- the running job of this number
+abbrev pub job_at : List DropJob → ℕ → Option DropJob
+job_at js job = find (λ j. j.worker.number == job) js
 
 -- the words that the job of this number heard beside its peers' answers
 abbrev pub words_at : List DropJob → ℕ → ℕ → Option Word
-words_at js job = option_map_or (λ (j : DropJob). words_of j.worker) (find (λ j. j.worker.number == job) js) (λ c. None)
+words_at js job = option_map_or (λ (j : DropJob). words_of j.worker) (job_at js job) (λ c. None)

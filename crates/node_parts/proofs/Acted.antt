@@ -1,13 +1,14 @@
 -- What a job does is the step of the parts.
-use Rattle.std.proofs.Common.{◌≡◌, ◌⊎◌, inl, inr, ℕ, ◌<◌, ◌+◌, ◌*◌, Bool, true, false, List, [], Option, Some, None, is_some, length, refl, sym, ap, subst, ◌∙◌, arith}
+use Rattle.std.proofs.Common.{◌≡◌, ◌⊎◌, inl, inr, ℕ, ◌<◌, ◌+◌, ◌*◌, Bool, true, false, List, [], ◌∷◌, Option, Some, None, is_some, length, refl, sym, ap, subst, ◌∙◌, arith}
 use Rattle.std.specs.Prelude.{All, IfOk, Result, Ok, Err, bytes_eq, find, fold, not, ◌&&◌, ◌==◌, if◌then◌else◌}
 use Rattle.std.specs.List.{list_any}
-use Rattle.std.specs.Option.{ForSome, option_map, option_map_or}
+use Rattle.std.specs.Option.{ForSome, option_and_then, option_map, option_map_or}
 use Rattle.std.proofs.lemmas.Bool.{cases_Bool, true≢false}
 use Rattle.std.proofs.lemmas.List.Elements.{All-weaker}
 use Rattle.std.proofs.lemmas.Option.{same_Some}
 use Rattle.annex_base.specs.Lists.{Each}
 use Rattle.annex_base.specs.Settings.{Settings}
+use Rattle.annex_base.proofs.Options.{map_some, where_some}
 use Rattle.run_data.specs.declared.entry.By.{By}
 use Rattle.run_data.specs.declared.entry.Entry.{Entry}
 use Rattle.run_data.specs.declared.entry.EntryKind.{EntryKind}
@@ -15,13 +16,14 @@ use Rattle.run_data.specs.declared.entry.EntryKind.TheVariants as kinds
 use Rattle.run_data.specs.declared.entry.FrameView.{FrameView}
 use Rattle.run_data.specs.declared.row.Hold.{Hold}
 use Rattle.object_store.specs.Stores.{Contents, with_at}
+use Rattle.p2p_wire.specs.declared.message.Message.TheVariants.{Failure}
 use Rattle.trust_groups.specs.Settings.{Lines, settings}
 use Rattle.content_lock.specs.Rows.{Rows, bar_at}
 use Rattle.content_lock.specs.Tokens.{Owns}
-use Rattle.link_ring.specs.Ends.{EndView}
+use Rattle.link_ring.specs.Ends.{EndView, next_frame}
 use Rattle.node_model.specs.After.{read_after, state_after}
 use Rattle.node_model.specs.Clocks.{ClockSet}
-use Rattle.node_model.specs.Ends.{End, EndName, end_sends, end_took, sent_at, taken_at}
+use Rattle.node_model.specs.Ends.{End, EndName, end_sends, end_took, may_take, sent_at, taken_at}
 use Rattle.node_model.specs.Evidence as drops
 use Rattle.node_model.specs.Evidence.{standing_by}
 use Rattle.node_model.specs.Look.{Look, Made, entry_of, first_of}
@@ -29,25 +31,30 @@ use Rattle.node_model.specs.Rows.{bar_after, holds_after}
 use Rattle.node_model.specs.Sessions.{new_session, session_after}
 use Rattle.node_model.specs.SessionStep.{session_step}
 use Rattle.node_model.specs.SetUp.{SetUp}
+use Rattle.node_model.specs.Slots.{job_by, job_of}
 use Rattle.node_model.specs.State.{State}
 use Rattle.node_model.specs.Turns.{job_step}
-use Rattle.node_ends.specs.Ends.{AreEnds, SeesEnds, end_at, link_at, room_at}
+use Rattle.node_ends.specs.Ends.{AreEnds, SeesEnds, end_at, frame_at, hand_at, if_may, link_at, room_at, wait_at}
 use Rattle.node_ends.specs.Going.{AreAfter}
 use Rattle.node_ends.specs.Joined.{StayPaired}
 use Rattle.p2p_server.specs.declared.session.Session.{Session}
 use Rattle.p2p_server.specs.Talking.{share_of}
 use Rattle.node_sessions.specs.Sessions.{AreFilled, AreSessions, HaveEnds, OwnAll, owner_of}
+use Rattle.drop_worker.specs.declared.phase.Heard.TheVariants as heards
+use Rattle.drop_worker.specs.declared.phase.Phase.TheVariants as phases
+use Rattle.drop_worker.specs.declared.turn.Taken.TheVariants as takens
 use Rattle.drop_worker.specs.Begun.{IsLast, IsOnward}
 use Rattle.drop_worker.specs.Doing.{contents_after}
 use Rattle.drop_worker.specs.States.{Keeps}
-use Rattle.drop_worker.specs.Working.{failed_in, frames_of}
+use Rattle.drop_worker.specs.Working.{end_in, failed_in, frames_of, taken_of}
 use Rattle.node_jobs.specs.declared.acted.Acted.{Acted}
-use Rattle.node_jobs.specs.Acting.{IsKindOf, SeesActed, SeesJobs, StepsJobs, made_by, taken_by}
-use Rattle.node_jobs.specs.Leaving.{Leaves as LeavesJobs}
+use Rattle.node_jobs.specs.Acting.{IsKindOf, SeesActed, SeesJobs, StepsJobs, made_by, taken_by, word_at}
+use Rattle.node_jobs.specs.Leaving.{Leaves as LeavesJobs, heard_at, phase_at}
 use Rattle.node_jobs.specs.Places.{IsPlace, PlaceView}
-use Rattle.node_jobs.specs.Running.{AreWorks, Follows, IsDrop, Jobs, OwnAll as JobsOwn, words_at}
+use Rattle.node_jobs.specs.Running.{AreWorks, Follows, IsDrop, Jobs, OwnAll as JobsOwn, job_at, words_at}
 use Rattle.node_jobs.specs.Sending.{IsOwnEntry, SendsWell, TakesNoOpening}
 use Rattle.node_parts.specs.declared.done.Done.{Done}
+use Rattle.node_parts.specs.Jobs.{JobsGoOn}
 use Rattle.node_parts.specs.Kinds.{IsQuiet}
 use Rattle.node_parts.specs.Parts.{AreParts, HasContents, PartsView}
 use Rattle.node_parts.specs.Sound.{AreSound}
@@ -94,6 +101,24 @@ last_quiet job kind h = absurd h
 pub kind_quiet : (job : ℕ) (kind : EntryKind) → IsOfJob job kind → IsQuiet kind
 kind_quiet job kind (inl h) = onward_quiet job kind h
 kind_quiet job kind (inr h) = last_quiet job kind h
+
+onward_job : (job : ℕ) (kind : EntryKind) → IsOnward job kind → job_of kind ≡ Some job
+onward_job job (kinds.Share hold end owner key) h = ap job_by h
+onward_job job (kinds.Bar j need key) h = ap (λ (n : ℕ). Some n) h
+onward_job job (kinds.Order j target deadline need key) h = ap (λ (n : ℕ). Some n) h
+onward_job job (kinds.Gone source key) h = ap job_by h
+onward_job job (kinds.Talk j) h = h
+onward_job job (kinds.Fault call source) h = ap job_by h
+onward_job job kind h = absurd h
+
+last_job : (job : ℕ) (kind : EntryKind) → IsLast job kind → job_of kind ≡ Some job
+last_job job (kinds.End j outcome) h = ap (λ (n : ℕ). Some n) h
+last_job job kind h = absurd h
+
+-- it is the job that makes it
+pub kind_job : (job : ℕ) (kind : EntryKind) → IsOfJob job kind → job_of kind ≡ Some job
+kind_job job kind (inl h) = onward_job job kind h
+kind_job job kind (inr h) = last_job job kind h
 
 -- ---- the contents after it
 
@@ -166,7 +191,6 @@ told_after known job kind (inr h) = last_told known job kind h
 
 -- what is made of what a job does
 pub record IsActed (was now : List EndView) (a : Acted) (d : Done) : Type 0 where
-  pub job : d.job ≡ Some a.job
   pub kind : d.kind ≡ a.kind
   pub taken : d.taken ≡ taken_by was a.slot a.takes
   pub sent : TakesNoOpening d.taken → SendsWell (λ b. end_took (end_at was b) (taken_at b d.taken)) (room_at was) (frames_of (end_at was) a.slot a.sends.items) → d.sent ≡ frames_of (end_at was) a.slot a.sends.items
@@ -207,7 +231,7 @@ module _ (asked : NamelessAsked) (room_there : RoomThere) (own_entries : OwnEntr
       (leaves : LeavesJobs was.links was.jobs now.jobs was.table now.table (Some c) contents a) (place : now.jobs.place ≡ was.jobs.place) (still : now.sessions ≡ was.sessions)
       (fails : k.fails ≡ failed_in d.kind) (words : k.words ≡ words_heard was (Some d)) where
     heard : SeesActed was.jobs k (Some a)
-    heard = (fails ∙ ap failed_in acted.kind, sym (words ∙ ap (λ (o : Option ℕ). option_map_or (words_at was.jobs.running) o (λ x. None)) acted.job))
+    heard = (fails ∙ ap failed_in acted.kind, sym (words ∙ ap (λ (o : Option ℕ). option_map_or (words_at was.jobs.running) o (λ x. None)) (ap job_of acted.kind ∙ kind_job a.job a.kind kind)))
 
     steps : StepsJobs s st k was.links was.jobs now.jobs (Some a)
     steps = step s st k (sees_jobs k.room sees.ends.room) keeps heard
@@ -314,6 +338,49 @@ leaves_acted number was now known contents a d acted leaves holds fresh = record
 
 pub quiet_acted : (was now : List EndView) (a : Acted) (d : Done) → IsActed was now a d → IsKindOf a.job a → IsQuiet d.kind
 quiet_acted was now a d acted is = subst IsQuiet (sym acted.kind) (kind_quiet a.job a.kind (kind_of a is))
+
+-- ---- what the jobs have heard
+
+-- a frame that waits at an end is the end's
+waits_there : (links : List EndView) (b : EndName) (f : FrameView) → wait_at links b ≡ Some f → (f.peer ≡ b.peer) × (f.slot ≡ b.slot)
+waits_there links b f waits = go (hand_at links b) refl waits
+  where
+    go : (o : Option FrameView) → hand_at links b ≡ o → option_and_then (if_may (end_at links b)) o ≡ Some f → (f.peer ≡ b.peer) × (f.slot ≡ b.slot)
+    go None at is = absurd cc
+    go (Some g) at is =
+        let hand = map_some (option_and_then next_frame (link_at links b)) (frame_at b) g at in
+        let same : f ≡ frame_at b hand.0 = sym (same_Some g f (where_some (may_take (end_at links b) g) (Some g) f is).1) ∙ sym hand.2 in
+        (ap (λ (x : FrameView). x.peer) same, ap (λ (x : FrameView). x.slot) same)
+
+-- so a frame that a job takes is that of the peer
+took_there : (links : List EndView) (slot : ℕ) (takes : Option ℕ) (f : FrameView) → taken_by links slot takes ≡ Some f → (peer : ℕ) × (takes ≡ Some peer) × (wait_at links (end_in slot peer) ≡ Some f)
+took_there links slot None f is = absurd cc
+took_there links slot (Some peer) f is = (peer, refl, is)
+
+module _ (was now : PartsView) (known contents : Option Contents) (a : Acted) (d : Done) (acted : IsActed was.links now.links a d) (kind : IsOfJob a.job a.kind)
+    (leaves : LeavesJobs was.links was.jobs now.jobs was.table now.table known contents a) where
+  goes_on : is_some (job_at now.jobs.running a.job) ≡ true → a.ended ≡ false
+  goes_on runs = elim (cases_Bool a.ended) [
+    | inl ended ↦ absurd (true≢false (sym runs ∙ ap is_some (leaves.off ended)))
+    | inr on ↦ on
+  ]
+
+  word_heard : is_some (job_at now.jobs.running a.job) ≡ true → (f : FrameView) → d.taken ≡ Some f → phase_at was.jobs.running a.job ≡ Some (phases.AsksLook f.peer) → taken_of f.body ≡ takens.Message Failure
+      → heard_at now.jobs.running a.job ≡ (f.peer, heards.Unseen (word_at was.links (end_in f.slot f.peer))) ∷ heard_at was.jobs.running a.job
+  word_heard runs f taken asks refused =
+      let took = took_there was.links a.slot a.takes f (sym acted.taken ∙ taken) in
+      let at = waits_there was.links (end_in a.slot took.0) f took.2 in
+      leaves.word (goes_on runs) took.0 f (asks ∙ ap (λ (n : ℕ). Some (phases.AsksLook n)) at.0) took.1 took.2 refused
+      ∙ (λ i. (sym at.0 i, heards.Unseen (word_at was.links (end_in (sym at.1 i) (sym at.0 i)))) ∷ heard_at was.jobs.running a.job)
+
+  pub jobs_go_on : JobsGoOn was now d
+  jobs_go_on = record {
+    job = a.job;
+    made = ap job_of acted.kind ∙ kind_job a.job a.kind kind;
+    grows = λ runs. leaves.grows (goes_on runs);
+    word = word_heard;
+    apart = leaves.apart;
+  }
 
 -- ---- what they have of the table
 

@@ -4,5 +4,6 @@ pub mod Saying
 pub mod Going
 pub mod Served
 pub mod Posting
+pub mod Posts
 pub mod Acted
 pub mod Staying

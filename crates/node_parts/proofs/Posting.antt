@@ -37,19 +37,19 @@ pub record Permits : Type 0 where
 
 -- ---- the end that sends a frame
 
-both : (b c : Bool) → (b && c) ≡ true → (b ≡ true) × (c ≡ true)
+pub both : (b c : Bool) → (b && c) ≡ true → (b ≡ true) × (c ≡ true)
 both true c is = (refl, is)
 both false c is = absurd (true≢false (sym is))
 
-same_bool_refl : (b : Bool) → same_bool b b ≡ true
+pub same_bool_refl : (b : Bool) → same_bool b b ≡ true
 same_bool_refl true = refl
 same_bool_refl false = refl
 
 -- the end that sends a frame does so
-sends_its : (f : FrameView) → sends_at (end_of f) f ≡ true
+pub sends_its : (f : FrameView) → sends_at (end_of f) f ≡ true
 sends_its f = rw (eqb_refl f.peer, eqb_refl f.slot) (same_bool_refl f.up)
 
-frame_end : (a : EndName) (c : End) (text : FrameText) (f : FrameView) → frames a c (text ∷ []) ≡ f ∷ [] → end_of f ≡ a
+pub frame_end : (a : EndName) (c : End) (text : FrameText) (f : FrameView) → frames a c (text ∷ []) ≡ f ∷ [] → end_of f ≡ a
 frame_end a c text f view = ap end_of (sym (cons_first (record { peer = a.peer; slot = a.slot; up = a.client; epoch = (end_sends c text).epoch; seq = (end_sends c text).sent; body = text }) f [] [] view))
 
 not_sent : (a : EndName) (f : FrameView) → sent_at a (f ∷ []) ≡ [] → sends_at a f ≡ false
@@ -189,10 +189,10 @@ room_after_take was now a f other room may state = go (link_at was a) (link_at n
         let epoch : w.epoch ≡ v.epoch = ap (λ (c : End). c.epoch) is ∙ same_epoch (stands v) f.epoch f.body other in
         all_three (nat_le 2 (free w)) (nat_lt (w.sent + 1) (2 ^ 62)) (nat_lt w.epoch (2 ^ 32 - 1)) places.0 places.1 (ap (λ (n : ℕ). nat_lt n (2 ^ 32 - 1)) epoch ∙ numbers.1)
 
-same_number : (m n : ℕ) → (m == n) ≡ true → m ≡ n
+pub same_number : (m n : ℕ) → (m == n) ≡ true → m ≡ n
 same_number m n is = grind (arith, nat_tests)
 
-same_bool_is : (b c : Bool) → same_bool b c ≡ true → b ≡ c
+pub same_bool_is : (b c : Bool) → same_bool b c ≡ true → b ≡ c
 same_bool_is true c is = sym is
 same_bool_is false true is = absurd (true≢false (sym is))
 same_bool_is false false is = refl
@@ -200,7 +200,7 @@ same_bool_is false false is = refl
 abbrev name_test : EndName → EndName → Bool
 name_test p q = (p.peer == q.peer) && ((p.slot == q.slot) && same_bool p.client q.client)
 
-same_or_other : (p q : EndName) → (p ≡ q) ⊎ (p ≢ q)
+pub same_or_other : (p q : EndName) → (p ≡ q) ⊎ (p ≢ q)
 same_or_other p q = elim (cases_Bool (name_test p q)) [
   | inl is ↦
       let first = both (p.peer == q.peer) ((p.slot == q.slot) && same_bool p.client q.client) is in

@@ -1,5 +1,6 @@
 -- Entries that move no part of a repository: those of the script, and of lines that are owed (own).
-use Rattle.std.specs.Prelude.{◌≡◌, [], None}
+use Rattle.std.specs.Prelude.{◌≡◌, Bool, true, false, [], None}
+use Rattle.annex_base.specs.declared.kinds.Call.{Call}
 use Rattle.annex_base.specs.declared.kinds.Call.TheVariants.{PutFile}
 use Rattle.run_data.specs.declared.entry.By.{By}
 use Rattle.run_data.specs.declared.entry.By.TheVariants.{Script}
@@ -7,8 +8,6 @@ use Rattle.run_data.specs.declared.entry.Entry.{Entry}
 use Rattle.run_data.specs.declared.entry.EntryKind.{EntryKind}
 use Rattle.run_data.specs.declared.entry.EntryKind.TheVariants.{Gain, Log, Compact, Fault}
 use Rattle.node_model.specs.AnyTime.{is_scripts}
-use Rattle.annex_base.specs.declared.kinds.Call.{Call}
-use Rattle.std.specs.Prelude.{Bool, true, false}
 
 -- the calls of the store that may fail in a step of the script, and where a line is written that is owed
 abbrev pub may_fail : By → Call → Bool

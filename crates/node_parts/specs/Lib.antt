@@ -5,3 +5,4 @@ pub mod Kinds
 pub mod Steps
 pub mod Direct
 pub mod Posting
+pub mod Jobs

@@ -1,14 +1,58 @@
 -- The frames of a step, sent one behind the other after the step took one, or none (own).
-use Rattle.std.specs.Prelude.{◌≡◌, ℕ, true, List, [], ◌∷◌, ◌++◌, Option}
+use Rattle.std.specs.Prelude.{◌≡◌, ℕ, true, if◌then◌else◌, List, [], ◌∷◌, ◌++◌, fold, length, map, Option, Some, None, is_some}
+use Rattle.std.specs.Option.{option_map}
+use Rattle.annex_base.specs.declared.kinds.EntryStamp.{EntryStamp}
+use Rattle.annex_base.specs.declared.kinds.Word.{Word}
+use Rattle.run_data.specs.declared.entry.EntryKind.{EntryKind}
 use Rattle.run_data.specs.declared.entry.FrameText.{FrameText}
 use Rattle.run_data.specs.declared.entry.FrameView.{FrameView}
-use Rattle.link_ring.specs.Ends.{EndView}
+use Rattle.link_ring.specs.Ends.{EndView, after_take}
 use Rattle.node_model.specs.Ends.{EndName, end_took, frames, sent_at, taken_at}
-use Rattle.node_ends.specs.Ends.{end_at, room_at}
+use Rattle.node_ends.specs.declared.sending.Sending.{Sending}
+use Rattle.node_ends.specs.declared.sending.Sending.TheVariants as sendings
+use Rattle.node_ends.specs.Ends.{end_at, link_at, room_at, wait_at}
 use Rattle.node_ends.specs.Going.{AreAfter}
+use Rattle.node_ends.specs.Sent.{link_sends, text_of_sending}
+use Rattle.node_sessions.specs.Words.{word_to}
 use Rattle.drop_worker.specs.declared.turn.Parcel.{Parcel}
 use Rattle.drop_worker.specs.Working.{end_in, texts_of}
 use Rattle.node_jobs.specs.Sending.{HasPlace, TakesNoOpening, end_of}
+use Rattle.node_parts.specs.declared.moment.Moment.{Moment}
+
+-- ---- what becomes of the links
+
+-- the stamp of an entry that the repository of this number makes then
+abbrev pub stamp_of : Moment → ℕ → EntryStamp
+stamp_of moment repo = record { time = moment.time; count = moment.count; repo = repo }
+
+-- the word that stands beside what an entry of this kind, which took this frame, sends at this end: a server's answer says what
+-- the entry found, where the frame asks for that
+abbrev pub word_with : EndName → Option FrameView → EntryKind → Sending → Option Word
+word_with a taken kind sendings.Open = None
+word_with a taken kind sendings.Close = None
+word_with a taken kind said = if a.client then None else word_to taken kind
+
+-- the end of this name after it took the frame, if that was here
+abbrev pub taken_off : EndName → Option FrameView → EndView → EndView
+taken_off a taken v = if is_some (taken_at a taken) then after_take v else v
+
+-- the end of this name after a step took this frame, at whichever end, and then sent this here, one behind the other
+abbrev pub after_step : EntryStamp → EntryKind → EndName → Option FrameView → List Sending → EndView → EndView
+after_step sender kind a taken said v = fold (λ w x. link_sends sender (word_with a taken kind x) x w) (taken_off a taken v) said
+
+-- these ends took this frame, which waited there, and then sent what the entry of this stamp and kind lists, and no more
+pub record Posts (sender : EntryStamp) (kind : EntryKind) (was now : List EndView) (taken : Option FrameView) (sent : List FrameView) : Type 0 where
+  pub count : length now ≡ length was
+  pub took : (a : EndName) (f : FrameView) → taken_at a taken ≡ Some f → wait_at was a ≡ Some f
+  pub said : EndName → List Sending
+  pub listed : (a : EndName) → map text_of_sending (said a) ≡ map (λ f. f.body) (sent_at a sent)
+  pub links : (a : EndName) → link_at now a ≡ option_map (after_step sender kind a taken (said a)) (link_at was a)
+
+-- what went on so from any ends goes on so
+abbrev pub PostsOn : EntryStamp → List EndView → List EndView → List FrameView → List FrameView → Type 0
+PostsOn sender ends ends' sent sent' = (kind : EntryKind) (was : List EndView) (taken : Option FrameView) → Posts sender kind was ends taken sent → Posts sender kind was ends' taken sent'
+
+-- ---- their places
 
 -- these are the ends after those took and sent this; where no opening was taken, an end that has sent nothing has the room that it had
 pub record IsPosted (was : List EndView) (taken : Option FrameView) (now : List EndView) (sent : List FrameView) : Type 0 where

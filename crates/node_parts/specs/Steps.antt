@@ -15,6 +15,7 @@ use Rattle.node_model.specs.Look.{Look, Made, entry_of}
 use Rattle.node_model.specs.Rows.{bar_after, holds_after}
 use Rattle.node_model.specs.SetUp.{SetUp}
 use Rattle.node_model.specs.SessionStep.{session_step}
+use Rattle.node_model.specs.Slots.{job_of}
 use Rattle.node_model.specs.State.{State}
 use Rattle.node_model.specs.Turns.{job_step}
 use Rattle.node_jobs.specs.Running.{words_at}
@@ -74,7 +75,7 @@ pub record Serves (was now : PartsView) (c : Contents) (contents : Option Conten
 
 -- the words that the acting job heard beside its peers' answers
 abbrev pub words_heard : PartsView → Option Done → ℕ → Option Word
-words_heard p o = option_map_or (words_at p.jobs.running) (option_and_then (λ (d : Done). d.job) o) (λ c. None)
+words_heard p o = option_map_or (words_at p.jobs.running) (option_and_then (λ (d : Done). job_of d.kind) o) (λ c. None)
 
 -- where there is a step, the look finds those words
 abbrev pub Hears : PartsView → Option Done → Look → Type 0

@@ -2,6 +2,8 @@
 ghost use Rattle.std.specs.Prelude.{◌≡◌, ◌≤◌, ◌<◌, ◌+◌, ◌*◌, ◌++◌, ◌∷◌, [], ℕ, List, true, None, Some, is_some, length, vec_capacity, vec_len};
 ghost use Rattle.std.specs.declared.option.Option.{Option};
 ghost use Rattle.std.specs.Option.{option_to_list};
+ghost use Rattle.annex_base.specs.declared.kinds.EntryStamp.{EntryStamp as AnyStamp};
+ghost use Rattle.run_data.specs.declared.entry.EntryKind.{EntryKind};
 ghost use Rattle.run_data.specs.declared.entry.FrameText.TheVariants as texts;
 ghost use Rattle.run_data.specs.declared.entry.FrameView.{FrameView};
 ghost use Rattle.p2p_wire.specs.Messages.{text_of};
@@ -14,7 +16,7 @@ ghost use Rattle.node_ends.specs.Sent.{IsListed, text_of_sending};
 ghost use Rattle.drop_worker.specs.Working.{end_in, frames_of};
 ghost use Rattle.node_jobs.specs.Acting.{WaitsFor, taken_by};
 ghost use Rattle.node_jobs.specs.Sending.{SendsWell, TakesNoOpening};
-ghost use Rattle.node_parts.specs.Posting.{ArePlaced, IsFrame, IsPlaced, IsPosted, frames_in};
+ghost use Rattle.node_parts.specs.Posting.{ArePlaced, IsFrame, IsPlaced, IsPosted, Posts, PostsOn, frames_in};
 
 use crate::done::Done;
 use crate::taking::take;
@@ -29,6 +31,7 @@ fn take_from(ends: &mut Ends, slot: u32, takes: Option<u32>) -> Option<FrameView
     requires waits { WaitsFor ends.old slot takes }
     ensures taken { result ≡ taken_by ends.old slot takes }
     ensures posted { IsPosted ends.old result ends.new [] }
+    ensures posts { (sender : AnyStamp) (kind : EntryKind) → Posts sender kind ends.old ends.new result [] }
     ensures paired { StayPaired ends.old ends.new }
     ensures count { length ends.new ≡ length ends.old }
 {
@@ -55,12 +58,14 @@ fn list(sent: &mut Vec<FrameView>, frame: Option<FrameView>)
     }
 }
 
-/// Sends this at an end, and lists it, where the end may send it. A job's step sends nothing else.
+/// Sends this at a client's end, and lists it, where the end may send it. A job's step sends nothing else.
 fn post(ends: &mut Ends, id: EndId, stamp: EntryStamp, said: Sending, sent: &mut Vec<FrameView>)
+    requires client { id.client ≡ true }
     requires there { is_some (link_at ends.old (name_of id)) ≡ true }
     requires listed { IsListed said }
     requires room { vec_len sent.old < vec_capacity sent.old }
     ensures posted { (was : List EndView) (taken : Option FrameView) → IsPosted was taken ends.old sent.old.items → IsPosted was taken ends.new sent.new.items }
+    ensures posts { PostsOn stamp ends.old ends.new sent.old.items sent.new.items }
     ensures well { (was : List EndView) (taken : Option FrameView) (f : FrameView) → IsPosted was taken ends.old sent.old.items → TakesNoOpening taken → IsFrame (name_of id) (text_of_sending said) f → IsPlaced was taken sent.old.items f
         → sent.new.items ≡ sent.old.items ++ f ∷ [] }
     ensures len { vec_len sent.new ≤ vec_len sent.old + 1 }
@@ -77,9 +82,11 @@ fn post(ends: &mut Ends, id: EndId, stamp: EntryStamp, said: Sending, sent: &mut
 
 /// Sends a message.
 fn post_said(ends: &mut Ends, id: EndId, stamp: EntryStamp, said: Said, sent: &mut Vec<FrameView>)
+    requires client { id.client ≡ true }
     requires there { is_some (link_at ends.old (name_of id)) ≡ true }
     requires room { vec_len sent.old < vec_capacity sent.old }
     ensures posted { (was : List EndView) (taken : Option FrameView) → IsPosted was taken ends.old sent.old.items → IsPosted was taken ends.new sent.new.items }
+    ensures posts { PostsOn stamp ends.old ends.new sent.old.items sent.new.items }
     ensures well { (was : List EndView) (taken : Option FrameView) (f : FrameView) → IsPosted was taken ends.old sent.old.items → TakesNoOpening taken → IsFrame (name_of id) (texts.Line (text_of said)) f → IsPlaced was taken sent.old.items f
         → sent.new.items ≡ sent.old.items ++ f ∷ [] }
     ensures len { vec_len sent.new ≤ vec_len sent.old + 1 }
@@ -94,9 +101,11 @@ fn post_said(ends: &mut Ends, id: EndId, stamp: EntryStamp, said: Said, sent: &m
 
 /// Sends a message, and a Close behind it.
 fn post_last(ends: &mut Ends, id: EndId, stamp: EntryStamp, said: Said, sent: &mut Vec<FrameView>)
+    requires client { id.client ≡ true }
     requires there { is_some (link_at ends.old (name_of id)) ≡ true }
     requires room { vec_len sent.old + 2 ≤ vec_capacity sent.old }
     ensures posted { (was : List EndView) (taken : Option FrameView) → IsPosted was taken ends.old sent.old.items → IsPosted was taken ends.new sent.new.items }
+    ensures posts { PostsOn stamp ends.old ends.new sent.old.items sent.new.items }
     ensures well { (was : List EndView) (taken : Option FrameView) (f g : FrameView) → IsPosted was taken ends.old sent.old.items → TakesNoOpening taken → IsFrame (name_of id) (texts.Line (text_of said)) f → IsFrame (name_of id) texts.Closing g
         → ArePlaced was taken sent.old.items (f ∷ g ∷ []) → sent.new.items ≡ sent.old.items ++ f ∷ g ∷ [] }
     ensures len { vec_len sent.new ≤ vec_len sent.old + 2 }
@@ -119,6 +128,7 @@ fn post_parcel(
     requires there { is_some (link_at ends.old (end_in slot parcel.peer)) ≡ true }
     requires room { vec_len sent.old + 2 ≤ vec_capacity sent.old }
     ensures posted { (was : List EndView) (taken : Option FrameView) → IsPosted was taken ends.old sent.old.items → IsPosted was taken ends.new sent.new.items }
+    ensures posts { PostsOn stamp ends.old ends.new sent.old.items sent.new.items }
     ensures well { (was : List EndView) (taken : Option FrameView) → IsPosted was taken ends.old sent.old.items → TakesNoOpening taken → ArePlaced was taken sent.old.items (frames_in was slot parcel)
         → sent.new.items ≡ sent.old.items ++ frames_in was slot parcel }
     ensures len { vec_len sent.new ≤ vec_len sent.old + 2 }
@@ -153,6 +163,7 @@ fn post_to(
     requires slot { slot < 4 }
     requires room { vec_len sent.old + 2 ≤ vec_capacity sent.old }
     ensures posted { (was : List EndView) (taken : Option FrameView) → IsPosted was taken ends.old sent.old.items → IsPosted was taken ends.new sent.new.items }
+    ensures posts { PostsOn stamp ends.old ends.new sent.old.items sent.new.items }
     ensures well { (was : List EndView) (taken : Option FrameView) → IsPosted was taken ends.old sent.old.items → TakesNoOpening taken → ArePlaced was taken sent.old.items (frames_in was slot parcel)
         → sent.new.items ≡ sent.old.items ++ frames_in was slot parcel }
     ensures len { vec_len sent.new ≤ vec_len sent.old + 2 }
@@ -181,6 +192,7 @@ fn post_all(
     requires slot { slot < 4 }
     requires room { vec_len sent.old + 2 * vec_len parcels ≤ vec_capacity sent.old }
     ensures posted { (was : List EndView) (taken : Option FrameView) → IsPosted was taken ends.old sent.old.items → IsPosted was taken ends.new sent.new.items }
+    ensures posts { PostsOn stamp ends.old ends.new sent.old.items sent.new.items }
     ensures well { (was : List EndView) (taken : Option FrameView) → IsPosted was taken ends.old sent.old.items → TakesNoOpening taken → ArePlaced was taken sent.old.items (frames_of (end_at was) slot parcels.items)
         → sent.new.items ≡ sent.old.items ++ frames_of (end_at was) slot parcels.items }
     ensures paired { StayPaired ends.old ends.new }
@@ -196,7 +208,6 @@ pub(crate) fn act(ends: &mut Ends, stamp: EntryStamp, repositories: u32, acted: 
     requires links { length ends.old ≡ repositories * 8 }
     requires slot { acted.slot < 4 }
     requires waits { WaitsFor ends.old acted.slot acted.takes }
-    ensures job { result.job ≡ Some acted.job }
     ensures kind { result.kind ≡ acted.kind }
     ensures taken { result.taken ≡ taken_by ends.old acted.slot acted.takes }
 
@@ -204,11 +215,12 @@ pub(crate) fn act(ends: &mut Ends, stamp: EntryStamp, repositories: u32, acted: 
     ensures sent { TakesNoOpening result.taken → SendsWell (λ a. end_took (end_at ends.old a) (taken_at a result.taken)) (room_at ends.old) (frames_of (end_at ends.old) acted.slot acted.sends.items)
         → result.sent ≡ frames_of (end_at ends.old) acted.slot acted.sends.items }
     ensures after { AreAfter ends.old ends.new result.taken result.sent }
+    ensures posts { Posts stamp result.kind ends.old ends.new result.taken result.sent }
     ensures paired { StayPaired ends.old ends.new }
     ensures count { length ends.new ≡ length ends.old }
 {
     let Acted {
-        job,
+        job: _,
         slot,
         takes,
         kind,
@@ -220,7 +232,6 @@ pub(crate) fn act(ends: &mut Ends, stamp: EntryStamp, repositories: u32, acted: 
     let mut sent = listing;
     post_all(ends, slot, stamp, repositories, parcels, &mut sent);
     Done {
-        job: Some(job),
         kind,
         taken,
         sent: Items::from_vec(sent),

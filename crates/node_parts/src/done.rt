@@ -2,10 +2,9 @@
 use annex_base::Items;
 use run_data::{EntryKind, FrameView};
 
-/// What a step made: the job that made it, if one did; what kind of entry; the frame that it took, and those that it sent (own).
+/// What a step made: what kind of entry; the frame that it took, and those that it sent (own).
 #[derive(Debug, Drop)]
 pub struct Done {
-    pub job: Option<u32>,
     pub kind: EntryKind,
     pub taken: Option<FrameView>,
     pub sent: Items<FrameView>,

@@ -11,7 +11,9 @@ ghost use Rattle.node_model.specs.SetUp.{SetUp};
 ghost use Rattle.node_model.specs.State.{State};
 ghost use Rattle.node_model.specs.Turns.{job_step};
 ghost use Rattle.node_ends.specs.Joined.{StayPaired};
+ghost use Rattle.node_parts.specs.Jobs.{JobsGoOn};
 ghost use Rattle.node_parts.specs.Kinds.{IsQuiet};
+ghost use Rattle.node_parts.specs.Posting.{Posts, stamp_of};
 ghost use Rattle.node_parts.specs.Steps.{Acts, LeavesSo, SeesParts, failed_by};
 
 use crate::acting::act;
@@ -44,6 +46,8 @@ impl Parts {
         // Over a store that tells: of each state that these and the store are, with these settings, this is the step of its jobs.
         ensures step { IfOk result (λ o. ForSome (K.contents keeper.old) (λ c. Acts self.old self.new c (K.contents keeper.new) moment.clock (settings_of settings.now) moment.time moment.number o)) }
         ensures leaves { IfOk result (LeavesSo moment.number self.old self.new) }
+        ensures posts { IfOk result (λ o. ForSome o (λ d. Posts (stamp_of moment self.old.jobs.place.number) d.kind self.old.links self.new.links d.taken d.sent)) }
+        ensures jobs { IfOk result (λ o. ForSome o (JobsGoOn self.old self.new)) }
         ensures kind { IfOk result (λ o. ForSome o (λ d. IsQuiet d.kind)) }
         ensures sessions { self.new.sessions ≡ self.old.sessions }
         ensures place { self.new.jobs.place ≡ self.old.jobs.place }

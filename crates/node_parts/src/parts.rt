@@ -16,6 +16,7 @@ ghost use Rattle.node_sessions.specs.Sessions.{FedAll, IsSetUp};
 ghost use Rattle.node_jobs.specs.Acting.{with_job};
 ghost use Rattle.node_parts.specs.Kinds.{IsQuiet};
 ghost use Rattle.node_parts.specs.Parts.{AreParts};
+ghost use Rattle.node_parts.specs.Posting.{Posts, stamp_of};
 ghost use Rattle.node_parts.specs.Sound.{AreSound};
 ghost use Rattle.node_parts.specs.Steps.{LeavesSo, Serves, failed_by};
 
@@ -156,6 +157,7 @@ impl Parts {
         // Over a store that tells: of each state that these and the store are, this is the step of its sessions.
         ensures step { IfOk result (λ o. ForSome (K.contents keeper.old) (λ c. ForSome (K.parts keeper.old) (λ q. FedAll q self.old.sessions → Serves self.old self.new c (K.contents keeper.new) moment.clock moment.time moment.number o))) }
         ensures leaves { IfOk result (LeavesSo moment.number self.old self.new) }
+        ensures posts { IfOk result (λ o. ForSome o (λ d. Posts (stamp_of moment self.old.jobs.place.number) d.kind self.old.links self.new.links d.taken d.sent)) }
         ensures kind { IfOk result (λ o. ForSome o (λ d. IsQuiet d.kind)) }
         ensures fed { ForSome (K.parts keeper.old) (λ q. FedAll q self.old.sessions → ForSome (K.parts keeper.new) (λ q'. FedAll q' self.new.sessions)) }
         ensures told_contents { is_some (K.parts keeper.old) ≡ true → is_some (K.contents keeper.new) ≡ is_some (K.contents keeper.old) }

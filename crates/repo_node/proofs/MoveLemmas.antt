@@ -1,16 +1,20 @@
 -- What a step of the sessions or of the jobs adds to a node.
 use Rattle.std.proofs.Common.{◌≡◌, ℕ, ◌+◌, Bool, false, List, [], ◌∷◌, ◌++◌, Option, Some, None, Result, Ok, Err, IfOk, length, is_some, refl, sym, ap, subst, ◌∙◌}
-use Rattle.std.specs.Prelude.{IfSome, vec_len}
+use Rattle.std.specs.Prelude.{IfSome, if◌then◌else◌, vec_len}
 use Rattle.std.specs.Option.{ForSome}
 use Rattle.annex_base.specs.Causes.{Rose}
+use Rattle.annex_base.proofs.Conditions.{bytes_eq-refl}
 use Rattle.trust_groups.specs.Reads.{Indices, Reads}
 use Rattle.trust_groups.specs.Settings.{Lines, settings}
 use Rattle.trust_groups.specs.View.{settings_of}
 use Rattle.run_data.specs.declared.entry.Entry.{Entry}
 use Rattle.run_data.specs.declared.entry.EntryKind.{EntryKind}
+use Rattle.run_data.specs.declared.entry.EntryKind.TheVariants.{Log}
 use Rattle.run_data.specs.declared.entry.FrameView.{FrameView}
+use Rattle.run_data.specs.Files.{file_path}
 use Rattle.object_store.specs.Stores.{Contents, Parts as StoredParts}
 use Rattle.union_merge.specs.Branch.{Files, lines_at}
+use Rattle.union_merge.specs.LineSet.{union}
 use Rattle.drop_worker.specs.Working.{failed_in}
 use Rattle.annex_base.specs.declared.memory.NoMemory.{NoMemory}
 use Rattle.node_model.specs.Look.{Look, Made, first_of}
@@ -20,9 +24,12 @@ use Rattle.node_model.specs.State.{State}
 use Rattle.node_model.specs.Owed.{Owed}
 use Rattle.node_model.specs.Turns.{job_step}
 use Rattle.node_sessions.specs.Sessions.{FedAll}
+use Rattle.node_jobs.specs.Places.{PlaceView}
 use Rattle.node_parts.specs.declared.done.Done.{Done}
 use Rattle.node_parts.specs.declared.moment.Moment.{Moment}
+use Rattle.node_parts.specs.Kinds.{IsQuiet}
 use Rattle.node_parts.specs.Parts.{PartsView}
+use Rattle.node_parts.specs.Posting.{Posts, stamp_of}
 use Rattle.node_parts.specs.Steps.{Acts, Leaves, LeavesSo, SeesParts, Serves, failed_by, made_of, words_heard}
 use Rattle.repo_node.specs.declared.past.Past.{Past}
 use Rattle.repo_node.specs.declared.setup.Ended.{Ended}
@@ -30,8 +37,8 @@ use Rattle.repo_node.specs.declared.setup.Setup.{Setup}
 use Rattle.repo_node.specs.Kept.{IsFed, IsKept}
 use Rattle.repo_node.specs.Nodes.{Fits, NodeView, state_of, told_of}
 use Rattle.repo_node.specs.Pasts.{SamePast, frames_entry}
-use Rattle.repo_node.specs.Stepping.{AddsIf, EntersIf, EntersStep, MovesSo, NoStep, Stepper, StepsBy}
-use Rattle.repo_node.specs.Turning.{Adds, Looks, ended_by}
+use Rattle.repo_node.specs.Stepping.{AddsIf, EntersIf, EntersStep, MovesSo, NoStep}
+use Rattle.repo_node.specs.Turning.{Adds, GoOn, Looks, Stepper, StepsBy, branch_by, ended_by}
 use Rattle.repo_node.proofs.StepLemmas.{CountLaw, DoesBy, sees_parts, told_some}
 
 -- the node that these are
@@ -86,9 +93,22 @@ pub seen_same : {K : Type 0} (k k' : K) (parts parts' : PartsView) (branch : Fil
 seen_same {K} k k' parts parts' branch was now owed owed' n view ep same eo =
     subst (λ (m : NodeView K). seen k' parts' branch now owed' ≡ record m { keeper = k' }) view (same_node k k' parts parts' branch was now owed owed' ep same eo)
 
+-- the ends posted what this says, with the stamp of a past's next entry
+abbrev pub PostsIn : Past → PartsView → PartsView → Done → Type 0
+PostsIn was parts parts' d = Posts (record { time = was.time; count = was.count + 1; repo = was.setup.number }) d.kind parts.links parts'.links d.taken d.sent
+
+-- a step of these changes no log, so its entry leaves the branch
+one_line : ◌≡◌ {A = List (List ℕ)} [] ((0 ∷ []) ∷ []) → ⊥
+one_line is = absurd cc
+
+branch_stays : (b : Files) (kind : EntryKind) → IsQuiet kind → b ≡ branch_by b kind []
+branch_stays b (Log file) quiet =
+    absurd (one_line (sym (quiet.lines (file_path file) [] ((0 ∷ []) ∷ [])) ∙ ap (λ (t : Bool). if t then union [] ((0 ∷ []) ∷ []) else []) (bytes_eq-refl (file_path file))))
+branch_stays b _ quiet = refl
+
 adds_entry : {K : Type 0} (d : Done) (k k' : K) (parts parts' : PartsView) (branch : Files) (number : ℕ) (was now : Past) (owed owed' : List Owed) (faults faults' : ℕ)
-    → EntersStep d was now → Leaves number parts parts' d → IfSome (failed_in d.kind) (λ call. Rose faults faults') → Adds parts.links faults faults' (seen k parts branch was owed) (seen k' parts' branch now owed')
-adds_entry d k k' parts parts' branch number was now owed owed' faults faults' enters leaves cause = record {
+    → EntersStep d was now → Leaves number parts parts' d → PostsIn was parts parts' d → GoOn parts parts' d → IsQuiet d.kind → IfSome (failed_in d.kind) (λ call. Rose faults faults') → Adds parts.links faults faults' (seen k parts branch was owed) (seen k' parts' branch now owed')
+adds_entry d k k' parts parts' branch number was now owed owed' faults faults' enters leaves posts goes quiet cause = record {
   entry = frames_entry was d.kind d.taken d.sent;
   history = enters.history;
   outcomes = enters.outcomes ∙ ap (λ (n : ℕ). was.outcomes.items ++ ended_by d.kind n) was.history.ok.0;
@@ -98,20 +118,23 @@ adds_entry d k k' parts parts' branch number was now owed owed' faults faults' e
   counted = enters.count;
   at = enters.time;
   setup = enters.setup;
+  branch = branch_stays branch d.kind quiet;
   ends = leaves.ends;
+  posts = posts;
+  jobs = goes;
   cause = cause;
 }
 
 pub adds_if : {K : Type 0} (o : Option Done) (b : Bool) (k k' : K) (parts parts' : PartsView) (branch : Files) (number : ℕ) (was ready now : Past) (debts debts' : List ℕ) (owed owed' : List Owed) (faults : K → ℕ) (faults' : ℕ) (n : NodeView K)
-    → seen k parts branch was owed ≡ n → b ≡ is_some o → SamePast was ready → EntersIf o ready now debts debts' → LeavesSo number parts parts' o → IfSome (failed_by o) (λ call. Rose (faults k) faults') → (o ≡ None → owed' ≡ owed)
+    → seen k parts branch was owed ≡ n → b ≡ is_some o → SamePast was ready → EntersIf o ready now debts debts' → LeavesSo number parts parts' o → ForSome o (PostsIn was parts parts') → ForSome o (GoOn parts parts') → ForSome o (λ d. IsQuiet d.kind) → IfSome (failed_by o) (λ call. Rose (faults k) faults') → (o ≡ None → owed' ≡ owed)
     → AddsIf b n.parts.links (faults n.keeper) faults' n (seen k' parts' branch now owed')
-adds_if {K} None b k k' parts parts' branch number was ready now debts debts' owed owed' faults faults' n view made same enters leaves cause stays =
+adds_if {K} None b k k' parts parts' branch number was ready now debts debts' owed owed' faults faults' n view made same enters leaves posts goes quiet cause stays =
     subst (λ (x : Bool). AddsIf x n.parts.links (faults n.keeper) faults' n (seen k' parts' branch now owed')) (sym made)
     (seen_same k k' parts parts' branch was now owed owed' n view leaves (subst (SamePast was) (sym enters.0) same) (stays refl))
-adds_if {K} (Some d) b k k' parts parts' branch number was ready now debts debts' owed owed' faults faults' n view made same enters leaves cause stays =
+adds_if {K} (Some d) b k k' parts parts' branch number was ready now debts debts' owed owed' faults faults' n view made same enters leaves posts goes quiet cause stays =
     subst (λ (x : Bool). AddsIf x n.parts.links (faults n.keeper) faults' n (seen k' parts' branch now owed')) (sym made)
     (subst (λ (m : NodeView K). Adds m.parts.links (faults m.keeper) faults' m (seen k' parts' branch now owed')) view
-    (adds_entry d k k' parts parts' branch number was now owed owed' (faults k) faults' (enters_after d was ready now same enters.0) leaves cause))
+    (adds_entry d k k' parts parts' branch number was now owed owed' (faults k) faults' (enters_after d was ready now same enters.0) leaves (posts d refl) (goes d refl) (quiet d refl) cause))
 
 -- ---- the step
 
@@ -134,7 +157,6 @@ some_steps : {K : Type 0} (step : Stepper) (law : CountLaw) (d : Done) (k k' : K
     → StepsBy step (seen k parts branch was owed) (seen k' parts' branch now owed')
 some_steps step law d k k' parts parts' branch was now owed owed' cs cs' qs kept enters c told by = record {
   kind = d.kind;
-  acting = d.job;
   part = by.part;
   right = by.right;
   makes = λ s look fits looks fails part right words. record {
@@ -232,3 +254,9 @@ ready_parts (Err e) law m k parts branch was owed cs qs n view at kept ready sam
 
 pub leaves_at : (m : Moment) (was ready : Past) (parts parts' : PartsView) (o : Option Done) → m ≡ moment_in ready → SamePast was ready → LeavesSo m.number parts parts' o → LeavesSo (length was.history.items + 1) parts parts' o
 leaves_at m was ready parts parts' o at same leaves = subst (λ (x : Moment). LeavesSo x.number parts parts' o) (at ∙ moment_same was ready same) leaves
+
+pub posts_at : (m : Moment) (was ready : Past) (parts parts' : PartsView) (o : Option Done) → m ≡ moment_in ready → SamePast was ready → parts.jobs.place ≡ record { number = was.setup.number; ids = was.setup.repos }
+    → ForSome o (λ d. Posts (stamp_of m parts.jobs.place.number) d.kind parts.links parts'.links d.taken d.sent) → ForSome o (PostsIn was parts parts')
+posts_at m was ready parts parts' o at same place posts d is =
+    subst (λ (p : PlaceView). Posts (record { time = was.time; count = was.count + 1; repo = p.number }) d.kind parts.links parts'.links d.taken d.sent) place
+    (subst (λ (x : Moment). Posts (stamp_of x parts.jobs.place.number) d.kind parts.links parts'.links d.taken d.sent) (at ∙ moment_same was ready same) (posts d is))

@@ -21,7 +21,8 @@ use Rattle.repo_node.specs.Kept.{IsKept}
 use Rattle.repo_node.specs.Nodes.{told_of}
 use Rattle.repo_node.specs.Owing.{AreDebts, owed_at, owed_by, owed_of}
 use Rattle.repo_node.specs.Pasts.{SamePast}
-use Rattle.repo_node.specs.Stepping.{EntersIf, Stepper, owes_line, place_if}
+use Rattle.repo_node.specs.Stepping.{EntersIf, owes_line, place_if}
+use Rattle.repo_node.specs.Turning.{Stepper}
 use Rattle.repo_node.proofs.BeginLemmas.{kept_entered}
 use Rattle.repo_node.proofs.MoveLemmas.{enters_after}
 use Rattle.repo_node.proofs.OwedLemmas.{DebtsIn, debts_grow, grows_same, owed_grows, owed_in}

@@ -1,22 +1,28 @@
 -- The line that a node owes first, as a step.
-use Rattle.std.proofs.Common.{◌≡◌, ℕ, ◌+◌, true, false, List, [], ◌∷◌, ◌++◌, drop, Option, None, Result, Ok, Err, length, refl, sym, ap, subst, ◌∙◌}
+use Rattle.std.proofs.Common.{◌≡◌, inl, ℕ, ◌+◌, true, false, List, [], ◌∷◌, ◌++◌, drop, Option, Some, None, Result, Ok, Err, length, refl, sym, ap, subst, ◌∙◌}
 use Rattle.std.specs.Prelude.{IfSome}
+use Rattle.std.specs.Option.{option_map}
 use Rattle.std.proofs.lemmas.List.{append-nil}
 use Rattle.annex_base.specs.Causes.{Rose}
 use Rattle.annex_base.specs.declared.kinds.Call.{Call}
 use Rattle.annex_base.specs.declared.kinds.Call.TheVariants.{PutFile}
+use Rattle.annex_base.specs.declared.kinds.EntryStamp.{EntryStamp}
 use Rattle.run_data.specs.declared.entry.Entry.{Entry}
 use Rattle.run_data.specs.declared.entry.EntryKind.{EntryKind}
 use Rattle.run_data.specs.declared.entry.EntryKind.TheVariants.{Fault, Log}
+use Rattle.run_data.specs.declared.entry.FrameView.{FrameView}
 use Rattle.run_data.specs.declared.entry.LogFile.TheVariants.{Location}
 use Rattle.drop_worker.specs.Working.{failed_in}
 use Rattle.link_ring.specs.Ends.{EndView}
+use Rattle.node_ends.specs.Ends.{link_at}
 use Rattle.node_ends.specs.Going.{AreAfter}
+use Rattle.node_model.specs.Ends.{EndName}
 use Rattle.node_model.specs.Look.{Look, entry_of, failing}
 use Rattle.node_model.specs.Owed.{Owed}
 use Rattle.node_model.specs.OwedStep.{owed_step}
 use Rattle.node_model.specs.SetUp.{SetUp}
 use Rattle.node_parts.specs.Parts.{PartsView}
+use Rattle.node_parts.specs.Posting.{Posts, after_step}
 use Rattle.repo_node.specs.declared.setup.Ended.{Ended}
 use Rattle.repo_node.specs.Debts.{AddsStep, WhereMade, failed_put, with_status}
 use Rattle.repo_node.specs.Nodes.{Fits, NodeView, due_by, next_entry, state_of, with_entry}
@@ -24,8 +30,7 @@ use Rattle.repo_node.specs.Owing.{is_owing}
 use Rattle.repo_node.specs.Refusals.{RefusesFor}
 use Rattle.repo_node.specs.declared.refused.NodeRefused.{NodeRefused}
 use Rattle.repo_node.specs.declared.refused.NodeRefused.TheVariants as refusals
-use Rattle.repo_node.specs.Stepping.{StepsBy}
-use Rattle.repo_node.specs.Turning.{Adds, ended_by}
+use Rattle.repo_node.specs.Turning.{Adds, StepsBy, branch_by, ended_by, stamp_then}
 
 -- the first of the lines that are owed
 pub owing_first : (os : List Owed) → is_owing os ≡ true → (o : Owed) × (os ≡ o ∷ drop 1 os)
@@ -49,10 +54,26 @@ last_same (x ∷ h) e e' is = last_same h e e' (tail_same x x (h ++ e ∷ []) (h
 abbrev pub StayLaw : Type 0
 StayLaw = (links : List EndView) → AreAfter links links None []
 
+none_taken : {P : Type 0} (f : FrameView) → None ≡ Some f → P
+none_taken f is = absurd cc
+
+same_link : (sender : EntryStamp) (kind : EntryKind) (a : EndName) (o : Option EndView) → o ≡ option_map (after_step sender kind a None []) o
+same_link sender kind a None = refl
+same_link sender kind a (Some v) = refl
+
+posts_none : (sender : EntryStamp) (kind : EntryKind) (links : List EndView) → Posts sender kind links links None []
+posts_none sender kind links = record {
+  count = refl;
+  took = λ a f is. none_taken f is;
+  said = λ a. [];
+  listed = λ a. refl;
+  links = λ a. same_link sender kind a (link_at links a);
+}
+
 adds_quiet : {K : Type 0} (law : StayLaw) (n m : NodeView K) (kind : EntryKind) (lines : List (List ℕ)) (f f' : ℕ)
-    → m.setup ≡ n.setup → m.time ≡ n.time → m.count ≡ n.count + 1 → m.history ≡ n.history ++ next_entry n kind lines ∷ [] → m.outcomes ≡ n.outcomes → m.parts ≡ n.parts → ended_by kind (length n.history) ≡ [] → IfSome (failed_in kind) (λ call. Rose f f')
+    → m.setup ≡ n.setup → m.time ≡ n.time → m.count ≡ n.count + 1 → m.history ≡ n.history ++ next_entry n kind lines ∷ [] → m.outcomes ≡ n.outcomes → m.branch ≡ branch_by n.branch kind lines → m.parts ≡ n.parts → ended_by kind (length n.history) ≡ [] → IfSome (failed_in kind) (λ call. Rose f f')
     → Adds n.parts.links f f' n m
-adds_quiet law n m kind lines f f' setup time count history outcomes parts none cause = record {
+adds_quiet law n m kind lines f f' setup time count history outcomes branch parts none cause = record {
   entry = next_entry n kind lines;
   history = history;
   outcomes = outcomes ∙ sym (append-nil n.outcomes) ∙ ap (λ (x : List Ended). n.outcomes ++ x) (sym none);
@@ -62,17 +83,20 @@ adds_quiet law n m kind lines f f' setup time count history outcomes parts none 
   counted = count;
   at = time;
   setup = setup;
+  branch = branch;
   ends = subst (λ (p : PartsView). AreAfter n.parts.links p.links None []) (sym parts) (law n.parts.links);
+  posts = subst (λ (p : PartsView). Posts (stamp_then n) kind n.parts.links p.links None []) (sym parts) (posts_none (stamp_then n) kind n.parts.links);
+  jobs = inl (ap (λ (p : PartsView). p.jobs) parts);
   cause = cause;
 }
 
 pub adds_paid : {K : Type 0} (law : StayLaw) (n m : NodeView K) (o : Owed) (f f' : ℕ) → m ≡ with_status n m.keeper o.key o.repo o.there → Adds n.parts.links f f' n m
 adds_paid {K} law n m o f f' is = adds_quiet law n m (Log (Location o.key)) (due_by n o.key o.repo o.there) f f' (ap (λ (x : NodeView K). x.setup) is) (ap (λ (x : NodeView K). x.time) is) (ap (λ (x : NodeView K). x.count) is) (ap (λ (x : NodeView K). x.history) is)
-    (ap (λ (x : NodeView K). x.outcomes) is) (ap (λ (x : NodeView K). x.parts) is) refl tt
+    (ap (λ (x : NodeView K). x.outcomes) is) (ap (λ (x : NodeView K). x.branch) is) (ap (λ (x : NodeView K). x.parts) is) refl tt
 
 pub adds_failed : {K : Type 0} (law : StayLaw) (n m : NodeView K) (o : Owed) (f f' : ℕ) → m ≡ with_entry n m.keeper n.branch (Fault PutFile o.by) [] → Rose f f' → Adds n.parts.links f f' n m
 adds_failed {K} law n m o f f' is rose = adds_quiet law n m (Fault PutFile o.by) [] f f' (ap (λ (x : NodeView K). x.setup) is) (ap (λ (x : NodeView K). x.time) is) (ap (λ (x : NodeView K). x.count) is) (ap (λ (x : NodeView K). x.history) is)
-    (ap (λ (x : NodeView K). x.outcomes) is) (ap (λ (x : NodeView K). x.parts) is) refl rose
+    (ap (λ (x : NodeView K). x.outcomes) is) (ap (λ (x : NodeView K). x.branch) is) (ap (λ (x : NodeView K). x.parts) is) refl rose
 
 -- ---- the step
 
@@ -81,7 +105,6 @@ steps_by : {K : Type 0} (r : Result (Unit {0}) NodeRefused) (n m : NodeView K) (
     → StepsBy owed_step n m
 steps_by r n m kind lines history fault pays = record {
   kind = kind;
-  acting = None;
   part = 0;
   right = false;
   makes = λ s k fits looks fails part right words.

@@ -48,7 +48,7 @@ use Rattle.repo_node.specs.declared.setup.Setup.{Setup}
 use Rattle.repo_node.specs.Kept.{IsKept}
 use Rattle.repo_node.specs.Nodes.{Fits, IsState, Stands, state_of, told_of}
 use Rattle.repo_node.specs.Owing.{owed_by}
-use Rattle.repo_node.specs.Stepping.{Stepper}
+use Rattle.repo_node.specs.Turning.{Stepper}
 
 -- ---- what laws say
 

@@ -20,10 +20,10 @@ use Rattle.node_model.specs.Turns.{job_step}
 use Rattle.repo_node.specs.declared.turn.Turn.TheVariants as turns
 use Rattle.repo_node.specs.Nodes.{Fits, IsState, NodeView, state_of, told_of}
 use Rattle.repo_node.specs.Owing.{is_owing}
-use Rattle.repo_node.specs.Stepping.{AddsIf, MovesSo, NoStep, ReadySo, Stepper, StepsBy}
-use Rattle.repo_node.specs.Turning.{Adds, HasStep, IsIdle, Looks, TurnsSo, words_by}
+use Rattle.repo_node.specs.Stepping.{AddsIf, MovesSo, NoStep, ReadySo, WhereStill}
+use Rattle.repo_node.specs.Turning.{Adds, HasStep, IsIdle, Looks, Stepper, StepsBy}
 use Rattle.repo_node.specs.Turns.{turn_full, turn_made}
-use Rattle.repo_node.proofs.StepLemmas.{look_of, look_sees, told_known, told_some}
+use Rattle.repo_node.proofs.StepLemmas.{told_known, told_some}
 
 -- ---- what is told
 
@@ -68,7 +68,6 @@ steps_first : {K : Type 0} (first : Stepper) (n m : NodeView K) → ((s : SetUp)
     → StepsBy first n m → StepsBy step n m
 steps_first first n m is by = record {
   kind = by.kind;
-  acting = by.acting;
   part = by.part;
   right = by.right;
   makes = λ s k fits looks fails part right words.
@@ -107,7 +106,6 @@ looks_over n x s k looks = record { ends = looks.ends; time = looks.time; count 
 moves_over : {K : Type 0} (b : Bool) (first : Stepper) (n m : NodeView K) (x : K) → MovesSo b first (record n { keeper = x }) m → MovesSo b first n m
 moves_over true first n m x by = record {
   kind = by.kind;
-  acting = by.acting;
   part = by.part;
   right = by.right;
   makes = λ s k fits looks fails part right words.
@@ -134,7 +132,10 @@ adds_over true links f f' f'' n m x later adds = record {
   counted = adds.counted;
   at = adds.at;
   setup = adds.setup;
+  branch = adds.branch;
   ends = adds.ends;
+  posts = adds.posts;
+  jobs = adds.jobs;
   cause = cause_before (failed_in adds.entry.kind) f f' f'' later adds.cause;
 }
 adds_over false links f f' f'' n m x later adds = adds
@@ -173,21 +174,15 @@ DropLaw = (links : List EndView) (s : SetUp) (k : Look) → SeesEnds links s k �
 looks_dropped : {K : Type 0} (n : NodeView K) (s : SetUp) (k : Look) → DropLaw → Looks n s k → Looks (dropped n) s k
 looks_dropped n s k law looks = record { ends = law n.parts.links s k looks.ends; time = looks.time; count = looks.count }
 
-turns_dropped : {K : Type 0} (n m : NodeView K) → DropLaw → StepsBy step (dropped n) m → (s : SetUp) → Fits n.setup s → TurnsSo n m s
-turns_dropped n m law by s fits =
-    let look : Look = look_of n.parts.links s n.time (n.count + 1) by.kind by.part by.right (words_by n by.acting) in
-    let looks : Looks n s look = record { ends = look_sees n.parts.links s n.time (n.count + 1) by.kind by.part by.right (words_by n by.acting); time = refl; count = refl } in
-    let it = by.makes s look fits (looks_dropped n s look law looks) refl refl refl refl in
-    record {
-      look = look;
-      made = it.made;
-      acting = by.acting;
-      looks = looks;
-      words = refl;
-      fails = ap failed_in (sym it.same);
-      makes = it.makes;
-      adds = it.adds ∙ refl;
-    }
+turns_dropped : {K : Type 0} (n m : NodeView K) → DropLaw → StepsBy step (dropped n) m → StepsBy step n m
+turns_dropped n m law by = record {
+  kind = by.kind;
+  part = by.part;
+  right = by.right;
+  makes = λ s k fits looks fails part right words.
+      let it = by.makes s k fits (looks_dropped n s k law looks) fails part right words in
+      record { made = it.made; same = it.same; makes = it.makes; adds = it.adds };
+}
 
 adds_dropped : {K : Type 0} (f f' : ℕ) (n m : NodeView K) → Adds (map after_drop n.parts.links) f f' (dropped n) m → Adds (map after_drop n.parts.links) f f' n m
 adds_dropped f f' n m adds = record {
@@ -200,7 +195,10 @@ adds_dropped f f' n m adds = record {
   counted = adds.counted;
   at = adds.at;
   setup = adds.setup;
+  branch = adds.branch;
   ends = adds.ends;
+  posts = adds.posts;
+  jobs = adds.jobs;
   cause = adds.cause;
 }
 
@@ -240,13 +238,23 @@ where_stays (Ok true) links f f' n m other adds err = absurd (other refl)
 where_stays (Ok false) links f f' n m other adds err = adds
 where_stays (Err e) links f f' n m other adds err = err
 
+pub where_still : {P : Type 0} (r : Result Bool NoMemory) → turn_made r ≢ turns.Moved → WhereStill r P → P
+where_still (Ok true) other said = absurd (other refl)
+where_still (Ok false) other said = said
+where_still (Err e) other said = said
+
+pub still_said : {P : Type 0} (r : Result Bool NoMemory) → P → WhereStill r P
+still_said (Ok true) p = tt
+still_said (Ok false) p = p
+still_said (Err e) p = p
+
 -- the clauses of a turn, of the node before its frames were dropped
 pub turn_adds : {K : Type 0} (r : Result Bool NoMemory) (f f' : ℕ) (n n' m : NodeView K) → n' ≡ dropped n → turn_made r ≡ turns.Moved → IfOk r (λ b. AddsIf b n'.parts.links f f' n' m) → Adds (map after_drop n.parts.links) f f' n m
 turn_adds {K} r f f' n n' m same is adds =
     adds_dropped f f' n m (subst (λ (x : NodeView K). Adds x.parts.links f f' x m) same (where_moved (λ b. AddsIf b n'.parts.links f f' n' m) r is adds))
 
 pub turn_steps : {K : Type 0} (r : Result Bool NoMemory) (n n' m : NodeView K) (c : Contents) (told : Option Contents) → DropLaw → n' ≡ dropped n → turn_made r ≡ turns.Moved → told ≡ Some c → IfOk r (λ b. ForSome told (λ c. MovesSo b step n' m))
-    → (s : SetUp) → Fits n.setup s → TurnsSo n m s
+    → StepsBy step n m
 turn_steps {K} r n n' m c told law same is known moves = turns_dropped n m law (subst (λ (x : NodeView K). StepsBy step x m) same (where_moved (λ b. ForSome told (λ c. MovesSo b step n' m)) r is moves c known))
 
 pub turn_idle : {K : Type 0} (r : Result Bool NoMemory) (n n' m : NodeView K) (c : Contents) (told : Option Contents) → DropLaw → n' ≡ dropped n → turn_made r ≡ turns.Idle → told ≡ Some c → IfOk r (λ b. ForSome told (λ c. MovesSo b step n' m))

@@ -1,13 +1,13 @@
 -- What a node keeps: it stands as its history leaves it; for private contracts.
 use Rattle.std.specs.Prelude.{◌≡◌, ◌≤◌, ◌<◌, ◌+◌, Bool, true, false, List, All, length, Option, Result, Ok, Err}
 use Rattle.std.specs.Option.{ForSome}
-use Rattle.object_store.specs.Stores.{Contents, Parts}
-use Rattle.run_data.specs.declared.entry.Entry.{Entry}
-use Rattle.run_data.specs.declared.entry.EntryKind.{EntryKind}
-use Rattle.run_data.specs.declared.entry.EntryKind.TheVariants.{Log, Compact, Fault}
 use Rattle.annex_base.specs.declared.kinds.Call.{Call}
 use Rattle.run_data.specs.declared.entry.By.{By}
 use Rattle.run_data.specs.declared.entry.By.TheVariants.{Script}
+use Rattle.run_data.specs.declared.entry.Entry.{Entry}
+use Rattle.run_data.specs.declared.entry.EntryKind.{EntryKind}
+use Rattle.run_data.specs.declared.entry.EntryKind.TheVariants.{Log, Compact, Fault}
+use Rattle.object_store.specs.Stores.{Contents, Parts}
 use Rattle.union_merge.specs.Branch.{Files}
 use Rattle.node_model.specs.Clocks.{runs_on}
 use Rattle.node_model.specs.Owed.{Owed, owed_without}

@@ -1,38 +1,17 @@
 -- One step of a node, of one of the three kinds; for private contracts.
-use Rattle.std.specs.Prelude.{◌≡◌, ℕ, Bool, true, false, List, [], ◌∷◌, ◌++◌, Option, Some, None, is_some, vec_len}
+use Rattle.std.specs.Prelude.{◌≡◌, ℕ, Bool, true, false, List, [], ◌∷◌, ◌++◌, Option, Some, None, Result, Ok, Err, is_some, vec_len}
+use Rattle.annex_base.specs.declared.memory.NoMemory.{NoMemory}
 use Rattle.run_data.specs.declared.entry.EntryKind.{EntryKind}
 use Rattle.run_data.specs.declared.entry.EntryKind.TheVariants.{Gain, Gone}
-use Rattle.drop_worker.specs.Working.{failed_in}
 use Rattle.link_ring.specs.Ends.{EndView}
-use Rattle.node_model.specs.Look.{Look, Made, entry_of}
+use Rattle.node_model.specs.Look.{Look}
 use Rattle.node_model.specs.SetUp.{SetUp}
-use Rattle.node_model.specs.State.{State}
 use Rattle.node_parts.specs.declared.done.Done.{Done}
 use Rattle.repo_node.specs.declared.past.Past.{Past}
 use Rattle.repo_node.specs.Kept.{is_debtor}
 use Rattle.repo_node.specs.Nodes.{Fits, NodeView, state_of}
 use Rattle.repo_node.specs.Pasts.{Enters}
-use Rattle.repo_node.specs.Turning.{Adds, Looks, ended_by, words_by}
-
--- steps of one of the three kinds: a line that is owed, a session's, a job's
-abbrev pub Stepper : Type 0
-Stepper = SetUp → State → Look → Option Made
-
--- the entry is the step that these have of the state that the history leaves, at this look
-pub record MakesAt {K : Type 0} (step : Stepper) (kind : EntryKind) (was now : NodeView K) (s : SetUp) (k : Look) : Type 0 where
-  pub made : Made
-  pub same : made.kind ≡ kind
-  pub makes : step s (state_of s was.history) k ≡ Some made
-  pub adds : now.history ≡ was.history ++ entry_of s.number k made ∷ []
-
--- it is so at each look of the node that finds this part, the words that the acting job heard, and the call to fail that the
--- entry tells
-pub record StepsBy {K : Type 0} (step : Stepper) (was now : NodeView K) : Type 0 where
-  pub kind : EntryKind
-  pub acting : Option ℕ
-  pub part : ℕ
-  pub right : Bool
-  pub makes : (s : SetUp) (k : Look) → Fits was.setup s → Looks was s k → k.fails ≡ failed_in kind → k.part ≡ part → k.right ≡ right → k.words ≡ words_by was acting → MakesAt step kind was now s k
+use Rattle.repo_node.specs.Turning.{Adds, Looks, Stepper, StepsBy, ended_by}
 
 -- these have no step, at any look of the node
 abbrev pub NoStep : {K : Type 0} → Stepper → NodeView K → Type 0
@@ -51,6 +30,12 @@ ReadySo b step n = (s : SetUp) (k : Look) → Fits n.setup s → Looks n s k →
 abbrev pub AddsIf : {K : Type 0} → Bool → List EndView → ℕ → ℕ → NodeView K → NodeView K → Type 0
 AddsIf true links faults faults' was now = Adds links faults faults' was now
 AddsIf false links faults faults' was now = now ≡ record was { keeper = now.keeper }
+
+-- this is said of a call that made no step
+abbrev pub WhereStill : Result Bool NoMemory → Type 0 → Type 0
+WhereStill (Ok true) P = Unit {0}
+WhereStill (Ok false) P = P
+WhereStill (Err e) P = P
 
 -- ---- what is noted of its entry
 

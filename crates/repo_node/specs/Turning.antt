@@ -1,11 +1,14 @@
 -- What a turn of a node makes, and what it leaves (own).
-use Rattle.std.specs.Prelude.{◌≡◌, ℕ, ◌+◌, true, List, [], ◌∷◌, ◌++◌, length, Option, Some, None, is_some, IfSome}
+use Rattle.std.specs.Prelude.{◌≡◌, ◌⊎◌, ℕ, ◌+◌, Bool, true, List, [], ◌∷◌, ◌++◌, length, Option, Some, None, is_some, IfSome}
 use Rattle.std.specs.Option.{option_map_or}
 use Rattle.annex_base.specs.Causes.{Rose}
+use Rattle.annex_base.specs.declared.kinds.EntryStamp.{EntryStamp}
 use Rattle.annex_base.specs.declared.kinds.Word.{Word}
 use Rattle.run_data.specs.declared.entry.Entry.{Entry}
 use Rattle.run_data.specs.declared.entry.EntryKind.{EntryKind}
-use Rattle.run_data.specs.declared.entry.EntryKind.TheVariants.{End}
+use Rattle.run_data.specs.declared.entry.EntryKind.TheVariants.{End, Log}
+use Rattle.run_data.specs.Files.{file_path}
+use Rattle.union_merge.specs.Branch.{Files, merged_file}
 use Rattle.drop_worker.specs.Working.{failed_in}
 use Rattle.link_ring.specs.Ends.{EndView}
 use Rattle.node_ends.specs.Ends.{SeesEnds}
@@ -13,9 +16,15 @@ use Rattle.node_ends.specs.Going.{AreAfter}
 use Rattle.node_jobs.specs.Running.{words_at}
 use Rattle.node_model.specs.Look.{Look, Made, entry_of}
 use Rattle.node_model.specs.SetUp.{SetUp}
+use Rattle.node_model.specs.Slots.{job_of}
+use Rattle.node_model.specs.State.{State}
 use Rattle.node_model.specs.Step.{step}
+use Rattle.node_parts.specs.declared.done.Done.{Done}
+use Rattle.node_parts.specs.Jobs.{JobsGoOn}
+use Rattle.node_parts.specs.Parts.{PartsView}
+use Rattle.node_parts.specs.Posting.{Posts}
 use Rattle.repo_node.specs.declared.setup.Ended.{Ended}
-use Rattle.repo_node.specs.Nodes.{NodeView, state_of}
+use Rattle.repo_node.specs.Nodes.{Fits, NodeView, state_of}
 
 -- ---- what a turn finds
 
@@ -25,9 +34,9 @@ pub record Looks {K : Type 0} (n : NodeView K) (s : SetUp) (k : Look) : Type 0 w
   pub time : k.time ≡ n.time
   pub count : k.count ≡ n.count + 1
 
--- the words that this job of the node heard beside its peers' answers; none where no job acts
-abbrev pub words_by : {K : Type 0} → NodeView K → Option ℕ → ℕ → Option Word
-words_by n job = option_map_or (words_at n.parts.jobs.running) job (λ c. None)
+-- the words that the job that makes an entry of this kind heard beside its peers' answers; none where no job makes it
+abbrev pub words_by : {K : Type 0} → NodeView K → EntryKind → ℕ → Option Word
+words_by n kind = option_map_or (words_at n.parts.jobs.running) (job_of kind) (λ c. None)
 
 -- ---- what it makes
 
@@ -36,8 +45,26 @@ abbrev pub ended_by : EntryKind → ℕ → List Ended
 ended_by (End job outcome) place = record { number = job; place = place } ∷ []
 ended_by kind place = []
 
--- The node has one entry more, of its own number, at its time, with the next count. Its ends, which were these, took and sent the
--- entry's frames; the entry says that a call of the store failed only where the count of the store's faults rose.
+-- the branch after an entry of this kind with these new lines, as a turn makes one: a log's file has them beside those that it had
+abbrev pub branch_by : Files → EntryKind → List (List ℕ) → Files
+branch_by branch (Log file) lines = merged_file branch (file_path file) lines
+branch_by branch kind lines = branch
+
+-- the stamp of the node's next entry
+abbrev pub stamp_then : {K : Type 0} → NodeView K → EntryStamp
+stamp_then n = record { time = n.time; count = n.count + 1; repo = n.setup.number }
+
+-- an entry as what a step made
+abbrev pub done_in : Entry → Done
+done_in e = record { kind = e.kind; taken = e.taken; sent = e.sent }
+
+-- the jobs are as they were; or else the sessions are, and of the jobs the one that made this has gone on
+abbrev pub GoOn : PartsView → PartsView → Done → Type 0
+GoOn was now d = (now.jobs ≡ was.jobs) ⊎ ((now.sessions ≡ was.sessions) × JobsGoOn was now d)
+
+-- The node has one entry more, of its own number, at its time, with the next count. Its branch has the entry's lines. Its ends,
+-- which were these, took and sent the entry's frames, with its stamp; and its jobs have gone on from these ends. The entry says
+-- that a call of the store failed only where the count of the store's faults rose.
 pub record Adds {K : Type 0} (links : List EndView) (faults faults' : ℕ) (was now : NodeView K) : Type 0 where
   pub entry : Entry
   pub history : now.history ≡ was.history ++ entry ∷ []
@@ -48,20 +75,35 @@ pub record Adds {K : Type 0} (links : List EndView) (faults faults' : ℕ) (was 
   pub counted : now.count ≡ was.count + 1
   pub at : now.time ≡ was.time
   pub setup : now.setup ≡ was.setup
+  pub branch : now.branch ≡ branch_by was.branch entry.kind entry.lines
   pub ends : AreAfter links now.parts.links entry.taken entry.sent
+  pub posts : Posts (stamp_then was) entry.kind links now.parts.links entry.taken entry.sent
+  pub jobs : GoOn (record was.parts { links = links }) now.parts (done_in entry)
   pub cause : IfSome (failed_in entry.kind) (λ call. Rose faults faults')
 
--- the entry is the step that the definitions have of the state that the history leaves, at a look of the node that finds the
--- store call to fail that the entry tells, and the words that the acting job heard
-pub record TurnsSo {K : Type 0} (was now : NodeView K) (s : SetUp) : Type 0 where
-  pub look : Look
+-- ---- of which step its entry is
+
+-- what is to be made of a state, at a look: as `step` has it, or steps of one kind alone
+abbrev pub Stepper : Type 0
+Stepper = SetUp → State → Look → Option Made
+
+-- Of the state that the history leaves, at this look, there is a step of this kind; and its entry is the history's last, behind
+-- those that were there.
+pub record MakesAt {K : Type 0} (step : Stepper) (kind : EntryKind) (was now : NodeView K) (s : SetUp) (k : Look) : Type 0 where
   pub made : Made
-  pub acting : Option ℕ
-  pub looks : Looks was s look
-  pub words : look.words ≡ words_by was acting
-  pub fails : look.fails ≡ failed_in made.kind
-  pub makes : step s (state_of s was.history) look ≡ Some made
-  pub adds : now.history ≡ was.history ++ entry_of s.number look made ∷ []
+  pub same : made.kind ≡ kind
+  pub makes : step s (state_of s was.history) k ≡ Some made
+  pub adds : now.history ≡ was.history ++ entry_of s.number k made ∷ []
+
+-- The entry is the step of this kind at every look of the node that finds this part, by its size and whether it matches its key;
+-- the call to fail of which an entry of this kind tells; and the words that the job that makes one heard.
+pub record StepsBy {K : Type 0} (step : Stepper) (was now : NodeView K) : Type 0 where
+  pub kind : EntryKind
+  pub part : ℕ
+  pub right : Bool
+  pub makes : (s : SetUp) (k : Look) → Fits was.setup s → Looks was s k → k.fails ≡ failed_in kind → k.part ≡ part → k.right ≡ right → k.words ≡ words_by was kind → MakesAt step kind was now s k
+
+-- ---- whether there is one
 
 -- no step is ready, whatever a look of the node finds beside
 abbrev pub IsIdle : {K : Type 0} → NodeView K → SetUp → Type 0

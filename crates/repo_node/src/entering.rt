@@ -140,12 +140,7 @@ pub(crate) fn enter(past: &mut Past, debts: &mut Vec<usize>, done: Done)
     ensures past { EntersStep done past.old past.new }
     ensures debts { debts.new.items ≡ debts.old.items ++ place_if (owes_line done.kind) (vec_len past.old.history) }
 {
-    let Done {
-        job: _,
-        kind,
-        taken,
-        sent,
-    } = done;
+    let Done { kind, taken, sent } = done;
     let place = past.history.len();
     let owes = owes_line(&kind);
     let ended = ended(&kind, place);

@@ -119,6 +119,8 @@ impl<K: Keeper> Node<K> {
     pub fn history(&self) -> &[Entry]
         ensures value { result.now ≡ self.now.history }
         ensures few { length self.now.history ≤ most_entries }
+        ensures counted { self.now.count < 2 ^ 62 }
+        ensures early { self.now.time ≤ 1000000000000 }
         ensures state { (s : SetUp) → Fits self.now.setup s → IsState s self.now.parts self.now.branch self.now.owed (told_of (K.contents self.now.keeper) (K.parts self.now.keeper)) (state_of s self.now.history) }
         ensures files { HasFiles (K.files self.now.keeper) self.now.branch }
         ensures records { Agrees (K.records self.now.keeper) self.now.parts.table.holds }

@@ -1,5 +1,5 @@
 //! The lines that a node owes its branch: whether it has a content.
-ghost use Rattle.std.specs.Prelude.{◌≡◌, ◌≤◌, ◌<◌, ◌+◌, ℕ, true, List, [], ◌∷◌, length, bytes_eq, IfOk, IfErr, IsErrOf, OnOk, option_map, option_to_list, slice_get};
+ghost use Rattle.std.specs.Prelude.{◌≡◌, ◌≤◌, ◌<◌, ◌+◌, ℕ, true, List, [], ◌∷◌, length, bytes_eq, IfOk, IfErr, IsErrOf, OnErr, OnOk, option_map, option_to_list, slice_get};
 ghost use Rattle.std.specs.List.{list_any};
 ghost use Rattle.std.specs.Option.{ForSome};
 ghost use Rattle.annex_base.specs.Causes.{Rose};
@@ -287,6 +287,7 @@ impl<K: Keeper> Node<K> {
         ensures pays { ForSome (told_of (K.contents self.old.keeper) (K.parts self.old.keeper)) (λ c. (s : SetUp) (k : Look) → Fits self.old.setup s → k.time ≡ self.old.time → k.count ≡ self.old.count + 1 → failing k.fails (calls.PutFile ∷ []) ≡ failed_put result → WhereMade result (AddsStep (owed_step s (state_of s self.old.history) k) self.old.setup.number k self.old.history self.new.history)) }
         ensures contents { K.contents self.new.keeper ≡ K.contents self.old.keeper }
         ensures parts { K.parts self.new.keeper ≡ K.parts self.old.keeper }
+        ensures err_files { OnErr result (K.files self.new.keeper ≡ K.files self.old.keeper) }
         ensures later { K.faults self.old.keeper ≤ K.faults self.new.keeper }
         ensures cause { IsErrOf result NodeRefused.StoreFault → Rose (K.faults self.old.keeper) (K.faults self.new.keeper) }
     {

@@ -9,7 +9,7 @@ ghost use Rattle.node_model.specs.Step.{step};
 ghost use Rattle.node_model.specs.Turns.{job_step};
 ghost use Rattle.repo_node.specs.Nodes.{told_of};
 ghost use Rattle.repo_node.specs.Owing.{is_owing};
-ghost use Rattle.repo_node.specs.Stepping.{AddsIf, MovesSo, ReadySo};
+ghost use Rattle.repo_node.specs.Stepping.{AddsIf, MovesSo, ReadySo, WhereStill};
 
 use crate::entering::{enter_if, make_room};
 use crate::indexing::make_index;
@@ -51,6 +51,7 @@ impl<K: Keeper> Node<K> {
         ensures step { IfOk result (λ b. ForSome (told_of (K.contents self.old.keeper) (K.parts self.old.keeper)) (λ c. MovesSo b step self.old self.new)) }
         ensures told_parts { is_some (K.parts self.new.keeper) ≡ is_some (K.parts self.old.keeper) }
         ensures told_contents { is_some (K.parts self.old.keeper) ≡ true → is_some (K.contents self.new.keeper) ≡ is_some (K.contents self.old.keeper) }
+        ensures files { WhereStill result (K.files self.new.keeper ≡ K.files self.old.keeper) }
         ensures paired { StayPaired self.old.parts.links self.new.parts.links }
         ensures later { K.faults self.old.keeper ≤ K.faults self.new.keeper }
         ensures err { OnErr result (self.new ≡ record self.old { keeper = self.new.keeper }) }
@@ -75,6 +76,7 @@ impl<K: Keeper> Node<K> {
         ensures step { IfOk result (λ b. ForSome (told_of (K.contents self.old.keeper) (K.parts self.old.keeper)) (λ c. MovesSo b owed_step self.old self.new)) }
         ensures contents { K.contents self.new.keeper ≡ K.contents self.old.keeper }
         ensures parts { K.parts self.new.keeper ≡ K.parts self.old.keeper }
+        ensures files { WhereStill result (K.files self.new.keeper ≡ K.files self.old.keeper) }
         ensures links { self.new.parts ≡ self.old.parts }
         ensures later { K.faults self.old.keeper ≤ K.faults self.new.keeper }
         ensures err { OnErr result (self.new ≡ record self.old { keeper = self.new.keeper }) }
@@ -98,6 +100,7 @@ impl<K: Keeper> Node<K> {
         ensures step { IfOk result (λ b. ForSome (told_of (K.contents self.old.keeper) (K.parts self.old.keeper)) (λ c. MovesSo b session_step self.old self.new)) }
         ensures told_parts { is_some (K.parts self.new.keeper) ≡ is_some (K.parts self.old.keeper) }
         ensures told_contents { is_some (K.parts self.old.keeper) ≡ true → is_some (K.contents self.new.keeper) ≡ is_some (K.contents self.old.keeper) }
+        ensures files { K.files self.new.keeper ≡ K.files self.old.keeper }
         ensures paired { StayPaired self.old.parts.links self.new.parts.links }
         ensures later { K.faults self.old.keeper ≤ K.faults self.new.keeper }
         ensures err { OnErr result (self.new ≡ record self.old { keeper = self.new.keeper }) }
@@ -120,6 +123,7 @@ impl<K: Keeper> Node<K> {
         ensures step { IfOk result (λ b. ForSome (told_of (K.contents self.old.keeper) (K.parts self.old.keeper)) (λ c. MovesSo b job_step self.old self.new)) }
         ensures told_parts { is_some (K.parts self.new.keeper) ≡ is_some (K.parts self.old.keeper) }
         ensures told_contents { is_some (K.contents self.new.keeper) ≡ is_some (K.contents self.old.keeper) }
+        ensures files { K.files self.new.keeper ≡ K.files self.old.keeper }
         ensures paired { StayPaired self.old.parts.links self.new.parts.links }
         ensures later { K.faults self.old.keeper ≤ K.faults self.new.keeper }
         ensures err { OnErr result (self.new ≡ record self.old { keeper = self.new.keeper }) }

@@ -4,10 +4,11 @@ ghost use Rattle.std.specs.Option.{ForSome};
 ghost use Rattle.link_ring.specs.Ends.{after_drop};
 ghost use Rattle.node_ends.specs.Joined.{StayPaired};
 ghost use Rattle.node_model.specs.SetUp.{SetUp};
+ghost use Rattle.node_model.specs.Step.{step};
 ghost use Rattle.repo_node.specs.Nodes.{Fits, told_of};
 ghost use Rattle.repo_node.specs.Refusals.{most_entries};
 ghost use Rattle.repo_node.specs.Turns.{turn_full, turn_made};
-ghost use Rattle.repo_node.specs.Turning.{Adds, HasStep, IsIdle, TurnsSo};
+ghost use Rattle.repo_node.specs.Turning.{Adds, HasStep, IsIdle, StepsBy};
 
 use crate::node::Node;
 use annex_base::NoMemory;
@@ -52,15 +53,18 @@ impl<K: Keeper> Node<K> {
     /// client and slot, that has a step makes it; else the first job, in order of slot. Frames that are never taken are dropped at
     /// its ends first. All memory is taken before the step.
     pub fn turn(&mut self) -> Turn
-        // Its entry is the step that the definitions have, where the store tells its contents and its parts.
+        // Its entry is the step that the definitions have, at every look that finds what it found, where the store tells its
+        // contents and its parts.
         ensures moved { result ≡ Turn.Moved → Adds (map after_drop self.old.parts.links) (K.faults self.old.keeper) (K.faults self.new.keeper) self.old self.new }
-        ensures step { result ≡ Turn.Moved → ForSome (told_of (K.contents self.old.keeper) (K.parts self.old.keeper)) (λ c. (s : SetUp) → Fits self.old.setup s → TurnsSo self.old self.new s) }
+        ensures step { result ≡ Turn.Moved → ForSome (told_of (K.contents self.old.keeper) (K.parts self.old.keeper)) (λ c. StepsBy step self.old self.new) }
         ensures idle { result ≡ Turn.Idle → ForSome (told_of (K.contents self.old.keeper) (K.parts self.old.keeper)) (λ c. (s : SetUp) → Fits self.old.setup s → IsIdle self.old s) }
         ensures full { result ≡ Turn.Full → length self.old.history ≡ most_entries }
         ensures ready { result ≡ Turn.Full → ForSome (told_of (K.contents self.old.keeper) (K.parts self.old.keeper)) (λ c. (s : SetUp) → Fits self.old.setup s → HasStep self.old s) }
 
         // Else only those frames are gone.
         ensures stays { result ≢ Turn.Moved → self.new ≡ record self.old { keeper = self.new.keeper; parts = record self.old.parts { links = map after_drop self.old.parts.links } } }
+        ensures files { result ≢ Turn.Moved → K.files self.new.keeper ≡ K.files self.old.keeper }
+        ensures unasked { result ≡ Turn.Full → self.new.keeper ≡ self.old.keeper }
         ensures told_parts { is_some (K.parts self.new.keeper) ≡ is_some (K.parts self.old.keeper) }
         ensures told_contents { is_some (K.parts self.old.keeper) ≡ true → is_some (K.contents self.new.keeper) ≡ is_some (K.contents self.old.keeper) }
         ensures paired { StayPaired self.old.parts.links self.new.parts.links }

@@ -17,7 +17,7 @@ step-requires-clause-shares g c = subst (λ (s : Side). CanShare s (g.K.Keeper.r
 pub returns-clause-steps : goal.returns-clause-steps
 returns-clause-steps g c =
     steps_local c.args.place.now c.args.clock c.args.known.now (g.K.Keeper.contents c.args.keeper.now) (g.K.Keeper.contents c.step.new.keeper) c.args.input.now c.args.table.now c.step.new.table c.args.worker.now c.step.new.worker c.step.result c.requires.side
-    c.step.ensures.word c.step.ensures.after c.step.ensures.contents c.step.ensures.fits (c.step.ensures.begun c.requires.side) c.step.ensures.job
+    c.step.ensures.word c.step.ensures.heard c.step.ensures.after c.step.ensures.contents c.step.ensures.fits (c.step.ensures.begun c.requires.side) c.step.ensures.job
 
 pub returns-clause-holds : goal.returns-clause-holds
 returns-clause-holds g c = c.step.ensures.holds c.requires.side

@@ -1,8 +1,9 @@
 -- What is sent is listed.
-use Rattle.std.proofs.Common.{sym, subst, ◌∙◌}
+use Rattle.std.proofs.Common.{is_some, sym, ap, subst, ◌∙◌}
 use Rattle.node_ends.specs.Ends.{name_of}
-use Rattle.node_parts.specs.Posting.{IsPosted}
+use Rattle.node_parts.specs.Posting.{IsPosted, Posts}
 use Rattle.node_parts.proofs.Posting.{listed_by, posted_by}
+use Rattle.node_parts.proofs.Posts.{posts_by}
 use Rattle.node_parts.proofs.acting.post.Goals as goal
 
 pub returns-clause-posted : goal.returns-clause-posted
@@ -19,3 +20,9 @@ returns-clause-well c = λ was taken f before quiet of place.
 
 pub returns-clause-there : goal.returns-clause-there
 returns-clause-there c = c.post-frame.ensures.there (name_of c.args.id) ∙ c.requires.there
+
+pub returns-clause-posts : goal.returns-clause-posts
+returns-clause-posts c = λ kind was taken before.
+    subst (Posts c.args.stamp kind was c.post-frame.new.self taken) (sym c.list.ensures.items)
+    (posts_by c.args.stamp kind was c.args.ends.now taken c.args.sent.now.items before c.post-frame.new.self (name_of c.args.id) c.args.said c.requires.client c.post-frame.result c.post-frame.ensures.sent
+    (λ none. (c.post-frame.ensures.kept (sym c.post-frame.ensures.gives ∙ ap is_some none)).1))

@@ -7,7 +7,7 @@ use Rattle.node_ends.specs.Ends.{end_at}
 use Rattle.node_ends.specs.Joined.{StayPaired}
 use Rattle.drop_worker.specs.Working.{frames_of}
 use Rattle.node_jobs.specs.Sending.{TakesNoOpening}
-use Rattle.node_parts.specs.Posting.{ArePlaced, IsPosted}
+use Rattle.node_parts.specs.Posting.{ArePlaced, IsPosted, PostsOn}
 use Rattle.node_parts.proofs.Posting.{GoesWell}
 use Rattle.node_parts.proofs.acting.post_all.Given as goal
 
@@ -15,6 +15,7 @@ use Rattle.node_parts.proofs.acting.post_all.Given as goal
 abbrev pub invariant-loop-parcel : goal.invariant-loop-parcel
 invariant-loop-parcel l = record {
   posted : (was : List EndView) (taken : Option FrameView) → IsPosted was taken l.fn.ends l.fn.sent.items → IsPosted was taken l.ends l.sent.items;
+  posts : PostsOn l.stamp l.fn.ends l.ends l.fn.sent.items l.sent.items;
   well : (was : List EndView) (taken : Option FrameView) → IsPosted was taken l.fn.ends l.fn.sent.items → TakesNoOpening taken → ArePlaced was taken l.fn.sent.items (frames_of (end_at was) l.slot l.fn.parcels.items)
       → GoesWell was taken l.slot l.fn.sent.items l.fn.parcels.items l.sent.items (into_iter_items l.parcel-iterator);
   room : vec_len l.sent + 2 * length (into_iter_items l.parcel-iterator) ≤ vec_capacity l.sent;

@@ -3,6 +3,7 @@ use Rattle.std.proofs.Common.{List, [], ◌∷◌, ◌++◌, refl, sym, ap, subs
 use Rattle.run_data.specs.declared.entry.FrameView.{FrameView}
 use Rattle.node_parts.specs.Posting.{IsPlaced}
 use Rattle.node_parts.proofs.Posting.{first_place}
+use Rattle.node_parts.proofs.Posts.{posts_on}
 use Rattle.node_parts.proofs.Sounding.{stay_on}
 use Rattle.node_parts.proofs.acting.post_last.Goals as goal
 
@@ -19,3 +20,7 @@ returns-clause-well c = λ was taken f g before quiet of_f of_g all.
 
 pub returns-clause-paired : goal.returns-clause-paired
 returns-clause-paired c = stay_on c.args.ends.now c.post_said.new.ends c.post.new.ends c.post_said.ensures.paired c.post.ensures.paired
+
+pub returns-clause-posts : goal.returns-clause-posts
+returns-clause-posts c =
+    posts_on c.args.stamp c.args.ends.now c.post_said.new.ends c.post.new.ends c.args.sent.now.items c.post_said.new.sent.items c.post.new.sent.items c.post_said.ensures.posts c.post.ensures.posts

@@ -10,10 +10,13 @@ use Rattle.node_jobs.specs.declared.acted.Acted.{Acted}
 use Rattle.node_jobs.specs.Acting.{IsKindOf}
 use Rattle.node_jobs.specs.Leaving.{LeavesSo as LeavesJobsSo}
 use Rattle.node_parts.specs.declared.done.Done.{Done}
+use Rattle.node_parts.specs.Jobs.{JobsGoOn}
 use Rattle.node_parts.specs.Kinds.{IsQuiet}
 use Rattle.node_parts.specs.Parts.{PartsView}
+use Rattle.node_parts.specs.Posting.{Posts, stamp_of}
 use Rattle.node_parts.specs.Steps.{Acts, LeavesSo}
-use Rattle.node_parts.proofs.Acted.{IsActed, StepsThere, acts_none, acts_some, kind_of, leaves_acted, quiet_acted, sound_acted}
+use Rattle.node_parts.proofs.Acted.{IsActed, StepsThere, acts_none, acts_some, jobs_go_on, kind_of, leaves_acted, quiet_acted, sound_acted}
+use Rattle.node_parts.proofs.Posts.{posts_at}
 use Rattle.node_parts.proofs.parts.Parts.act.Goals as goal
 
 pub returns-in-None-clause-step : goal.returns-in-None-clause-step
@@ -45,7 +48,7 @@ returns-in-Some-clause-step g c =
     let m = c.args.moment in
     let here : IsActed was.links now.links c.in-Some.acted c.act.result =
     subst (λ (l : List EndView). IsActed l now.links c.in-Some.acted c.act.result) e.ends
-    (record { job = c.act.ensures.job; kind = c.act.ensures.kind; taken = c.act.ensures.taken; sent = c.act.ensures.sent; after = c.act.ensures.after }) in
+    (record { kind = c.act.ensures.kind; taken = c.act.ensures.taken; sent = c.act.ensures.sent; after = c.act.ensures.after }) in
     subst (λ (p : PartsView). ForSome known (λ x. Acts p now x contents m.clock view m.time m.number (Some c.act.result))) c.self.view_is
     (acts_some c.nameless_are_asked.ensures c.local_drops_send_where_there_is_room.ensures c.jobs_make_their_own_entries.ensures c.ends_go_on.ensures.ends c.sessions_stay.ensures
     was now m.clock view m.time m.number known contents c.self.invariant c.in-Some.acted c.act.result
@@ -65,7 +68,7 @@ returns-in-Some-clause-leaves g c =
     let contents = g.K.Keeper.contents c.step.new.keeper in
     let here : IsActed was.links now.links c.in-Some.acted c.act.result =
     subst (λ (l : List EndView). IsActed l now.links c.in-Some.acted c.act.result) e.ends
-    (record { job = c.act.ensures.job; kind = c.act.ensures.kind; taken = c.act.ensures.taken; sent = c.act.ensures.sent; after = c.act.ensures.after }) in
+    (record { kind = c.act.ensures.kind; taken = c.act.ensures.taken; sent = c.act.ensures.sent; after = c.act.ensures.after }) in
     let left = subst (λ (o : Option Acted). LeavesJobsSo was.links was.jobs now.jobs was.table now.table known contents o) c.in-Some.is e.leaves in
     subst (λ (p : PartsView). LeavesSo c.args.moment.number p now (Some c.act.result)) c.self.view_is
     (leaves_acted c.args.moment.number was now known contents c.in-Some.acted c.act.result here left e.holds
@@ -77,10 +80,37 @@ returns-in-Some-clause-kind g c = λ x is.
     let e = c.in_ok-acted.ensures in
     let here : IsActed i.ends c.act.new.ends c.in-Some.acted c.act.result =
     subst (λ (l : List EndView). IsActed l c.act.new.ends c.in-Some.acted c.act.result) e.ends
-    (record { job = c.act.ensures.job; kind = c.act.ensures.kind; taken = c.act.ensures.taken; sent = c.act.ensures.sent; after = c.act.ensures.after }) in
+    (record { kind = c.act.ensures.kind; taken = c.act.ensures.taken; sent = c.act.ensures.sent; after = c.act.ensures.after }) in
     let same : c.act.result ≡ x = cc in
     subst (λ (d : Done). IsQuiet d.kind) same
     (quiet_acted i.ends c.act.new.ends c.in-Some.acted c.act.result here (subst (λ (o : Option Acted). IfSome o (λ (it : Acted). IsKindOf it.job it)) c.in-Some.is e.kind))
+
+pub returns-in-Some-clause-jobs : goal.returns-in-Some-clause-jobs
+returns-in-Some-clause-jobs g c = λ x is.
+    let i = c.self.inside in
+    let e = c.in_ok-acted.ensures in
+    let was : PartsView = record { table = i.table; links = i.ends; sessions = i.sessions; jobs = i.jobs } in
+    let now : PartsView = record { table = c.step.new.table; links = c.act.new.ends; sessions = i.sessions; jobs = c.step.new.self } in
+    let known = g.K.Keeper.contents c.args.keeper.now in
+    let contents = g.K.Keeper.contents c.step.new.keeper in
+    let here : IsActed was.links now.links c.in-Some.acted c.act.result =
+    subst (λ (l : List EndView). IsActed l now.links c.in-Some.acted c.act.result) e.ends
+    (record { kind = c.act.ensures.kind; taken = c.act.ensures.taken; sent = c.act.ensures.sent; after = c.act.ensures.after }) in
+    let left = subst (λ (o : Option Acted). LeavesJobsSo was.links was.jobs now.jobs was.table now.table known contents o) c.in-Some.is e.leaves in
+    let same : c.act.result ≡ x = cc in
+    subst (λ (p : PartsView). JobsGoOn p now x) c.self.view_is
+    (subst (JobsGoOn was now) same (jobs_go_on was now known contents c.in-Some.acted c.act.result here
+    (kind_of c.in-Some.acted (subst (λ (o : Option Acted). IfSome o (λ (it : Acted). IsKindOf it.job it)) c.in-Some.is e.kind)) left))
+
+pub returns-in-Some-clause-posts : goal.returns-in-Some-clause-posts
+returns-in-Some-clause-posts g c = λ x is.
+    let i = c.self.inside in
+    let m = c.args.moment in
+    let d = c.act.result in
+    let same : d ≡ x = cc in
+    subst (λ (y : Done). Posts (stamp_of m c.args.self.now.jobs.place.number) y.kind c.args.self.now.links c.act.new.ends y.taken y.sent) same
+    (subst (λ (p : PartsView). Posts (stamp_of m p.jobs.place.number) d.kind p.links c.act.new.ends d.taken d.sent) c.self.view_is
+    (posts_at m c.number.result i.jobs.place.number c.stamp_at-stamp.result i.ends c.step.new.ends c.act.new.ends d c.stamp_at-stamp.ensures c.number.ensures c.in_ok-acted.ensures.ends c.act.ensures.posts))
 
 pub invariant_of-self-in-Some : goal.invariant_of-self-in-Some
 invariant_of-self-in-Some g c =

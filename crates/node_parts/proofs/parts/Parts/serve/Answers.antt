@@ -7,7 +7,9 @@ use Rattle.node_ends.specs.Joined.{StayPaired}
 use Rattle.node_sessions.specs.Serving.{ServesIf}
 use Rattle.node_sessions.specs.Sessions.{FedAll}
 use Rattle.node_parts.specs.Parts.{PartsView}
+use Rattle.node_parts.specs.Posting.{Posts, stamp_of}
 use Rattle.node_parts.specs.Steps.{LeavesSo, Serves}
+use Rattle.node_parts.proofs.Posts.{posts_at}
 use Rattle.node_parts.proofs.Served.{leaves_at, quiet_served, step_of}
 use Rattle.node_parts.proofs.Sounding.{no_jobs, sound_after, there_still}
 use Rattle.node_parts.proofs.parts.Parts.serve.Goals as goal
@@ -58,3 +60,10 @@ returns-clause-leaves g c =
 pub returns-clause-kind : goal.returns-clause-kind
 returns-clause-kind g c =
     quiet_served c.sessions_entries_are_no_jobs.ensures c.args.moment.number c.step.new.ends c.in_ok-served.served c.serve_if.result c.serve_if.ensures.made c.in_ok-served.ensures.kind
+
+pub returns-clause-posts : goal.returns-clause-posts
+returns-clause-posts g c = λ d is.
+    let i = c.self.inside in
+    let m = c.args.moment in
+    subst (λ (p : PartsView). Posts (stamp_of m p.jobs.place.number) d.kind p.links c.serve_if.new.ends d.taken d.sent) c.self.view_is
+    (posts_at m c.number.result i.jobs.place.number c.stamp_at-stamp.result i.ends c.step.new.ends c.serve_if.new.ends d c.stamp_at-stamp.ensures c.number.ensures c.in_ok-served.ensures.same (c.serve_if.ensures.posts d is))

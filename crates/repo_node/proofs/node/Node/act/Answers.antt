@@ -1,10 +1,10 @@
 -- What the proof of `node::Node::act` needs beside the tactics.
-use Rattle.std.proofs.Common.{is_some, sym, ap, ◌∙◌}
+use Rattle.std.proofs.Common.{inr, is_some, sym, ap, ◌∙◌}
 use Rattle.node_model.specs.Turns.{job_step}
 use Rattle.repo_node.specs.Nodes.{told_of}
 use Rattle.repo_node.specs.Owing.{is_owing}
 use Rattle.repo_node.proofs.BeginLemmas.{fed_links}
-use Rattle.repo_node.proofs.MoveLemmas.{acted_does, adds_if, leaves_at, steps_if}
+use Rattle.repo_node.proofs.MoveLemmas.{acted_does, adds_if, leaves_at, posts_at, steps_if}
 use Rattle.repo_node.proofs.NoteLemmas.{debts_if, kept_if, owed_if_none}
 use Rattle.repo_node.proofs.OwedLemmas.{owed_in}
 use Rattle.repo_node.proofs.TurnLemmas.{none_owing}
@@ -42,7 +42,8 @@ returns-clause-adds g c =
     let it = c.in_ok-done in
     let e = c.enter_if in
     adds_if it.done e.result i.keeper w.new.keeper i.parts w.new.self i.branch c.moment-moment.result.number i.past room.new.past e.new.past room.new.debts.items e.new.debts.items (owed_in i.past i.debts.items) (owed_in e.new.past e.new.debts.items)
-    g.K.Keeper.faults (g.K.Keeper.faults w.new.keeper) c.args.self.now c.self.view_is e.ensures.made room.ensures.same e.ensures.enters it.ensures.leaves it.ensures.cause
+    g.K.Keeper.faults (g.K.Keeper.faults w.new.keeper) c.args.self.now c.self.view_is e.ensures.made room.ensures.same e.ensures.enters it.ensures.leaves
+    (posts_at c.moment-moment.result i.past room.new.past i.parts w.new.self it.done c.moment-moment.ensures room.ensures.same c.self.invariant.0.place it.ensures.posts) (λ d is. inr (w.ensures.sessions, it.ensures.jobs d is)) it.ensures.kind it.ensures.cause
     (owed_if_none it.done i.past room.new.past e.new.past i.debts.items room.new.debts.items e.new.debts.items room.ensures.same room.ensures.same_debts e.ensures.enters c.self.invariant.4)
 
 pub returns-clause-step : goal.returns-clause-step

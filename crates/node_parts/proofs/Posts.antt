@@ -1,0 +1,201 @@
+-- What becomes of the links, frame by frame.
+use Rattle.std.proofs.Common.{◌≡◌, ◌≢◌, inl, inr, ℕ, Bool, true, false, if◌then◌else◌, List, [], ◌∷◌, ◌++◌, Option, Some, None, is_some, length, map, refl, sym, ap, subst, ◌∙◌, append-nil}
+use Rattle.std.specs.Prelude.{◌==◌, ◌&&◌, not}
+use Rattle.std.specs.Option.{ForSome, option_map, option_to_list}
+use Rattle.std.proofs.lemmas.Bool.{cases_Bool}
+use Rattle.std.proofs.lemmas.List.{map-append}
+use Rattle.std.proofs.lemmas.List.Elements.{filter-append}
+use Rattle.std.proofs.lemmas.List.Sums.{fold-append}
+use Rattle.annex_base.specs.declared.kinds.EntryStamp.{EntryStamp}
+use Rattle.annex_base.specs.declared.kinds.Word.{Word}
+use Rattle.annex_base.proofs.Conditions.{eqb_refl}
+use Rattle.annex_base.proofs.Lists.{cons_first}
+use Rattle.annex_base.proofs.Options.{where_some}
+use Rattle.run_data.specs.declared.entry.EntryKind.{EntryKind}
+use Rattle.run_data.specs.declared.entry.FrameText.{FrameText}
+use Rattle.run_data.specs.declared.entry.FrameView.{FrameView}
+use Rattle.link_ring.specs.declared.frame.Frame.{Frame}
+use Rattle.link_ring.specs.Ends.{EndView, after_take}
+use Rattle.node_model.specs.Ends.{EndName, end_sends, same_bool, sends_at, sent_at, taken_at, takes_at}
+use Rattle.node_ends.specs.declared.sending.Sending.{Sending}
+use Rattle.node_ends.specs.declared.sending.Sending.TheVariants as sendings
+use Rattle.node_ends.specs.Ends.{end_at, frame_at, link_at, wait_at}
+use Rattle.node_ends.specs.Going.{IsSent}
+use Rattle.node_ends.specs.Sent.{link_sends, text_of_sending}
+use Rattle.node_sessions.specs.Serving.{IsTalk}
+use Rattle.node_sessions.specs.Words.{word_to}
+use Rattle.node_parts.specs.declared.done.Done.{Done}
+use Rattle.node_parts.specs.declared.moment.Moment.{Moment}
+use Rattle.node_parts.specs.Posting.{Posts, PostsOn, after_step, stamp_of, taken_off, word_with}
+use Rattle.node_parts.proofs.Posting.{both, frame_end, same_bool_is, same_number, same_or_other, sends_its}
+
+-- ---- the word
+
+pub client_word : (a : EndName) (taken : Option FrameView) (kind : EntryKind) (said : Sending) → a.client ≡ true → None ≡ word_with a taken kind said
+client_word a taken kind sendings.Open client = refl
+client_word a taken kind sendings.Close client = refl
+client_word a taken kind (sendings.Line line listed) client = sym (ap (λ (b : Bool). if b then None else word_to taken kind) client)
+client_word a taken kind (sendings.Bytes bytes) client = sym (ap (λ (b : Bool). if b then None else word_to taken kind) client)
+
+pub talk_word : (a : EndName) (taken : Option FrameView) (kind : EntryKind) (said : Sending) → IsTalk said → a.client ≡ false → word_to taken kind ≡ word_with a taken kind said
+talk_word a taken kind sendings.Open talk server = absurd talk
+talk_word a taken kind sendings.Close talk server = absurd talk
+talk_word a taken kind (sendings.Line line listed) talk server = sym (ap (λ (b : Bool). if b then None else word_to taken kind) server)
+talk_word a taken kind (sendings.Bytes bytes) talk server = sym (ap (λ (b : Bool). if b then None else word_to taken kind) server)
+
+-- ---- names of ends
+
+same_name : (a b : EndName) → a.peer ≡ b.peer → a.slot ≡ b.slot → a.client ≡ b.client → a ≡ b
+same_name a b peer slot client = λ i. record { peer = peer i; slot = slot i; client = client i }
+
+-- a frame is sent at the end of one name alone
+sends_only : (a b : EndName) (f : FrameView) → sends_at a f ≡ true → sends_at b f ≡ true → b ≡ a
+sends_only a b f here there =
+    let p = both ((f.peer == a.peer) && (f.slot == a.slot)) (same_bool f.up a.client) here in
+    let q = both (f.peer == a.peer) (f.slot == a.slot) p.0 in
+    let r = both ((f.peer == b.peer) && (f.slot == b.slot)) (same_bool f.up b.client) there in
+    let s = both (f.peer == b.peer) (f.slot == b.slot) r.0 in
+    same_name b a (sym (same_number f.peer b.peer s.0) ∙ same_number f.peer a.peer q.0) (sym (same_number f.slot b.slot s.1) ∙ same_number f.slot a.slot q.1)
+    (sym (same_bool_is f.up b.client r.1) ∙ same_bool_is f.up a.client p.1)
+
+-- and taken so
+up_again : (c : Bool) → (if not c then false else true) ≡ c
+up_again true = refl
+up_again false = refl
+
+takes_its : (a : EndName) (frame : Frame) → takes_at a (frame_at a frame) ≡ true
+takes_its a frame = rw (eqb_refl a.peer, eqb_refl a.slot) (go a.client)
+  where
+    go : (c : Bool) → same_bool c (if not c then false else true) ≡ true
+    go true = refl
+    go false = refl
+
+takes_only : (a b : EndName) (frame : Frame) → takes_at b (frame_at a frame) ≡ true → b ≡ a
+takes_only a b frame there =
+    let r = both ((a.peer == b.peer) && (a.slot == b.slot)) (same_bool b.client (if not a.client then false else true)) there in
+    let s = both (a.peer == b.peer) (a.slot == b.slot) r.0 in
+    same_name b a (sym (same_number a.peer b.peer s.0)) (sym (same_number a.slot b.slot s.1)) (same_bool_is b.client (if not a.client then false else true) r.1 ∙ up_again a.client)
+
+-- ---- what is taken
+
+abbrev if_took : Bool → FrameView → EndView → EndView
+if_took b f v = if is_some (if b then Some f else None) then after_take v else v
+
+same_link : (o : Option EndView) → o ≡ option_map (λ v. v) o
+same_link None = refl
+same_link (Some v) = refl
+
+pub posts_nothing : (sender : EntryStamp) (kind : EntryKind) (links now : List EndView) → now ≡ links → Posts sender kind links now None []
+posts_nothing sender kind links now same = subst (λ (l : List EndView). Posts sender kind links l None []) (sym same) (record { count = refl; took = λ a f none. absurd cc; said = λ a. []; listed = λ a. refl; links = λ a. same_link (link_at links a) })
+
+pub posts_taken : (sender : EntryStamp) (kind : EntryKind) (was now : List EndView) (a : EndName) (frame : Frame) → Some (frame_at a frame) ≡ wait_at was a → link_at now a ≡ option_map after_take (link_at was a) → ((b : EndName) → b ≢ a → link_at now b ≡ link_at was b) → length now ≡ length was
+    → Posts sender kind was now (Some (frame_at a frame)) []
+posts_taken sender kind was now a frame waits link others count = record { count = count; took = took; said = λ b. []; listed = λ b. refl; links = links }
+  where
+    f : FrameView
+    f = frame_at a frame
+
+    took : (b : EndName) (g : FrameView) → taken_at b (Some f) ≡ Some g → wait_at was b ≡ Some g
+    took b g is =
+        let there = where_some (takes_at b f) (Some f) g is in
+        subst (λ (x : EndName). wait_at was x ≡ Some g) (sym (takes_only a b frame there.0)) (sym waits ∙ there.1)
+
+    here : link_at now a ≡ option_map (if_took (takes_at a f) f) (link_at was a)
+    here = link ∙ ap (λ (b : Bool). option_map (if_took b f) (link_at was a)) (sym (takes_its a frame))
+
+    elsewhere : (b : EndName) → b ≢ a → link_at now b ≡ option_map (if_took (takes_at b f) f) (link_at was b)
+    elsewhere b other = elim (cases_Bool (takes_at b f)) [
+      | inl is ↦ absurd (other (takes_only a b frame is))
+      | inr passes ↦ others b other ∙ (same_link (link_at was b) ∙ ap (λ (t : Bool). option_map (if_took t f) (link_at was b)) (sym passes))
+    ]
+
+    links : (b : EndName) → link_at now b ≡ option_map (after_step sender kind b (Some f) []) (link_at was b)
+    links b = elim (same_or_other b a) [
+      | inl same ↦ subst (λ (x : EndName). link_at now x ≡ option_map (after_step sender kind x (Some f) []) (link_at was x)) (sym same) here
+      | inr other ↦ elsewhere b other
+    ]
+
+-- ---- what is sent
+
+module _ (sender : EntryStamp) (kind : EntryKind) (was now : List EndView) (taken : Option FrameView) (sent : List FrameView) (posts : Posts sender kind was now taken sent)
+    (next : List EndView) (a : EndName) (said : Sending) where
+  module _ (f : FrameView) (is : IsSent a sender (word_with a taken kind said) said now next f) where
+    sends : sends_at a f ≡ true
+    sends = ap (λ (x : EndName). sends_at x f) (sym (frame_end a (end_at now a) (text_of_sending said) f is.view)) ∙ sends_its f
+
+    body_is : text_of_sending said ≡ f.body
+    body_is =
+        let c = end_sends (end_at now a) (text_of_sending said) in
+        ap (λ (g : FrameView). g.body) (cons_first (record { peer = a.peer; slot = a.slot; up = a.client; epoch = c.epoch; seq = c.sent; body = text_of_sending said }) f [] [] is.view)
+
+    abbrev if_said : Bool → List Sending
+    if_said true = said ∷ []
+    if_said false = []
+
+    abbrev said_at : EndName → List Sending
+    said_at b = posts.said b ++ if_said (sends_at b f)
+
+    one : (b : Bool) → map text_of_sending (if_said b) ≡ map (λ (g : FrameView). g.body) (if b then f ∷ [] else [])
+    one true = ap (λ (t : FrameText). t ∷ []) body_is
+    one false = refl
+
+    listed : (b : EndName) → map text_of_sending (said_at b) ≡ map (λ (g : FrameView). g.body) (sent_at b (sent ++ f ∷ []))
+    listed b =
+        map-append text_of_sending (posts.said b) (if_said (sends_at b f))
+        ∙ (ap (λ (ts : List FrameText). ts ++ map text_of_sending (if_said (sends_at b f))) (posts.listed b)
+        ∙ (ap (λ (ts : List FrameText). map (λ (g : FrameView). g.body) (sent_at b sent) ++ ts) (one (sends_at b f))
+        ∙ (sym (map-append (λ (g : FrameView). g.body) (sent_at b sent) (sent_at b (f ∷ [])))
+        ∙ ap (map (λ (g : FrameView). g.body)) (sym (filter-append (sends_at b) sent (f ∷ []))))))
+
+    then_sends : (o : Option EndView) → option_map (link_sends sender (word_with a taken kind said) said) (option_map (after_step sender kind a taken (posts.said a)) o) ≡ option_map (after_step sender kind a taken (posts.said a ++ said ∷ [])) o
+    then_sends None = refl
+    then_sends (Some v) = ap Some (sym (fold-append (λ w x. link_sends sender (word_with a taken kind x) x w) (taken_off a taken v) (posts.said a) (said ∷ [])))
+
+    here : link_at next a ≡ option_map (after_step sender kind a taken (said_at a)) (link_at was a)
+    here =
+        is.link
+        ∙ (ap (option_map (link_sends sender (word_with a taken kind said) said)) (posts.links a)
+        ∙ (then_sends (link_at was a)
+        ∙ ap (λ (b : Bool). option_map (after_step sender kind a taken (posts.said a ++ if_said b)) (link_at was a)) (sym sends)))
+
+    elsewhere : (b : EndName) → b ≢ a → link_at next b ≡ option_map (after_step sender kind b taken (said_at b)) (link_at was b)
+    elsewhere b other = elim (cases_Bool (sends_at b f)) [
+      | inl does ↦ absurd (other (sends_only a b f sends does))
+      | inr passes ↦
+          let same : said_at b ≡ posts.said b = ap (λ (t : Bool). posts.said b ++ if_said t) passes ∙ append-nil (posts.said b) in
+          is.others b other ∙ (posts.links b ∙ ap (λ (xs : List Sending). option_map (after_step sender kind b taken xs) (link_at was b)) (sym same))
+    ]
+
+    links : (b : EndName) → link_at next b ≡ option_map (after_step sender kind b taken (said_at b)) (link_at was b)
+    links b = elim (same_or_other b a) [
+      | inl same ↦ subst (λ (x : EndName). link_at next x ≡ option_map (after_step sender kind x taken (said_at x)) (link_at was x)) (sym same) here
+      | inr other ↦ elsewhere b other
+    ]
+
+    pub posts_more : Posts sender kind was next taken (sent ++ f ∷ [])
+    posts_more = record { count = is.count ∙ posts.count; took = posts.took; said = said_at; listed = listed; links = links }
+
+  pub posts_word : (word : Option Word) → word ≡ word_with a taken kind said → (f : FrameView) → IsSent a sender word said now next f → Posts sender kind was next taken (sent ++ f ∷ [])
+  posts_word word same f is = posts_more f (subst (λ (w : Option Word). IsSent a sender w said now next f) same is)
+
+  -- it is listed, where the end may send it
+  pub posts_by : a.client ≡ true → (o : Option FrameView) → ForSome o (IsSent a sender None said now next) → (o ≡ None → next ≡ now) → Posts sender kind was next taken (sent ++ option_to_list o)
+  posts_by client None is kept = subst (λ (l : List EndView). Posts sender kind was l taken (sent ++ [])) (sym (kept refl)) (subst (Posts sender kind was now taken) (sym (append-nil sent)) posts)
+  posts_by client (Some f) is kept = posts_word None (client_word a taken kind said client) f (is f refl)
+
+-- ---- one behind the other
+
+pub posts_on : (sender : EntryStamp) (first mid last : List EndView) (sent sent' sent'' : List FrameView) → PostsOn sender first mid sent sent' → PostsOn sender mid last sent' sent'' → PostsOn sender first last sent sent''
+posts_on sender first mid last sent sent' sent'' before behind = λ kind was taken so_far. behind kind was taken (before kind was taken so_far)
+
+pub posts_still : (sender : EntryStamp) (links : List EndView) (sent : List FrameView) → PostsOn sender links links sent sent
+posts_still sender links sent = λ kind was taken so_far. so_far
+
+-- ---- a whole step
+
+-- of the stamp and the links that these are
+pub posts_at : (m : Moment) (own number : ℕ) (stamp : EntryStamp) (was mid now : List EndView) (d : Done) → stamp ≡ stamp_of m own → own ≡ number → mid ≡ was → Posts stamp d.kind mid now d.taken d.sent
+    → Posts (stamp_of m number) d.kind was now d.taken d.sent
+posts_at m own number stamp was mid now d is numbered same posts =
+    subst (λ (links : List EndView). Posts (stamp_of m number) d.kind links now d.taken d.sent) same
+    (subst (λ (s : EntryStamp). Posts s d.kind mid now d.taken d.sent) (is ∙ ap (stamp_of m) numbered) posts)
