@@ -1,10 +1,10 @@
 -- No two of the repositories have one identifier.
-use Rattle.std.proofs.Common.{◌≡◌, ◌≢◌, ◌<◌, ◌≤◌, ◌+◌, ◌↔◌, inl, inr, arith, ℕ, zero, suc, Bool, true, false, not, ◌&&◌, List, [], ◌∷◌, length, get_or, drop, map, All, AllPairs, Contains, refl, sym, ap, subst, ◌∙◌}
+use Rattle.std.proofs.Common.{◌≡◌, ◌≢◌, ◌<◌, ◌≤◌, ◌+◌, inl, inr, arith, ℕ, suc, Bool, true, false, not, ◌&&◌, List, [], ◌∷◌, length, get_or, drop, AllPairs, refl, sym, ap, ◌∙◌}
 use Rattle.std.specs.Prelude.{bytes_eq}
 use Rattle.std.proofs.lemmas.Bool.{cases_Bool, true≢false}
 use Rattle.std.proofs.lemmas.List.{drop_all, drop_more}
 use Rattle.std.proofs.lemmas.List.Kept.{AllPairs-cons}
-use Rattle.annex_base.specs.Lists.{Each, Member}
+use Rattle.annex_base.specs.Lists.{Each}
 use Rattle.annex_base.proofs.Conditions.{bytes_eq-refl, bytes_eq-true}
 use Rattle.annex_base.proofs.Lists.{All-from_Each, Each-map, Member-map, Contains-from_Member, list_any_found, list_any_nowhere, Each-weaker}
 use Rattle.run_data.specs.declared.run.RepoView.{RepoView}

@@ -1,15 +1,13 @@
 -- Frames are carried between two of the nodes, and between one and each other one.
-use Rattle.std.proofs.Common.{◌≡◌, ◌≢◌, ◌<◌, ◌≤◌, ◌+◌, ◌⊎◌, inl, inr, arith, ℕ, zero, suc, Bool, not, List, [], ◌∷◌, ◌++◌, Some, length, take, drop, get_or, slice_set, refl, sym, ap, subst, ◌∙◌}
+use Rattle.std.proofs.Common.{◌≡◌, ◌≢◌, ◌<◌, ◌+◌, ◌⊎◌, inl, inr, arith, ℕ, zero, suc, List, [], ◌∷◌, ◌++◌, Some, length, get_or, slice_set, refl, sym, ap, subst, ◌∙◌}
 use Rattle.std.specs.Prelude.{slice_get}
 use Rattle.std.proofs.lemmas.List.{length-append}
-use Rattle.std.proofs.lemmas.Option.{same_Some, slice_get-get_or, slice_get_within}
+use Rattle.std.proofs.lemmas.Option.{same_Some, slice_get-get_or}
 use Rattle.annex_base.proofs.Lists.{slice_get-left}
 use Rattle.link_ring.specs.Ends.{EndView}
-use Rattle.node_ends.specs.Ends.{link_at}
-use Rattle.node_ends.specs.Joined.{AreCarried, AreJoined, end_with, link_carried}
-use Rattle.node_model.specs.Ends.{EndName}
+use Rattle.node_ends.specs.Joined.{AreCarried, AreJoined}
 use Rattle.repo_node.specs.Nodes.{NodeView}
-use Rattle.joined_nodes.specs.Carrying.{AreCarriedTo, AreCarriedTwo, AreCarriedWith, IsCarried, LinksCarriedTo}
+use Rattle.joined_nodes.specs.Carrying.{AreCarriedTwo, IsCarried}
 use Rattle.joined_nodes.specs.Joined.{AreNodes, with_links}
 use Rattle.joined_nodes.proofs.Setting.{set_at, set_count, set_other, set_same}
 

@@ -1,5 +1,5 @@
 -- Frames are carried between one node and each other one.
-use Rattle.std.proofs.Common.{◌≡◌, ◌≢◌, ◌<◌, ◌≤◌, ◌+◌, ◌⊎◌, inl, inr, append-nil, arith, ℕ, Bool, not, List, Option, ◌++◌, Some, length, take, drop, get_or, refl, sym, ap, subst, ◌∙◌}
+use Rattle.std.proofs.Common.{◌≡◌, ◌≢◌, ◌<◌, ◌+◌, ◌⊎◌, inl, inr, append-nil, arith, ℕ, not, List, Option, ◌++◌, Some, length, take, drop, get_or, refl, sym, ap, subst, ◌∙◌}
 use Rattle.std.specs.Prelude.{slice_get, ◌==◌}
 use Rattle.std.proofs.Math.Seq.{drop-length, take-length}
 use Rattle.std.proofs.lemmas.Bool.{cases_Bool}
@@ -8,10 +8,9 @@ use Rattle.std.proofs.lemmas.Option.{same_Some, slice_get-get_or, slice_get_with
 use Rattle.link_ring.specs.Ends.{EndView}
 use Rattle.node_ends.specs.Ends.{link_at}
 use Rattle.node_ends.specs.Joined.{AreCarried, end_with, link_carried}
-use Rattle.node_model.specs.Ends.{EndName}
 use Rattle.repo_node.specs.Nodes.{NodeView}
 use Rattle.joined_nodes.specs.Carrying.{AreCarriedTo, AreCarriedTwo, AreCarriedWith, IsCarried, LinksCarriedTo}
-use Rattle.joined_nodes.specs.Joined.{AreAllCarried, AreNodes, AtNode, with_links}
+use Rattle.joined_nodes.specs.Joined.{AreAllCarried, AreNodes, with_links}
 
 pub two_turned : {K : Type 0} (i j : ℕ) (was now : List (NodeView K)) → AreCarriedTwo i j was now → AreCarriedTwo j i was now
 two_turned i j was now so = record {

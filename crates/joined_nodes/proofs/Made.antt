@@ -1,12 +1,12 @@
 -- Nodes are made.
-use Rattle.std.proofs.Common.{◌≡◌, ◌≢◌, ◌<◌, ◌≤◌, ◌+◌, ◌*◌, ◌^◌, ◌⊎◌, inl, inr, arith, ℕ, zero, suc, List, [], ◌∷◌, ◌++◌, Some, None, length, get_or, map, replicate, All, AllPairs, refl, sym, ap, subst, ◌∙◌}
+use Rattle.std.proofs.Common.{◌≡◌, ◌≢◌, ◌<◌, ◌≤◌, ◌+◌, ◌*◌, ◌^◌, ◌⊎◌, inl, inr, arith, ℕ, zero, suc, List, [], ◌∷◌, ◌++◌, Some, length, get_or, replicate, All, AllPairs, refl, sym, ap, subst, ◌∙◌}
 use Rattle.std.specs.Prelude.{slice_get, option_map}
 use Rattle.std.proofs.lemmas.List.{length-append}
 use Rattle.std.proofs.lemmas.Option.{same_Some, none-some, slice_get-get_or, slice_get-map, slice_get_within}
 use Rattle.annex_base.proofs.Lists.{Each-get_or}
 use Rattle.run_data.specs.declared.run.RepoView.{RepoView}
 use Rattle.repo_node.specs.declared.setup.Setup.{Setup}
-use Rattle.link_ring.specs.Ends.{EndView, fresh}
+use Rattle.link_ring.specs.Ends.{fresh}
 use Rattle.node_ends.specs.Joined.{AreJoined}
 use Rattle.repo_node.specs.Nodes.{NodeView}
 use Rattle.run_data.specs.Repos.{IsSetUp}

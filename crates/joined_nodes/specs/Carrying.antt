@@ -3,7 +3,7 @@ use Rattle.std.specs.Prelude.{◌≡◌, ◌≢◌, ◌⊎◌, ℕ, ◌≤◌, �
 use Rattle.link_ring.specs.Ends.{EndView}
 use Rattle.node_model.specs.Ends.{EndName}
 use Rattle.node_ends.specs.Ends.{link_at}
-use Rattle.node_ends.specs.Joined.{AreCarried, AreJoined, end_with, link_carried}
+use Rattle.node_ends.specs.Joined.{AreCarried, end_with, link_carried}
 use Rattle.repo_node.specs.Nodes.{NodeView}
 use Rattle.joined_nodes.specs.Joined.{AreNodes, with_links}
 

@@ -1,6 +1,6 @@
 -- Nodes as they are made, one after the other; for private contracts.
 use Rattle.std.specs.Prelude.{◌≡◌, ℕ, ◌*◌, List, [], ◌∷◌, ◌++◌, Some, length, replicate, slice_get}
-use Rattle.link_ring.specs.Ends.{EndView, fresh}
+use Rattle.link_ring.specs.Ends.{fresh}
 use Rattle.link_ring.specs.declared.links.Links.{Links}
 use Rattle.run_data.specs.declared.run.RepoView.{RepoView}
 use Rattle.repo_node.specs.Nodes.{NodeView}

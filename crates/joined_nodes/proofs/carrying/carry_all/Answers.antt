@@ -1,5 +1,5 @@
 -- What the proof of `carrying::carry_all` needs beside the tactics.
-use Rattle.std.proofs.Common.{rules, ◌≡◌, ◌<◌, length, arith, subst}
+use Rattle.std.proofs.Common.{rules, ◌≡◌, ◌<◌, length, subst}
 use Rattle.joined_nodes.specs.Carrying.{AreCarriedTo}
 use Rattle.joined_nodes.proofs.CarriedAll.{one_more}
 use Rattle.joined_nodes.proofs.carrying.carry_all.Goals as goal

@@ -1,8 +1,6 @@
 -- What the proof of `carrying::carry_two` needs beside the tactics.
-use Rattle.std.proofs.Common.{◌≡◌, ◌≢◌, ◌<◌, List, length, get_or, Some, arith}
-use Rattle.std.specs.Prelude.{slice_get}
-use Rattle.repo_node.specs.Nodes.{NodeView}
-use Rattle.joined_nodes.proofs.Carried.{Laws, at_back, at_front, numbered_joined, parts_after}
+use Rattle.std.proofs.Common.{get_or, arith}
+use Rattle.joined_nodes.proofs.Carried.{at_back, at_front, numbered_joined, parts_after}
 use Rattle.joined_nodes.proofs.carrying.carry_two.Goals as goal
 
 pub carry_nodes-requires : goal.carry_nodes-requires

@@ -1,9 +1,8 @@
 -- What the proof of `making::add_all` needs beside the tactics.
-use Rattle.std.proofs.Common.{rules, ◌≡◌, ◌≤◌, ◌+◌, ◌∷◌, [], ◌++◌, List, length, refl, sym, ap, subst, ◌∙◌, append_assoc, append-nil, arith}
+use Rattle.std.proofs.Common.{◌≡◌, ◌∷◌, [], ◌++◌, length, sym, ap, ◌∙◌, append_assoc, arith}
 use Rattle.std.proofs.lemmas.List.{length-append}
 use Rattle.std.specs.Vec.Iter.{into_iter_items}
 use Rattle.repo_node.specs.Stored.{HasNothing}
-use Rattle.joined_nodes.specs.Making.{AreNewSoFar}
 use Rattle.joined_nodes.proofs.Made.{of_middle, one_new}
 use Rattle.joined_nodes.proofs.making.add_all.Goals as goal
 

@@ -1,5 +1,4 @@
 -- What the proof of `repos::are_apart` needs beside the tactics.
-use Rattle.std.proofs.Common.{refl}
 use Rattle.joined_nodes.proofs.Apart.{all_passed, one_again, one_passed}
 use Rattle.joined_nodes.proofs.repos.are_apart.Goals as goal
 

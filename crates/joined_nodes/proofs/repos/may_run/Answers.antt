@@ -1,5 +1,5 @@
 -- What the proof of `repos::may_run` needs beside the tactics.
-use Rattle.std.proofs.Common.{◌≡◌, sym, ◌∙◌, arith}
+use Rattle.std.proofs.Common.{sym, ◌∙◌}
 use Rattle.joined_nodes.proofs.Apart.{apart_pairs, pairs_apart}
 use Rattle.joined_nodes.proofs.repos.may_run.Goals as goal
 

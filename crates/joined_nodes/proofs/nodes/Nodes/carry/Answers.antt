@@ -1,5 +1,5 @@
 -- What the proof of `nodes::Nodes::carry` needs beside the tactics.
-use Rattle.std.proofs.Common.{rules, ◌≡◌, ◌<◌, ◌++◌, Some, length, take, drop, subst, sym, ap, ◌∙◌}
+use Rattle.std.proofs.Common.{length, subst, sym, ap, ◌∙◌}
 use Rattle.std.specs.Prelude.{slice_get}
 use Rattle.joined_nodes.specs.Carrying.{AreCarriedTo}
 use Rattle.joined_nodes.proofs.CarriedAll.{other_carried, other_links, written}

@@ -1,7 +1,6 @@
 -- What the proof of `nodes::Nodes::compact` needs beside the tactics.
-use Rattle.std.proofs.Common.{◌≡◌, ◌∷◌, [], refl, ap}
 use Rattle.joined_nodes.proofs.Staying.{at_node, others_stay, read_at}
-use Rattle.joined_nodes.proofs.Keeping.{Keeps, begin_keeps, compact_keeps, part_keeps, place_keeps, stay_paired, turn_setup, walk_keeps, write_keeps}
+use Rattle.joined_nodes.proofs.Keeping.{Keeps, compact_keeps, stay_paired, walk_keeps}
 use Rattle.std.specs.Map.{keys_of}
 use Rattle.repo_node.specs.Walks.{compact_files}
 use Rattle.joined_nodes.proofs.nodes.Nodes.compact.Goals as goal

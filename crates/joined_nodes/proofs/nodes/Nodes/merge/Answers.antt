@@ -1,10 +1,8 @@
 -- What the proof of `nodes::Nodes::merge` needs beside the tactics.
-use Rattle.std.proofs.Common.{◌≡◌, [], Some, refl, sym, ap, subst, ◌∙◌}
-use Rattle.std.specs.Prelude.{slice_get, IfErr, OnOk}
+use Rattle.std.proofs.Common.{◌≡◌, [], refl, sym, subst, ◌∙◌}
 use Rattle.std.proofs.lemmas.Option.{same_Some}
 use Rattle.std.proofs.lemmas.Result.{err_from_is_err_and}
 use Rattle.branch_bundle.specs.Bundle.{IsBundle}
-use Rattle.repo_node.specs.Nodes.{NodeView}
 use Rattle.repo_node.specs.Walks.{StopsAfter, merge_files}
 use Rattle.repo_node.specs.declared.refused.NodeRefused.TheVariants as refusals
 use Rattle.joined_nodes.proofs.Keeping.{Keeps, merge_keeps, stay_paired, walk_keeps}

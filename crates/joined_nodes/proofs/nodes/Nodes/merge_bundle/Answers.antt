@@ -1,5 +1,5 @@
 -- What the proof of `nodes::Nodes::merge_bundle` needs beside the tactics.
-use Rattle.std.proofs.Common.{◌≡◌, inl, inr, slice_set}
+use Rattle.std.proofs.Common.{inl, inr, slice_set}
 use Rattle.repo_node.specs.Walks.{merge_files}
 use Rattle.joined_nodes.specs.Joined.{AreNodes}
 use Rattle.joined_nodes.proofs.Bundles.{nodes_stable, told}

@@ -1,7 +1,6 @@
 -- What the proof of `nodes::Nodes::place_part` needs beside the tactics.
-use Rattle.std.proofs.Common.{◌≡◌, ◌∷◌, [], refl, ap}
 use Rattle.joined_nodes.proofs.Staying.{at_node, others_stay, read_at}
-use Rattle.joined_nodes.proofs.Keeping.{Keeps, begin_keeps, compact_keeps, part_keeps, place_keeps, stay_paired, turn_setup, walk_keeps, write_keeps}
+use Rattle.joined_nodes.proofs.Keeping.{Keeps, part_keeps, stay_paired}
 use Rattle.joined_nodes.proofs.nodes.Nodes.place_part.Goals as goal
 
 pub invariant_of-self : goal.invariant_of-self

@@ -1,7 +1,7 @@
 -- What the proof of `nodes::Nodes::write_raw` needs beside the tactics.
-use Rattle.std.proofs.Common.{◌≡◌, ◌∷◌, [], refl, ap}
+use Rattle.std.proofs.Common.{◌∷◌, []}
 use Rattle.joined_nodes.proofs.Staying.{at_node, others_stay, read_at}
-use Rattle.joined_nodes.proofs.Keeping.{Keeps, begin_keeps, compact_keeps, part_keeps, place_keeps, stay_paired, turn_setup, walk_keeps, write_keeps}
+use Rattle.joined_nodes.proofs.Keeping.{Keeps, stay_paired, write_keeps}
 use Rattle.run_data.specs.Files.{file_of}
 use Rattle.joined_nodes.proofs.nodes.Nodes.write_raw.Goals as goal
 
