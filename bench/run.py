@@ -220,6 +220,19 @@ def main():
         ("share", "rows, and 100,000 holds that are taken on another and released"),
     ):
         table(title, [(n, n, n) for n in (1, 10, 100, 1000, 10000, 100000)], lambda n: bench("lock_bench", work, n))
+    # a key that comes makes two entries of its node, and a history has at most 100,000
+    for beside, title, numbers in (
+        ("keys", "keys at a node", (10, 100, 1000, 10000, 45000)),
+        ("entries", "entries of a node, each a file of one line", (10, 100, 1000, 10000, 50000)),
+        ("lines", "lines of the trust log", (10, 100, 1000, 10000, 20000)),
+    ):
+        for work, times, done in (
+            ("turns", 0, ""),
+            ("turns", 100000, ", and 100,000 idle turns"),
+            ("drops", 500, ", and 500 drops that ask a peer"),
+            ("writes", 100, ", and 100 lines added to the trust log"),
+        ):
+            table(title + done, [(n, n, n) for n in numbers], lambda n: bench("node_bench", beside, n, work, times))
 
 
 if __name__ == "__main__":

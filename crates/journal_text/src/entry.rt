@@ -11,8 +11,8 @@ use run_data::{Entry, FrameView, RepoView};
 use run_text::put_name;
 use std::alloc::AllocError;
 
-/// Adds an entry; the entries before it stand in order.
-pub(crate) fn put_entry(
+/// Adds an entry as the journal has it; those before it stand in order, of which the text needs its own repository's alone (own).
+pub fn put_entry(
     out: &mut Vec<u8>,
     repos: &[RepoView],
     before: &[Entry],

@@ -7,4 +7,5 @@ mod frame;
 mod kind;
 mod run;
 
+pub use entry::put_entry;
 pub use run::journal;

@@ -1,0 +1,26 @@
+-- What the proof of `nodes::Nodes::place` needs beside the tactics.
+use Rattle.joined_nodes.proofs.Staying.{at_node, others_stay, read_at}
+use Rattle.joined_nodes.proofs.Keeping.{Keeps, place_keeps, stay_paired}
+use Rattle.joined_nodes.proofs.nodes.Nodes.place.Goals as goal
+
+pub invariant_of-self : goal.invariant_of-self
+invariant_of-self g c =
+    let keeps : Keeps c.index_mut.result.now c.place.new.self = place_keeps c.place.result c.args.key.now c.args.bytes.now (g.K.Keeper.contents c.index_mut.result.now.keeper) (g.K.Keeper.parts c.index_mut.result.now.keeper) (g.K.Keeper.contents c.place.new.self.keeper) c.index_mut.result.now c.place.new.self c.place.ensures.ok c.place.ensures.err in
+    c.nodes_stay_joined.ensures c.self.inside.nodes.items c.args.repo c.index_mut.result.now c.place.new.self c.self.invariant
+    (read_at c.args.self.now c.self.inside.nodes.items c.args.repo c.index_mut.result.now c.self.view_is c.requires.there c.index_mut.ensures.value)
+    keeps.setup (stay_paired c.index_mut.result.now c.place.new.self keeps)
+
+pub returns-clause-ok : goal.returns-clause-ok
+returns-clause-ok g c = at_node c.args.self.now c.self.inside.nodes.items c.args.repo c.index_mut.result.now c.place.new.self c.self.view_is c.requires.there c.index_mut.ensures.value _ c.place.ensures.ok
+
+pub returns-clause-err : goal.returns-clause-err
+returns-clause-err g c = at_node c.args.self.now c.self.inside.nodes.items c.args.repo c.index_mut.result.now c.place.new.self c.self.view_is c.requires.there c.index_mut.ensures.value _ c.place.ensures.err
+
+pub returns-clause-later : goal.returns-clause-later
+returns-clause-later g c = at_node c.args.self.now c.self.inside.nodes.items c.args.repo c.index_mut.result.now c.place.new.self c.self.view_is c.requires.there c.index_mut.ensures.value _ c.place.ensures.later
+
+pub returns-clause-cause : goal.returns-clause-cause
+returns-clause-cause g c = at_node c.args.self.now c.self.inside.nodes.items c.args.repo c.index_mut.result.now c.place.new.self c.self.view_is c.requires.there c.index_mut.ensures.value _ c.place.ensures.cause
+
+pub returns-clause-others : goal.returns-clause-others
+returns-clause-others g c = others_stay c.args.self.now c.self.inside.nodes.items c.args.repo c.place.new.self c.self.view_is

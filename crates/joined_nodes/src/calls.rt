@@ -1,0 +1,251 @@
+//! Calls of one of the nodes: each does what the node's own does, and leaves the others as they are.
+ghost use Rattle.std.specs.Prelude.{◌≡◌, ◌≢◌, ◌⊎◌, ℕ, ◌+◌, ◌≤◌, ◌<◌, ◌^◌, Bool, true, [], ◌∷◌, Err, None, Some, max, length, map, is_some, slice_get, IfOk, IfErr, IsErrOf, OnErr, OnOk};
+ghost use Rattle.std.specs.Map.{keys_of};
+ghost use Rattle.std.specs.Option.{ForSome, option_copied, option_map};
+ghost use Rattle.annex_base.specs.Causes.{Rose};
+ghost use Rattle.annex_base.specs.declared.kinds.Call.TheVariants as calls;
+ghost use Rattle.branch_bundle.specs.Bundle.{IsBundle, IsFirstWrong};
+ghost use Rattle.key_verify.specs.Matching.{MatchesKey};
+ghost use Rattle.link_ring.specs.Ends.{after_drop};
+ghost use Rattle.log_lines.specs.LineText.{HasLine, line_text};
+ghost use Rattle.node_ends.specs.Joined.{StayPaired};
+ghost use Rattle.node_jobs.specs.Acting.{with_job};
+ghost use Rattle.node_model.specs.SetUp.{SetUp};
+ghost use Rattle.node_model.specs.Step.{step};
+ghost use Rattle.object_store.specs.Calls.{one_more};
+ghost use Rattle.run_data.specs.Files.{file_of};
+ghost use Rattle.run_data.specs.declared.entry.EntryKind.TheVariants.{Begin};
+ghost use Rattle.union_merge.specs.Branch.{Files};
+ghost use Rattle.union_merge.specs.LineSet.{IsLine};
+ghost use Rattle.repo_node.specs.Logs.{IsLogOf, log_of, stamped_by, with_lines};
+ghost use Rattle.repo_node.specs.Nodes.{Fits, NodeView, told_of, with_entry};
+ghost use Rattle.repo_node.specs.Placing.{IsPlaced, IsTaken, PartAfter, StopsBefore, StopsPlacing};
+ghost use Rattle.repo_node.specs.Refusals.{RefusesSo, most_entries};
+ghost use Rattle.repo_node.specs.Turning.{Adds, HasStep, IsIdle, StepsBy};
+ghost use Rattle.repo_node.specs.Walks.{IsOfBundle, StopsAfter, compact_files, merge_files, over};
+ghost use Rattle.joined_nodes.specs.Joined.{AtNode};
+
+use crate::laws::nodes_stay_joined;
+use crate::nodes::Nodes;
+use annex_base::{Call, NoMemory};
+use annex_key::Key;
+use branch_bundle::bundles_are_exact;
+use log_lines::{Entry, LogKind};
+use object_store::{FailingKeeper, Keeper};
+use repo_node::{BeginRefused, NodeRefused, Turn};
+use run_data::{Job, JobKind};
+
+impl<K: Keeper> Nodes<K> {
+    /// Raises the time of a node, in milliseconds of the script, and its count of the last entry, as `Node::advance` does.
+    pub fn advance(&mut self, repo: usize, time: u64, count: u64)
+        requires there { repo < length self.old }
+        requires time { time ≤ 1000000000000 }
+        requires count { count < 2 ^ 62 }
+        ensures node { AtNode repo self.old self.new (λ was now. now ≡ record was { time = max was.time time; count = max was.count count }) }
+        ensures others { (i : ℕ) → i ≢ repo → slice_get self.new i ≡ slice_get self.old i }
+        ensures count { length self.new ≡ length self.old }
+    {
+        // A law, for the proof.
+        nodes_stay_joined::<K>();
+        self.nodes[repo].advance(time, count);
+    }
+
+    /// Begins a drop of a node's own copy, as `Node::begin` does.
+    pub fn begin(&mut self, repo: usize, job: Job) -> Result<u32, BeginRefused>
+        requires there { repo < length self.old }
+        requires kind { job.kind ≡ JobKind.Drop }
+        requires peer { job.peer ≡ None }
+        ensures number { AtNode repo self.old self.new (λ was now. IfOk result (λ number. number ≡ was.parts.jobs.begun + 1)) }
+        ensures ok { AtNode repo self.old self.new (λ was now. IfOk result (λ number. now ≡ record (with_entry was was.keeper was.branch (Begin number job) []) { parts = record was.parts { jobs = with_job was.parts.jobs job } })) }
+        ensures slot { AtNode repo self.old self.new (λ was now. IsErrOf result BeginRefused.NoSlot → 4 ≤ length was.parts.jobs.running) }
+        ensures free { AtNode repo self.old self.new (λ was now. (result ≡ Err BeginRefused.NoSlot → ⊥) → length was.parts.jobs.running < 4) }
+        ensures full { AtNode repo self.old self.new (λ was now. IsErrOf result BeginRefused.Full → length was.history ≡ most_entries) }
+        ensures err { AtNode repo self.old self.new (λ was now. OnErr result (now ≡ was)) }
+        ensures others { (i : ℕ) → i ≢ repo → slice_get self.new i ≡ slice_get self.old i }
+        ensures count { length self.new ≡ length self.old }
+    {
+        // A law, for the proof.
+        nodes_stay_joined::<K>();
+        self.nodes[repo].begin(job)
+    }
+
+    /// One turn of a node, as `Node::turn` makes it. What it sent stays on its way until frames are carried.
+    pub fn turn(&mut self, repo: usize) -> Turn
+        requires there { repo < length self.old }
+        ensures moved { AtNode repo self.old self.new (λ was now. result ≡ Turn.Moved → Adds (map after_drop was.parts.links) (K.faults was.keeper) (K.faults now.keeper) was now) }
+        ensures step { AtNode repo self.old self.new (λ was now. result ≡ Turn.Moved → ForSome (told_of (K.contents was.keeper) (K.parts was.keeper)) (λ c. StepsBy step was now)) }
+        ensures idle { AtNode repo self.old self.new (λ was now. result ≡ Turn.Idle → ForSome (told_of (K.contents was.keeper) (K.parts was.keeper)) (λ c. (s : SetUp) → Fits was.setup s → IsIdle was s)) }
+        ensures full { AtNode repo self.old self.new (λ was now. result ≡ Turn.Full → length was.history ≡ most_entries) }
+        ensures ready { AtNode repo self.old self.new (λ was now. result ≡ Turn.Full → ForSome (told_of (K.contents was.keeper) (K.parts was.keeper)) (λ c. (s : SetUp) → Fits was.setup s → HasStep was s)) }
+        ensures stays { AtNode repo self.old self.new (λ was now. result ≢ Turn.Moved → now ≡ record was { keeper = now.keeper; parts = record was.parts { links = map after_drop was.parts.links } }) }
+        ensures files { AtNode repo self.old self.new (λ was now. result ≢ Turn.Moved → K.files now.keeper ≡ K.files was.keeper) }
+        ensures unasked { AtNode repo self.old self.new (λ was now. result ≡ Turn.Full → now.keeper ≡ was.keeper) }
+        ensures told_parts { AtNode repo self.old self.new (λ was now. is_some (K.parts now.keeper) ≡ is_some (K.parts was.keeper)) }
+        ensures told_contents { AtNode repo self.old self.new (λ was now. is_some (K.parts was.keeper) ≡ true → is_some (K.contents now.keeper) ≡ is_some (K.contents was.keeper)) }
+        ensures paired { AtNode repo self.old self.new (λ was now. StayPaired was.parts.links now.parts.links) }
+        ensures later { AtNode repo self.old self.new (λ was now. K.faults was.keeper ≤ K.faults now.keeper) }
+        ensures others { (i : ℕ) → i ≢ repo → slice_get self.new i ≡ slice_get self.old i }
+        ensures count { length self.new ≡ length self.old }
+    {
+        // A law, for the proof.
+        nodes_stay_joined::<K>();
+        self.nodes[repo].turn()
+    }
+
+    /// Adds a line to a file of a node's branch, as `Node::write_raw` does.
+    pub fn write_raw(&mut self, repo: usize, path: &[u8], line: &[u8]) -> Result<(), NodeRefused>
+        requires there { repo < length self.old }
+        requires path { IsLine path.now }
+        requires line { IsLine line.now }
+        ensures ok { AtNode repo self.old self.new (λ was now. OnOk result (now ≡ with_lines was now.keeper (file_of path.now) (line.now ∷ []))) }
+        ensures err { AtNode repo self.old self.new (λ was now. IfErr result (λ e. RefusesSo e calls.PutFile was now)) }
+        ensures contents { AtNode repo self.old self.new (λ was now. K.contents now.keeper ≡ K.contents was.keeper) }
+        ensures parts { AtNode repo self.old self.new (λ was now. K.parts now.keeper ≡ K.parts was.keeper) }
+        ensures later { AtNode repo self.old self.new (λ was now. K.faults was.keeper ≤ K.faults now.keeper) }
+        ensures cause { AtNode repo self.old self.new (λ was now. IsErrOf result NodeRefused.StoreFault → Rose (K.faults was.keeper) (K.faults now.keeper)) }
+        ensures others { (i : ℕ) → i ≢ repo → slice_get self.new i ≡ slice_get self.old i }
+        ensures count { length self.new ≡ length self.old }
+    {
+        // A law, for the proof.
+        nodes_stay_joined::<K>();
+        self.nodes[repo].write_raw(path, line)
+    }
+
+    /// Adds an entry to a log of a node, as `Node::write_log` does.
+    pub fn write_log(
+        &mut self,
+        repo: usize,
+        kind: LogKind,
+        key: Option<&Key>,
+        entry: &Entry,
+    ) -> Result<(), NodeRefused>
+        requires there { repo < length self.old }
+        requires file { IsLogOf kind (option_copied key) }
+        requires line { (n : NodeView K) → slice_get self.old repo ≡ Some n → HasLine kind (stamped_by n kind (option_copied key) entry.now) }
+        requires short { (n : NodeView K) → slice_get self.old repo ≡ Some n → length (line_text kind (stamped_by n kind (option_copied key) entry.now)) ≤ 8192 }
+        ensures ok { AtNode repo self.old self.new (λ was now. OnOk result (now ≡ with_lines was now.keeper (log_of kind (option_copied key.entry)) (line_text kind (stamped_by was kind (option_copied key.entry) entry.now) ∷ []))) }
+        ensures err { AtNode repo self.old self.new (λ was now. IfErr result (λ e. RefusesSo e calls.PutFile was now)) }
+        ensures contents { AtNode repo self.old self.new (λ was now. K.contents now.keeper ≡ K.contents was.keeper) }
+        ensures parts { AtNode repo self.old self.new (λ was now. K.parts now.keeper ≡ K.parts was.keeper) }
+        ensures later { AtNode repo self.old self.new (λ was now. K.faults was.keeper ≤ K.faults now.keeper) }
+        ensures cause { AtNode repo self.old self.new (λ was now. IsErrOf result NodeRefused.StoreFault → Rose (K.faults was.keeper) (K.faults now.keeper)) }
+        ensures others { (i : ℕ) → i ≢ repo → slice_get self.new i ≡ slice_get self.old i }
+        ensures count { length self.new ≡ length self.old }
+    {
+        // A law, for the proof.
+        nodes_stay_joined::<K>();
+        self.nodes[repo].write_log(kind, key, entry)
+    }
+
+    /// Merges the branch of a node, as a bundle, into that of the node of number `repo`, as `Node::merge_bundle` does.
+    pub fn merge(&mut self, repo: usize, from: usize) -> Result<(), NodeRefused>
+        requires there { repo < length self.old }
+        requires other { from < length self.old }
+        ensures ok { (other : NodeView K) → slice_get self.old from ≡ Some other → AtNode repo self.old self.new (λ was now. OnOk result (now ≡ over now.keeper (merge_files was other.branch))) }
+        ensures err { (other : NodeView K) → slice_get self.old from ≡ Some other → AtNode repo self.old self.new (λ was now. IfErr result (λ e. StopsAfter (merge_files was) other.branch e now)) }
+        ensures contents { AtNode repo self.old self.new (λ was now. K.contents now.keeper ≡ K.contents was.keeper) }
+        ensures parts { AtNode repo self.old self.new (λ was now. K.parts now.keeper ≡ K.parts was.keeper) }
+        ensures later { AtNode repo self.old self.new (λ was now. K.faults was.keeper ≤ K.faults now.keeper) }
+        ensures cause { AtNode repo self.old self.new (λ was now. IsErrOf result NodeRefused.StoreFault → Rose (K.faults was.keeper) (K.faults now.keeper)) }
+        ensures others { (i : ℕ) → i ≢ repo → slice_get self.new i ≡ slice_get self.old i }
+        ensures count { length self.new ≡ length self.old }
+    {
+        // A law, for the proof.
+        nodes_stay_joined::<K>();
+        let bundle = self.nodes[from].bundle()?;
+        self.nodes[repo].merge_bundle(&bundle)
+    }
+
+    /// Merges a bundle into the branch of a node, as `Node::merge_bundle` does.
+    pub fn merge_bundle(&mut self, repo: usize, bytes: &[u8]) -> Result<(), NodeRefused>
+        requires there { repo < length self.old }
+        ensures found { OnOk result (IsOfBundle bytes.now) }
+        ensures ok { (files : Files) → IsBundle bytes.now files → AtNode repo self.old self.new (λ was now. OnOk result (now ≡ over now.keeper (merge_files was files))) }
+        ensures err { (files : Files) → IsBundle bytes.now files → AtNode repo self.old self.new (λ was now. IfErr result (λ e. StopsAfter (merge_files was) files e now)) }
+        ensures wrong { (at : ℕ) → result ≡ Err (NodeRefused.BadBundle at) → IsFirstWrong bytes.now at }
+        ensures first { (at : ℕ) → IsFirstWrong bytes.now at → (result ≡ Err (NodeRefused.BadBundle at)) ⊎ (result ≡ Err NodeRefused.NoMemory) }
+        ensures unread { (at : ℕ) → IsFirstWrong bytes.now at → AtNode repo self.old self.new (λ was now. now ≡ was) }
+        ensures contents { AtNode repo self.old self.new (λ was now. K.contents now.keeper ≡ K.contents was.keeper) }
+        ensures parts { AtNode repo self.old self.new (λ was now. K.parts now.keeper ≡ K.parts was.keeper) }
+        ensures later { AtNode repo self.old self.new (λ was now. K.faults was.keeper ≤ K.faults now.keeper) }
+        ensures cause { AtNode repo self.old self.new (λ was now. IsErrOf result NodeRefused.StoreFault → Rose (K.faults was.keeper) (K.faults now.keeper)) }
+        ensures others { (i : ℕ) → i ≢ repo → slice_get self.new i ≡ slice_get self.old i }
+        ensures count { length self.new ≡ length self.old }
+    {
+        // Laws, for the proof.
+        nodes_stay_joined::<K>();
+        bundles_are_exact();
+        self.nodes[repo].merge_bundle(bytes)
+    }
+
+    /// Takes the outdated lines of a node's files away, as `Node::compact` does.
+    pub fn compact(&mut self, repo: usize) -> Result<(), NodeRefused>
+        requires there { repo < length self.old }
+        ensures ok { AtNode repo self.old self.new (λ was now. OnOk result (now ≡ over now.keeper (compact_files was (keys_of was.branch)))) }
+        ensures err { AtNode repo self.old self.new (λ was now. IfErr result (λ e. StopsAfter (compact_files was) (keys_of was.branch) e now)) }
+        ensures contents { AtNode repo self.old self.new (λ was now. K.contents now.keeper ≡ K.contents was.keeper) }
+        ensures parts { AtNode repo self.old self.new (λ was now. K.parts now.keeper ≡ K.parts was.keeper) }
+        ensures later { AtNode repo self.old self.new (λ was now. K.faults was.keeper ≤ K.faults now.keeper) }
+        ensures cause { AtNode repo self.old self.new (λ was now. IsErrOf result NodeRefused.StoreFault → Rose (K.faults was.keeper) (K.faults now.keeper)) }
+        ensures others { (i : ℕ) → i ≢ repo → slice_get self.new i ≡ slice_get self.old i }
+        ensures count { length self.new ≡ length self.old }
+    {
+        // A law, for the proof.
+        nodes_stay_joined::<K>();
+        self.nodes[repo].compact()
+    }
+
+    /// Places a content at a node, as `Node::place` does.
+    pub fn place(&mut self, repo: usize, key: &Key, bytes: &[u8]) -> Result<(), NodeRefused>
+        requires there { repo < length self.old }
+        requires right { MatchesKey key.now bytes.now }
+        ensures ok { AtNode repo self.old self.new (λ was now. OnOk result (IsPlaced key.now bytes.now (K.contents was.keeper) (K.parts was.keeper) (K.contents now.keeper) was now)) }
+        ensures err { AtNode repo self.old self.new (λ was now. IfErr result (λ e. StopsPlacing key.now bytes.now (K.contents was.keeper) (K.parts was.keeper) (K.contents now.keeper) e was now)) }
+        ensures later { AtNode repo self.old self.new (λ was now. K.faults was.keeper ≤ K.faults now.keeper) }
+        ensures cause { AtNode repo self.old self.new (λ was now. IsErrOf result NodeRefused.StoreFault → Rose (K.faults was.keeper) (K.faults now.keeper)) }
+        ensures others { (i : ℕ) → i ≢ repo → slice_get self.new i ≡ slice_get self.old i }
+        ensures count { length self.new ≡ length self.old }
+    {
+        // A law, for the proof.
+        nodes_stay_joined::<K>();
+        self.nodes[repo].place(key, bytes)
+    }
+
+    /// Replaces a part at a node, as `Node::place_part` does.
+    pub fn place_part(&mut self, repo: usize, key: &Key, bytes: &[u8]) -> Result<(), NodeRefused>
+        requires there { repo < length self.old }
+        ensures ok { AtNode repo self.old self.new (λ was now. OnOk result (now ≡ over now.keeper was)) }
+        ensures part { AtNode repo self.old self.new (λ was now. OnOk result ((taken : Bool) × IsTaken taken (K.contents was.keeper) was.parts.table key.now × PartAfter taken key.now bytes.now (K.parts was.keeper) (K.parts now.keeper))) }
+        ensures err { AtNode repo self.old self.new (λ was now. IfErr result (λ e. StopsBefore e was now)) }
+        ensures contents { AtNode repo self.old self.new (λ was now. K.contents now.keeper ≡ K.contents was.keeper) }
+        ensures later { AtNode repo self.old self.new (λ was now. K.faults was.keeper ≤ K.faults now.keeper) }
+        ensures cause { AtNode repo self.old self.new (λ was now. IsErrOf result NodeRefused.StoreFault → Rose (K.faults was.keeper) (K.faults now.keeper)) }
+        ensures others { (i : ℕ) → i ≢ repo → slice_get self.new i ≡ slice_get self.old i }
+        ensures count { length self.new ≡ length self.old }
+    {
+        // A law, for the proof.
+        nodes_stay_joined::<K>();
+        self.nodes[repo].place_part(key, bytes)
+    }
+}
+
+impl<K: FailingKeeper> Nodes<K> {
+    /// Lets one more of the next calls of this kind of a node's store fail, as `Node::fail_next` does.
+    pub fn fail_next(&mut self, repo: usize, call: Call) -> Result<(), NoMemory>
+        requires there { repo < length self.old }
+        ensures ok { AtNode repo self.old self.new (λ was now. OnOk result (K.failing now.keeper ≡ option_map (one_more call) (K.failing was.keeper))) }
+        ensures err { AtNode repo self.old self.new (λ was now. OnErr result (K.failing now.keeper ≡ K.failing was.keeper)) }
+        ensures contents { AtNode repo self.old self.new (λ was now. K.contents now.keeper ≡ K.contents was.keeper) }
+        ensures parts { AtNode repo self.old self.new (λ was now. K.parts now.keeper ≡ K.parts was.keeper) }
+        ensures records { AtNode repo self.old self.new (λ was now. K.records now.keeper ≡ K.records was.keeper) }
+        ensures files { AtNode repo self.old self.new (λ was now. K.files now.keeper ≡ K.files was.keeper) }
+        ensures faults { AtNode repo self.old self.new (λ was now. K.faults now.keeper ≡ K.faults was.keeper) }
+        ensures rest { AtNode repo self.old self.new (λ was now. now ≡ record was { keeper = now.keeper }) }
+        ensures others { (i : ℕ) → i ≢ repo → slice_get self.new i ≡ slice_get self.old i }
+        ensures count { length self.new ≡ length self.old }
+    {
+        // A law, for the proof.
+        nodes_stay_joined::<K>();
+        self.nodes[repo].fail_next(call)
+    }
+}

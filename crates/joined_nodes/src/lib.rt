@@ -1,0 +1,12 @@
+//! The nodes of a run, each two of which are joined.
+#![tactic(auto)]
+
+mod calls;
+mod carrying;
+mod laws;
+mod making;
+mod nodes;
+mod repos;
+
+pub use nodes::Nodes;
+pub use repos::may_run;
