@@ -15,13 +15,12 @@ use Rattle.node_model.specs.State.{State}
 use Rattle.node_model.specs.Step.{step}
 use Rattle.node_model.specs.Turns.{job_step}
 use Rattle.repo_node.specs.declared.turn.Turn.TheVariants as turns
-use Rattle.repo_node.specs.Nodes.{Fits, IsState, NodeView, state_of, told_of}
+use Rattle.repo_node.specs.Nodes.{Fits, IsState, NodeView, state_of}
 use Rattle.repo_node.specs.Owing.{is_owing}
 use Rattle.repo_node.specs.Stepping.{AddsIf, MovesSo, NoStep, ReadySo}
 use Rattle.repo_node.specs.Stored.{TellsSame}
 use Rattle.repo_node.specs.Turning.{HasStep, IsIdle, Looks, Stepper, StepsBy}
 use Rattle.repo_node.specs.Turns.{turn_full, turn_made}
-use Rattle.repo_node.proofs.StepLemmas.{told_known, told_some}
 
 -- ---- a line that is owed comes first
 
