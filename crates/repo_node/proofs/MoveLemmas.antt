@@ -106,6 +106,10 @@ branch_stays b (Log file) quiet =
     absurd (one_line (sym (quiet.lines (file_path file) [] ((0 ∷ []) ∷ [])) ∙ ap (λ (t : Bool). if t then union [] ((0 ∷ []) ∷ []) else []) (bytes_eq-refl (file_path file))))
 branch_stays b _ quiet = refl
 
+-- over the same store, the node is the same
+keeper_same : {K : Type 0} (k k' : K) (n : NodeView K) → k ≡ n.keeper → k' ≡ k → record n { keeper = k' } ≡ n
+keeper_same {K} k k' n here same = ap (λ (x : K). record n { keeper = x }) (same ∙ here)
+
 adds_entry : {K : Type 0} (d : Done) (k k' : K) (parts parts' : PartsView) (branch : Files) (number : ℕ) (was now : Past) (owed owed' : List Owed) (faults faults' : ℕ)
     → EntersStep d was now → Leaves number parts parts' d → PostsIn was parts parts' d → GoOn parts parts' d → IsQuiet d.kind → IfSome (failed_in d.kind) (λ call. Rose faults faults') → Adds parts.links faults faults' (seen k parts branch was owed) (seen k' parts' branch now owed')
 adds_entry d k k' parts parts' branch number was now owed owed' faults faults' enters leaves posts goes quiet cause = record {
@@ -126,12 +130,12 @@ adds_entry d k k' parts parts' branch number was now owed owed' faults faults' e
 }
 
 pub adds_if : {K : Type 0} (o : Option Done) (b : Bool) (k k' : K) (parts parts' : PartsView) (branch : Files) (number : ℕ) (was ready now : Past) (debts debts' : List ℕ) (owed owed' : List Owed) (faults : K → ℕ) (faults' : ℕ) (n : NodeView K)
-    → seen k parts branch was owed ≡ n → b ≡ is_some o → SamePast was ready → EntersIf o ready now debts debts' → LeavesSo number parts parts' o → ForSome o (PostsIn was parts parts') → ForSome o (GoOn parts parts') → ForSome o (λ d. IsQuiet d.kind) → IfSome (failed_by o) (λ call. Rose (faults k) faults') → (o ≡ None → owed' ≡ owed)
+    → seen k parts branch was owed ≡ n → b ≡ is_some o → SamePast was ready → EntersIf o ready now debts debts' → LeavesSo number parts parts' o → ForSome o (PostsIn was parts parts') → ForSome o (GoOn parts parts') → ForSome o (λ d. IsQuiet d.kind) → IfSome (failed_by o) (λ call. Rose (faults k) faults') → (o ≡ None → owed' ≡ owed) → (o ≡ None → k' ≡ k)
     → AddsIf b n.parts.links (faults n.keeper) faults' n (seen k' parts' branch now owed')
-adds_if {K} None b k k' parts parts' branch number was ready now debts debts' owed owed' faults faults' n view made same enters leaves posts goes quiet cause stays =
+adds_if {K} None b k k' parts parts' branch number was ready now debts debts' owed owed' faults faults' n view made same enters leaves posts goes quiet cause stays unasked =
     subst (λ (x : Bool). AddsIf x n.parts.links (faults n.keeper) faults' n (seen k' parts' branch now owed')) (sym made)
-    (seen_same k k' parts parts' branch was now owed owed' n view leaves (subst (SamePast was) (sym enters.0) same) (stays refl))
-adds_if {K} (Some d) b k k' parts parts' branch number was ready now debts debts' owed owed' faults faults' n view made same enters leaves posts goes quiet cause stays =
+    (seen_same k k' parts parts' branch was now owed owed' n view leaves (subst (SamePast was) (sym enters.0) same) (stays refl) ∙ keeper_same k k' n (ap (λ (m : NodeView K). m.keeper) view) (unasked refl))
+adds_if {K} (Some d) b k k' parts parts' branch number was ready now debts debts' owed owed' faults faults' n view made same enters leaves posts goes quiet cause stays unasked =
     subst (λ (x : Bool). AddsIf x n.parts.links (faults n.keeper) faults' n (seen k' parts' branch now owed')) (sym made)
     (subst (λ (m : NodeView K). Adds m.parts.links (faults m.keeper) faults' m (seen k' parts' branch now owed')) view
     (adds_entry d k k' parts parts' branch number was now owed owed' (faults k) faults' (enters_after d was ready now same enters.0) leaves (posts d refl) (goes d refl) (quiet d refl) cause))
@@ -260,8 +264,3 @@ pub posts_at : (m : Moment) (was ready : Past) (parts parts' : PartsView) (o : O
 posts_at m was ready parts parts' o at same place posts d is =
     subst (λ (p : PlaceView). Posts (record { time = was.time; count = was.count + 1; repo = p.number }) d.kind parts.links parts'.links d.taken d.sent) place
     (subst (λ (x : Moment). Posts (stamp_of x parts.jobs.place.number) d.kind parts.links parts'.links d.taken d.sent) (at ∙ moment_same was ready same) (posts d is))
-
--- no step was made
-pub none_made : (o : Option Done) (b : Bool) → b ≡ is_some o → b ≡ false → o ≡ None
-none_made None b made none = refl
-none_made (Some d) b made none = absurd cc

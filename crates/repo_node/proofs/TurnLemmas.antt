@@ -1,13 +1,9 @@
 -- A turn of a node, from its steps.
-use Rattle.std.proofs.Common.{◌≡◌, ◌≢◌, ℕ, ◌≤◌, Bool, true, false, List, [], ◌∷◌, Option, Some, None, Result, Ok, Err, IfOk, OnErr, map, is_some, refl, ap, subst, arith, ◌∙◌}
-use Rattle.std.specs.Prelude.{IfSome}
+use Rattle.std.proofs.Common.{◌≡◌, ◌≢◌, ℕ, Bool, true, false, List, [], ◌∷◌, Option, Some, None, Result, Ok, Err, IfOk, OnErr, map, is_some, refl, ap, subst, ◌∙◌}
 use Rattle.std.specs.Option.{ForSome}
-use Rattle.annex_base.specs.Causes.{Rose}
-use Rattle.annex_base.specs.declared.kinds.Call.{Call}
 use Rattle.annex_base.specs.declared.memory.NoMemory.{NoMemory}
 use Rattle.object_store.specs.declared.keeper.HoldRecord.{HoldRecord}
 use Rattle.object_store.specs.Stores.{Contents, Files as StoredFiles, Parts as StoredParts}
-use Rattle.drop_worker.specs.Working.{failed_in}
 use Rattle.link_ring.specs.Ends.{EndView, after_drop}
 use Rattle.node_ends.specs.Ends.{SeesEnds}
 use Rattle.node_model.specs.Look.{Look, Made, first_of}
@@ -19,26 +15,12 @@ use Rattle.node_model.specs.State.{State}
 use Rattle.node_model.specs.Step.{step}
 use Rattle.node_model.specs.Turns.{job_step}
 use Rattle.repo_node.specs.declared.turn.Turn.TheVariants as turns
-use Rattle.repo_node.specs.Nodes.{Fits, IsState, NodeView, state_of, told_of}
+use Rattle.repo_node.specs.Nodes.{Fits, IsState, NodeView, state_of}
 use Rattle.repo_node.specs.Owing.{is_owing}
 use Rattle.repo_node.specs.Stepping.{AddsIf, MovesSo, NoStep, ReadySo}
 use Rattle.repo_node.specs.Stored.{TellsSame}
-use Rattle.repo_node.specs.Turning.{Adds, HasStep, IsIdle, Looks, Stepper, StepsBy}
+use Rattle.repo_node.specs.Turning.{HasStep, IsIdle, Looks, Stepper, StepsBy}
 use Rattle.repo_node.specs.Turns.{turn_full, turn_made}
-use Rattle.repo_node.proofs.StepLemmas.{told_known, told_some}
-
--- ---- what is told
-
-some_of : (o : Option Contents) → is_some o ≡ true → (c : Contents) × (o ≡ Some c)
-some_of None told = absurd cc
-some_of (Some c) told = (c, refl)
-
--- what was told before a step is told after it
-pub told_after : (cs cs' : Option Contents) (qs qs' : Option StoredParts) (c : Contents) → is_some qs' ≡ is_some qs → (is_some qs ≡ true → is_some cs' ≡ is_some cs) → told_of cs qs ≡ Some c → (c' : Contents) × (told_of cs' qs' ≡ Some c')
-told_after cs cs' qs qs' c parts contents told =
-    let was = told_some cs qs c told in
-    let found = some_of cs' (contents was.1 ∙ ap (λ (o : Option Contents). is_some o) was.0) in
-    (found.0, told_known cs' qs' found.0 found.1 (parts ∙ was.1))
 
 -- ---- a line that is owed comes first
 
@@ -100,25 +82,6 @@ acted_same : {K : Type 0} (b : Bool) (n m : NodeView K) → Owes n → is_owing 
 acted_same true n m owes none idle moves = steps_first job_step n m (λ s k it fits looks is. job_is n owes none idle s k fits looks ∙ is) moves
 acted_same false n m owes none idle moves = λ s k fits looks. job_is n owes none idle s k fits looks ∙ moves s k fits looks
 
--- ---- over a store that was asked
-
-looks_over : {K : Type 0} (n : NodeView K) (x : K) (s : SetUp) (k : Look) → Looks n s k → Looks (record n { keeper = x }) s k
-looks_over n x s k looks = record { ends = looks.ends; time = looks.time; count = looks.count }
-
-moves_over : {K : Type 0} (b : Bool) (first : Stepper) (n m : NodeView K) (x : K) → MovesSo b first (record n { keeper = x }) m → MovesSo b first n m
-moves_over true first n m x by = record {
-  kind = by.kind;
-  part = by.part;
-  right = by.right;
-  makes = λ s k fits looks fails part right words.
-      let it = by.makes s k fits (looks_over n x s k looks) fails part right words in
-      record { made = it.made; same = it.same; makes = it.makes; adds = it.adds };
-}
-moves_over false first n m x idle = λ s k fits looks. idle s k fits (looks_over n x s k looks)
-
-pub moves_acted : {K : Type 0} (b : Bool) (n n' m : NodeView K) → n' ≡ record n { keeper = n'.keeper } → Owes n → is_owing n.owed ≡ false → NoStep session_step n → MovesSo b job_step n' m → MovesSo b step n m
-moves_acted {K} b n n' m same owes none idle moves = acted_same b n m owes none idle (moves_over b job_step n m n'.keeper (subst (λ (x : NodeView K). MovesSo b job_step x m) same moves))
-
 -- ---- a step is ready
 
 pub ready_owed : {K : Type 0} (n : NodeView K) → Owes n → is_owing n.owed ≡ true → ReadySo true step n
@@ -174,10 +137,10 @@ full_idle P (Ok true) is p = absurd cc
 full_idle P (Ok false) is p = p
 full_idle P (Err e) is p = absurd cc
 
-pub where_unasked : {P : Type 0} (r : Result Bool NoMemory) → turn_made r ≢ turns.Moved → turn_made r ≢ turns.NoMemory → IfOk r (λ b. b ≡ false → P) → P
-where_unasked (Ok true) other short said = absurd (other refl)
-where_unasked (Ok false) other short said = said refl
-where_unasked (Err e) other short said = absurd (short refl)
+pub where_still : {K : Type 0} (r : Result Bool NoMemory) (links : List EndView) (f f' : ℕ) (n m : NodeView K) → turn_made r ≢ turns.Moved → turn_made r ≢ turns.NoMemory → IfOk r (λ b. AddsIf b links f f' n m) → m ≡ n
+where_still (Ok true) links f f' n m other short adds = absurd (other refl)
+where_still (Ok false) links f f' n m other short adds = adds
+where_still (Err e) links f f' n m other short adds = absurd (short refl)
 
 pub where_short : {P : Type 0} (r : Result Bool NoMemory) → turn_made r ≡ turns.NoMemory → OnErr r P → P
 where_short (Ok true) is said = absurd cc
@@ -227,12 +190,14 @@ pub first_served : {K : Type 0} (b : Bool) (n m : NodeView K) (told : Option Con
 first_served b n m told is none made moves = λ c known.
     served_first n m (owes_told n told c is known) none (subst (λ (x : Bool). MovesSo x session_step n m) made (moves c known))
 
-pub then_acted : {K : Type 0} (r : Result Bool NoMemory) (b : Bool) (n n' m : NodeView K) (cs cs' : Option Contents) (qs qs' : Option StoredParts) (links : List EndView) (f f' : ℕ)
-    → ((s : SetUp) → Fits n.setup s → IsState s n.parts n.branch n.owed (told_of cs qs) (state_of s n.history)) → is_owing n.owed ≡ false → b ≡ false
-    → ForSome (told_of cs qs) (λ c. MovesSo b session_step n n') → AddsIf b links f f' n n' → is_some qs' ≡ is_some qs → (is_some qs ≡ true → is_some cs' ≡ is_some cs)
-    → IfOk r (λ x. ForSome (told_of cs' qs') (λ c. MovesSo x job_step n' m)) → IfOk r (λ x. ForSome (told_of cs qs) (λ c. MovesSo x step n m))
-then_acted {K} (Ok x) b n n' m cs cs' qs qs' links f f' is none made idle adds parts contents moves = λ c known.
-    let after = told_after cs cs' qs qs' c parts contents known in
-    let over : n' ≡ record n { keeper = n'.keeper } = subst (λ (y : Bool). AddsIf y links f f' n n') made adds in
-    moves_acted x n n' m over (owes_told n (told_of cs qs) c is known) none (subst (λ (y : Bool). MovesSo y session_step n n') made (idle c known)) (moves after.0 after.1)
-then_acted (Err e) b n n' m cs cs' qs qs' links f f' is none made idle adds parts contents moves = tt
+pub still_is : {K : Type 0} (b : Bool) (links : List EndView) (f f' : ℕ) (n m : NodeView K) → b ≡ false → AddsIf b links f f' n m → m ≡ n
+still_is {K} b links f f' n m made adds = subst (λ (x : Bool). AddsIf x links f f' n m) made adds
+
+pub then_acted : {K : Type 0} (r : Result Bool NoMemory) (b : Bool) (n n' m : NodeView K) (told told' : Option Contents)
+    → ((s : SetUp) → Fits n.setup s → IsState s n.parts n.branch n.owed told (state_of s n.history)) → is_owing n.owed ≡ false → b ≡ false
+    → ForSome told (λ c. MovesSo b session_step n n') → n' ≡ n → told' ≡ told
+    → IfOk r (λ x. ForSome told' (λ c. MovesSo x job_step n' m)) → IfOk r (λ x. ForSome told (λ c. MovesSo x step n m))
+then_acted {K} (Ok x) b n n' m told told' is none made idle same tells moves = λ c known.
+    acted_same x n m (owes_told n told c is known) none (subst (λ (y : Bool). MovesSo y session_step n n') made (idle c known))
+    (subst (λ (v : NodeView K). MovesSo x job_step v m) same (moves c (tells ∙ known)))
+then_acted (Err e) b n n' m told told' is none made idle same tells moves = tt

@@ -25,10 +25,10 @@ MovesSo false step was now = NoStep step was
 abbrev pub ReadySo : {K : Type 0} → Bool → Stepper → NodeView K → Type 0
 ReadySo b step n = (s : SetUp) (k : Look) → Fits n.setup s → Looks n s k → is_some (step s (state_of s n.history) k) ≡ b
 
--- where a step was made, there is its entry; else the store was asked
+-- where a step was made, there is its entry; else the node is as it was
 abbrev pub AddsIf : {K : Type 0} → Bool → List EndView → ℕ → ℕ → NodeView K → NodeView K → Type 0
 AddsIf true links faults faults' was now = Adds links faults faults' was now
-AddsIf false links faults faults' was now = now ≡ record was { keeper = now.keeper }
+AddsIf false links faults faults' was now = now ≡ was
 
 -- ---- what is noted of its entry
 

@@ -52,7 +52,6 @@ impl<K: Keeper> Node<K> {
         ensures step { IfOk result (λ b. ForSome (told_of (K.contents self.old.keeper) (K.parts self.old.keeper)) (λ c. MovesSo b step self.old self.new)) }
         ensures told_parts { is_some (K.parts self.new.keeper) ≡ is_some (K.parts self.old.keeper) }
         ensures told_contents { is_some (K.parts self.old.keeper) ≡ true → is_some (K.contents self.new.keeper) ≡ is_some (K.contents self.old.keeper) }
-        ensures unasked { IfOk result (λ b. b ≡ false → self.new.keeper ≡ self.old.keeper) }
         ensures err_store { OnErr result (TellsSame (K.contents self.old.keeper) (K.contents self.new.keeper) (K.parts self.old.keeper) (K.parts self.new.keeper) (K.records self.old.keeper) (K.records self.new.keeper) (K.files self.old.keeper) (K.files self.new.keeper)) }
         ensures paired { StayPaired self.old.parts.links self.new.parts.links }
         ensures later { K.faults self.old.keeper ≤ K.faults self.new.keeper }
@@ -78,7 +77,6 @@ impl<K: Keeper> Node<K> {
         ensures step { IfOk result (λ b. ForSome (told_of (K.contents self.old.keeper) (K.parts self.old.keeper)) (λ c. MovesSo b owed_step self.old self.new)) }
         ensures contents { K.contents self.new.keeper ≡ K.contents self.old.keeper }
         ensures parts { K.parts self.new.keeper ≡ K.parts self.old.keeper }
-        ensures unasked { IfOk result (λ b. b ≡ false → self.new.keeper ≡ self.old.keeper) }
         ensures err_store { OnErr result (TellsSame (K.contents self.old.keeper) (K.contents self.new.keeper) (K.parts self.old.keeper) (K.parts self.new.keeper) (K.records self.old.keeper) (K.records self.new.keeper) (K.files self.old.keeper) (K.files self.new.keeper)) }
         ensures links { self.new.parts ≡ self.old.parts }
         ensures later { K.faults self.old.keeper ≤ K.faults self.new.keeper }
@@ -103,7 +101,6 @@ impl<K: Keeper> Node<K> {
         ensures step { IfOk result (λ b. ForSome (told_of (K.contents self.old.keeper) (K.parts self.old.keeper)) (λ c. MovesSo b session_step self.old self.new)) }
         ensures told_parts { is_some (K.parts self.new.keeper) ≡ is_some (K.parts self.old.keeper) }
         ensures told_contents { is_some (K.parts self.old.keeper) ≡ true → is_some (K.contents self.new.keeper) ≡ is_some (K.contents self.old.keeper) }
-        ensures unasked { IfOk result (λ b. b ≡ false → self.new.keeper ≡ self.old.keeper) }
         ensures err_store { OnErr result (TellsSame (K.contents self.old.keeper) (K.contents self.new.keeper) (K.parts self.old.keeper) (K.parts self.new.keeper) (K.records self.old.keeper) (K.records self.new.keeper) (K.files self.old.keeper) (K.files self.new.keeper)) }
         ensures paired { StayPaired self.old.parts.links self.new.parts.links }
         ensures later { K.faults self.old.keeper ≤ K.faults self.new.keeper }
@@ -127,7 +124,6 @@ impl<K: Keeper> Node<K> {
         ensures step { IfOk result (λ b. ForSome (told_of (K.contents self.old.keeper) (K.parts self.old.keeper)) (λ c. MovesSo b job_step self.old self.new)) }
         ensures told_parts { is_some (K.parts self.new.keeper) ≡ is_some (K.parts self.old.keeper) }
         ensures told_contents { is_some (K.contents self.new.keeper) ≡ is_some (K.contents self.old.keeper) }
-        ensures unasked { IfOk result (λ b. b ≡ false → self.new.keeper ≡ self.old.keeper) }
         ensures err_store { OnErr result (TellsSame (K.contents self.old.keeper) (K.contents self.new.keeper) (K.parts self.old.keeper) (K.parts self.new.keeper) (K.records self.old.keeper) (K.records self.new.keeper) (K.files self.old.keeper) (K.files self.new.keeper)) }
         ensures paired { StayPaired self.old.parts.links self.new.parts.links }
         ensures later { K.faults self.old.keeper ≤ K.faults self.new.keeper }

@@ -5,7 +5,7 @@ use Rattle.node_jobs.specs.Running.{Jobs}
 use Rattle.repo_node.specs.Nodes.{told_of}
 use Rattle.repo_node.specs.Owing.{is_owing}
 use Rattle.repo_node.proofs.BeginLemmas.{fed_after}
-use Rattle.repo_node.proofs.MoveLemmas.{adds_if, leaves_at, none_made, posts_at, served_does, steps_if}
+use Rattle.repo_node.proofs.MoveLemmas.{adds_if, leaves_at, posts_at, served_does, steps_if}
 use Rattle.repo_node.proofs.NoteLemmas.{debts_if, kept_if, owed_if_none}
 use Rattle.repo_node.proofs.OwedLemmas.{owed_in}
 use Rattle.repo_node.proofs.TurnLemmas.{none_owing}
@@ -42,7 +42,7 @@ returns-clause-adds g c =
     adds_if it.done e.result i.keeper w.new.keeper i.parts w.new.self i.branch c.moment-moment.result.number i.past room.new.past e.new.past room.new.debts.items e.new.debts.items (owed_in i.past i.debts.items) (owed_in e.new.past e.new.debts.items)
     g.K.Keeper.faults (g.K.Keeper.faults w.new.keeper) c.args.self.now c.self.view_is e.ensures.made room.ensures.same e.ensures.enters it.ensures.leaves
     (posts_at c.moment-moment.result i.past room.new.past i.parts w.new.self it.done c.moment-moment.ensures room.ensures.same c.self.invariant.0.place it.ensures.posts) (λ d is. inl w.ensures.place) it.ensures.kind it.ensures.cause
-    (owed_if_none it.done i.past room.new.past e.new.past i.debts.items room.new.debts.items e.new.debts.items room.ensures.same room.ensures.same_debts e.ensures.enters c.self.invariant.4)
+    (owed_if_none it.done i.past room.new.past e.new.past i.debts.items room.new.debts.items e.new.debts.items room.ensures.same room.ensures.same_debts e.ensures.enters c.self.invariant.4) it.ensures.unasked
 
 pub returns-clause-step : goal.returns-clause-step
 returns-clause-step g c =
@@ -57,7 +57,3 @@ returns-clause-step g c =
     (g.K.Keeper.contents i.keeper) (g.K.Keeper.contents w.new.keeper) (g.K.Keeper.parts i.keeper) c.args.self.now c.self.view_is e.ensures.made room.ensures.same e.ensures.enters c.self.invariant.0
     (served_does at.result i.past room.new.past i.parts w.new.self (g.K.Keeper.contents i.keeper) (g.K.Keeper.contents w.new.keeper) (g.K.Keeper.parts i.keeper) it.done at.ensures room.ensures.same c.self.invariant.5 it.ensures.step)
     x (ap (λ v. told_of (g.K.Keeper.contents v.keeper) (g.K.Keeper.parts v.keeper)) c.self.view_is ∙ told)
-
-pub returns-clause-unasked : goal.returns-clause-unasked
-returns-clause-unasked g c = λ none.
-    c.in_ok-done.ensures.unasked (none_made c.in_ok-done.done c.enter_if.result c.enter_if.ensures.made none) ∙ ap (λ v. v.keeper) c.self.view_is

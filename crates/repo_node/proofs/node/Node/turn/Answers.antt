@@ -2,7 +2,7 @@
 use Rattle.std.proofs.Common.{sym, ap, subst, ◌∙◌}
 use Rattle.repo_node.specs.Nodes.{told_of}
 use Rattle.repo_node.specs.Stored.{TellsSame}
-use Rattle.repo_node.proofs.TurnLemmas.{full_idles, full_steps, tells_same, turn_idle, turn_steps, where_short, where_unasked}
+use Rattle.repo_node.proofs.TurnLemmas.{full_idles, full_steps, tells_same, turn_idle, turn_steps, where_short, where_still}
 use Rattle.repo_node.proofs.node.Node.turn.Goals as goal
 
 pub returns-then-is_full-clause-idle : goal.returns-then-is_full-clause-idle
@@ -39,7 +39,9 @@ returns-then-is_full-clause-short g c = λ is.
 
 pub returns-clause-unasked : goal.returns-clause-unasked
 returns-clause-unasked g c = λ other short.
-    where_unasked c.step.result (λ is. other (c.turn_of.ensures ∙ is)) (λ is. short (c.turn_of.ensures ∙ is)) c.step.ensures.unasked ∙ ap (λ v. v.keeper) c.drop_old.ensures.links
+    let d = c.drop_old.new.self in
+    let m = c.step.new.self in
+    ap (λ v. v.keeper) (where_still c.step.result d.parts.links (g.K.Keeper.faults d.keeper) (g.K.Keeper.faults m.keeper) d m (λ is. other (c.turn_of.ensures ∙ is)) (λ is. short (c.turn_of.ensures ∙ is)) c.step.ensures.adds ∙ c.drop_old.ensures.links)
 
 pub returns-clause-short : goal.returns-clause-short
 returns-clause-short g c = λ is.
