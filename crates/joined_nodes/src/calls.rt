@@ -21,6 +21,7 @@ ghost use Rattle.repo_node.specs.Logs.{IsLogOf, log_of, stamped_by, with_lines};
 ghost use Rattle.repo_node.specs.Nodes.{Fits, NodeView, told_of, with_entry};
 ghost use Rattle.repo_node.specs.Placing.{IsPlaced, IsTaken, PartAfter, StopsBefore, StopsPlacing};
 ghost use Rattle.repo_node.specs.Refusals.{RefusesSo, most_entries};
+ghost use Rattle.repo_node.specs.Stored.{TellsSame};
 ghost use Rattle.repo_node.specs.Turning.{Adds, HasStep, IsIdle, StepsBy};
 ghost use Rattle.repo_node.specs.Walks.{IsOfBundle, StopsAfter, compact_files, merge_files, over};
 ghost use Rattle.joined_nodes.specs.Joined.{AtNode};
@@ -78,8 +79,8 @@ impl<K: Keeper> Nodes<K> {
         ensures full { AtNode repo self.old self.new (λ was now. result ≡ Turn.Full → length was.history ≡ most_entries) }
         ensures ready { AtNode repo self.old self.new (λ was now. result ≡ Turn.Full → ForSome (told_of (K.contents was.keeper) (K.parts was.keeper)) (λ c. (s : SetUp) → Fits was.setup s → HasStep was s)) }
         ensures stays { AtNode repo self.old self.new (λ was now. result ≢ Turn.Moved → now ≡ record was { keeper = now.keeper; parts = record was.parts { links = map after_drop was.parts.links } }) }
-        ensures files { AtNode repo self.old self.new (λ was now. result ≢ Turn.Moved → K.files now.keeper ≡ K.files was.keeper) }
-        ensures unasked { AtNode repo self.old self.new (λ was now. result ≡ Turn.Full → now.keeper ≡ was.keeper) }
+        ensures unasked { AtNode repo self.old self.new (λ was now. result ≢ Turn.Moved → result ≢ Turn.NoMemory → now.keeper ≡ was.keeper) }
+        ensures short { AtNode repo self.old self.new (λ was now. result ≡ Turn.NoMemory → TellsSame (K.contents was.keeper) (K.contents now.keeper) (K.parts was.keeper) (K.parts now.keeper) (K.records was.keeper) (K.records now.keeper) (K.files was.keeper) (K.files now.keeper)) }
         ensures told_parts { AtNode repo self.old self.new (λ was now. is_some (K.parts now.keeper) ≡ is_some (K.parts was.keeper)) }
         ensures told_contents { AtNode repo self.old self.new (λ was now. is_some (K.parts was.keeper) ≡ true → is_some (K.contents now.keeper) ≡ is_some (K.contents was.keeper)) }
         ensures paired { AtNode repo self.old self.new (λ was now. StayPaired was.parts.links now.parts.links) }

@@ -29,8 +29,8 @@ returns-clause-ready g c = at_node c.args.self.now c.self.inside.nodes.items c.a
 pub returns-clause-stays : goal.returns-clause-stays
 returns-clause-stays g c = at_node c.args.self.now c.self.inside.nodes.items c.args.repo c.index_mut.result.now c.turn.new.self c.self.view_is c.requires.there c.index_mut.ensures.value _ c.turn.ensures.stays
 
-pub returns-clause-files : goal.returns-clause-files
-returns-clause-files g c = at_node c.args.self.now c.self.inside.nodes.items c.args.repo c.index_mut.result.now c.turn.new.self c.self.view_is c.requires.there c.index_mut.ensures.value _ c.turn.ensures.files
+pub returns-clause-short : goal.returns-clause-short
+returns-clause-short g c = at_node c.args.self.now c.self.inside.nodes.items c.args.repo c.index_mut.result.now c.turn.new.self c.self.view_is c.requires.there c.index_mut.ensures.value _ c.turn.ensures.short
 
 pub returns-clause-unasked : goal.returns-clause-unasked
 returns-clause-unasked g c = at_node c.args.self.now c.self.inside.nodes.items c.args.repo c.index_mut.result.now c.turn.new.self c.self.view_is c.requires.there c.index_mut.ensures.value _ c.turn.ensures.unasked
