@@ -11,7 +11,7 @@ use Rattle.p2p_server.specs.CallsMade.{MakesCalls, fewer}
 
 -- ---- a call is known by its number
 
-call_at : ℕ → Call
+abbrev call_at : ℕ → Call
 call_at n =
     if n == 0 then calls.Has else (if n == 1 then calls.Size else (if n == 2 then calls.Read else (if n == 3 then calls.PartSize else (if n == 4 then calls.ReadPart else
     (if n == 5 then calls.Append else (if n == 6 then calls.Commit else (if n == 7 then calls.DropPart else (if n == 8 then calls.Remove else (if n == 9 then calls.Hold else
@@ -80,9 +80,9 @@ pub makes_failed : (call : Call) (rest : List Call) (before after : Option (Call
 makes_failed call rest before after only = record { first = λ failing is. rw (← only.told failing is) refl; left = only.count }
 
 -- a call that went well, and what follows
-pub makes_first : (call : Call) (rest : List Call) (failed : Option Call) (before then after : Option (Call → ℕ)) → FailsAsTold call before then false → MakesCalls rest failed then after → MakesCalls (call ∷ rest) failed before after
-makes_first call rest failed before then after only more =
-    let same : then ≡ before = unfailed call before then only in
+pub makes_first : (call : Call) (rest : List Call) (failed : Option Call) (before mid after : Option (Call → ℕ)) → FailsAsTold call before mid false → MakesCalls rest failed mid after → MakesCalls (call ∷ rest) failed before after
+makes_first call rest failed before mid after only more =
+    let same : mid ≡ before = unfailed call before mid only in
     let m : MakesCalls rest failed before after = subst (λ (o : Option (Call → ℕ)). MakesCalls rest failed o after) same more in
     record { first = λ failing is. m.first failing is ∙ (rw (← only.told failing is) refl); left = m.left }
 

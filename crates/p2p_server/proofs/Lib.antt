@@ -2,6 +2,7 @@
 pub mod Replies
 pub mod Doings
 pub mod Agreeing
+pub mod AnswerCalls
 pub mod Calling
 pub mod Calm
 pub mod StateFacts

@@ -1,8 +1,9 @@
 //! A session at a server's end of a connection.
 ghost use Rattle.std.specs.Prelude.{◌≡◌, ◌≤◌, ◌+◌, ◌<◌, ◌^◌, ℕ, Bool, List, length, All, min, codes, true, false, Some, None, IfOk, OnOk, OnErr, IfSome, is_some};
 ghost use Rattle.std.specs.declared.option.Option.{Option};
-ghost use Rattle.std.specs.Option.{ForSome};
+ghost use Rattle.std.specs.Option.{ForSome, option_map};
 ghost use Rattle.annex_base.specs.Causes.{Rose};
+ghost use Rattle.annex_base.specs.declared.kinds.Call.{Call};
 ghost use Rattle.run_data.specs.declared.entry.By.{By};
 ghost use Rattle.run_data.specs.declared.entry.FrameText.{FrameText};
 ghost use Rattle.run_data.specs.declared.entry.FrameView.{FrameView};
@@ -21,8 +22,10 @@ ghost use Rattle.content_lock.specs.Stored.{Agrees};
 ghost use Rattle.content_lock.specs.Tokens.{Owns, ShareView, given_in};
 ghost use Rattle.p2p_server.specs.Answers.{failed_in, owner_at, reply_of, size_in};
 ghost use Rattle.p2p_server.specs.Bounds.{Fits, FitsMore, IsKind, IsReplyIf};
+ghost use Rattle.p2p_server.specs.CallsMade.{MakesCalls, fewer};
 ghost use Rattle.p2p_server.specs.Giving.{IsPieceOf, failed_more, is_giving, reply_more, session_sent};
 ghost use Rattle.p2p_server.specs.Phases.{HasLeft, HasRoom, IsBare, IsGave, IsGuarding, IsLonger, IsMoving, IsTook, IsWanting, WithinOf};
+ghost use Rattle.p2p_server.specs.SessionCalls.{Makes, MakesStep, calls_frame, calls_next};
 ghost use Rattle.p2p_server.specs.States.{IsScene, Keeps, Stand, stand_after, stand_of};
 ghost use Rattle.p2p_server.specs.Stepping.{Goes, IsAt, IsLetGo, IsStep, IsUnexpected, guards_key, moment_of};
 ghost use Rattle.p2p_server.specs.Talking.{AreAfterStep, Brings, FillsSo, HasFill, HasFillOf, IsFed, IsFedOf, IsJudgedOf, SaysSo, SeesPartOf, SeesSize, doing_of, guarded_in, label_in, parts_after_of, place_of, session_of, share_in, share_of};
@@ -109,10 +112,11 @@ impl Session {
     fn refuse(&mut self, alloc: Global, table: &mut LockTable) -> Result<Step, NoMemory>
         requires owns { Owns (owner_at self.old.place) (share_in self.old.doing) table.old.holds }
         requires fills { HasFill table.old self.old.doing }
-        ensures { (x : Scene) (i : Incoming) (contents : Option Contents) (parts : Option Parts) (records : Option (List HoldRecord)) (faults : ℕ) → x.place ≡ self.old.place → IsUnexpected i self.old → Agrees records table.old.holds
+        ensures goes { (x : Scene) (i : Incoming) (contents : Option Contents) (parts : Option Parts) (records : Option (List HoldRecord)) (faults : ℕ) → x.place ≡ self.old.place → IsUnexpected i self.old → Agrees records table.old.holds
             → Goes x i
             (moment_of self.old table.old contents parts records faults)
             (moment_of self.new table.new contents parts records faults) result }
+        ensures calls { (x : Scene) (i : Incoming) (contents : Option Contents) (parts : Option Parts) (failing : Option (Call → ℕ)) → IsUnexpected i self.old → Makes x i self.old table.old contents parts failing failing result }
     {
         let text = Text::new(alloc, b"unexpected")?;
         self.reset(table);
@@ -123,10 +127,11 @@ impl Session {
     fn give_up(&mut self, table: &mut LockTable) -> Step
         requires owns { Owns (owner_at self.old.place) (share_in self.old.doing) table.old.holds }
         requires fills { HasFill table.old self.old.doing }
-        ensures { (x : Scene) (text : List ℕ) (contents : Option Contents) (parts : Option Parts) (records : Option (List HoldRecord)) (faults : ℕ) → x.place ≡ self.old.place → Agrees records table.old.holds
+        ensures goes { (x : Scene) (text : List ℕ) (contents : Option Contents) (parts : Option Parts) (records : Option (List HoldRecord)) (faults : ℕ) → x.place ≡ self.old.place → Agrees records table.old.holds
             → IsStep x (Incoming.Message (Message.Error text))
             (moment_of self.old table.old contents parts records faults)
             (moment_of self.new table.new contents parts records faults) result }
+        ensures calls { (x : Scene) (text : List ℕ) (contents : Option Contents) (parts : Option Parts) (failing : Option (Call → ℕ)) → MakesStep x (Incoming.Message (Message.Error text)) self.old table.old contents parts failing failing result }
     {
         self.reset(table);
         Step::closes(self.place.close_kind(), None)
@@ -160,6 +165,7 @@ impl Session {
             (moment_of self.new table.new (K.contents keeper.new) (K.parts keeper.new) (K.records keeper.new) (K.faults keeper.new)) result }
         ensures files { K.files keeper.new ≡ K.files keeper.old }
         ensures told { is_some (K.contents keeper.new) ≡ is_some (K.contents keeper.old) }
+        ensures calls { Makes scene (Incoming.Message (Message.LockContent key.now)) self.old table.old (K.contents keeper.old) (K.parts keeper.old) (K.failing keeper.old) (K.failing keeper.new) result }
     {
         let key = key.copy()?;
         let (step, share) = answers::lock(scene, table, keeper, key)?;
@@ -190,6 +196,7 @@ impl Session {
             (moment_of self.new table.now (K.contents keeper.new) (K.parts keeper.new) (K.records keeper.new) (K.faults keeper.new)) result }
         ensures files { K.files keeper.new ≡ K.files keeper.old }
         ensures told { is_some (K.contents keeper.new) ≡ is_some (K.contents keeper.old) }
+        ensures calls { (file : List ℕ) → Makes scene (Incoming.Message (Message.Get start file key.now)) self.old table.now (K.contents keeper.old) (K.parts keeper.old) (K.failing keeper.old) (K.failing keeper.new) result }
     {
         let (step, giving) = transfer::get(scene, keeper, start, key)?;
         match giving {
@@ -222,6 +229,7 @@ impl Session {
             (moment_of self.new table.new (K.contents keeper.new) (K.parts keeper.new) (K.records keeper.new) (K.faults keeper.new)) result }
         ensures files { K.files keeper.new ≡ K.files keeper.old }
         ensures told { is_some (K.contents keeper.new) ≡ is_some (K.contents keeper.old) }
+        ensures calls { (file : List ℕ) → Makes scene (Incoming.Message (Message.Put file key.now)) self.old table.old (K.contents keeper.old) (K.parts keeper.old) (K.failing keeper.old) (K.failing keeper.new) result }
     {
         let (step, wanting) = transfer::put(scene, alloc, table, keeper, key)?;
         match wanting {
@@ -252,6 +260,7 @@ impl Session {
             (moment_of self.new table.new (K.contents keeper.new) (K.parts keeper.new) (K.records keeper.new) (K.faults keeper.new)) result }
         ensures files { K.files keeper.new ≡ K.files keeper.old }
         ensures told { is_some (K.contents keeper.new) ≡ is_some (K.contents keeper.old) }
+        ensures calls { Makes scene (Incoming.Message message.now) self.old table.old (K.contents keeper.old) (K.parts keeper.old) (K.failing keeper.old) (K.failing keeper.new) result }
     {
         match message {
             Message::Error(_) => Ok(self.give_up(table)),
@@ -315,6 +324,7 @@ impl Session {
             (moment_of self.new table.new (K.contents keeper.new) (K.parts keeper.new) (K.records keeper.new) (K.faults keeper.new)) result }
         ensures files { K.files keeper.new ≡ K.files keeper.old }
         ensures told { is_some (K.contents keeper.new) ≡ is_some (K.contents keeper.old) }
+        ensures calls { Makes scene (Incoming.Message message.now) self.old table.old (K.contents keeper.old) (K.parts keeper.old) (K.failing keeper.old) (K.failing keeper.new) result }
     {
         match message {
             Message::Error(_) => Ok(self.give_up(table)),
@@ -345,6 +355,7 @@ impl Session {
             (moment_of self.new table.new (K.contents keeper.new) (K.parts keeper.new) (K.records keeper.new) (K.faults keeper.new)) result }
         ensures files { K.files keeper.new ≡ K.files keeper.old }
         ensures told { is_some (K.contents keeper.new) ≡ is_some (K.contents keeper.old) }
+        ensures calls { MakesStep scene (Incoming.Message (Message.UnlockContent key)) self.old table.old (K.contents keeper.old) (K.parts keeper.old) (K.failing keeper.old) (K.failing keeper.new) result }
     {
         let share = unguard(&mut self.doing);
         let hold = share.number();
@@ -370,9 +381,10 @@ impl Session {
     ) -> Result<Step, NoMemory>
         requires at { IsAt scene self.old table.old }
         requires phase { IsMoving self.old.doing }
-        ensures { (contents : Option Contents) (parts : Option Parts) (records : Option (List HoldRecord)) (faults : ℕ) → Agrees records table.old.holds → Goes scene (Incoming.Message message.now)
+        ensures goes { (contents : Option Contents) (parts : Option Parts) (records : Option (List HoldRecord)) (faults : ℕ) → Agrees records table.old.holds → Goes scene (Incoming.Message message.now)
             (moment_of self.old table.old contents parts records faults)
             (moment_of self.new table.new contents parts records faults) result }
+        ensures calls { (contents : Option Contents) (parts : Option Parts) (failing : Option (Call → ℕ)) → Makes scene (Incoming.Message message.now) self.old table.old contents parts failing failing result }
     {
         match message {
             Message::Error(_) => Ok(self.give_up(table)),
@@ -390,9 +402,10 @@ impl Session {
     ) -> Result<Step, NoMemory>
         requires at { IsAt scene self.old table.old }
         requires phase { IsGave self.old.doing }
-        ensures { (contents : Option Contents) (parts : Option Parts) (records : Option (List HoldRecord)) (faults : ℕ) → Agrees records table.old.holds → Goes scene (Incoming.Message message.now)
+        ensures goes { (contents : Option Contents) (parts : Option Parts) (records : Option (List HoldRecord)) (faults : ℕ) → Agrees records table.old.holds → Goes scene (Incoming.Message message.now)
             (moment_of self.old table.old contents parts records faults)
             (moment_of self.new table.new contents parts records faults) result }
+        ensures calls { (contents : Option Contents) (parts : Option Parts) (failing : Option (Call → ℕ)) → Makes scene (Incoming.Message message.now) self.old table.old contents parts failing failing result }
     {
         match message {
             Message::Error(_) => Ok(self.give_up(table)),
@@ -414,9 +427,10 @@ impl Session {
     ) -> Result<Step, NoMemory>
         requires at { IsAt scene self.old table.old }
         requires phase { IsWanting self.old.doing }
-        ensures { (contents : Option Contents) (parts : Option Parts) (records : Option (List HoldRecord)) (faults : ℕ) → Agrees records table.old.holds → Goes scene (Incoming.Message message.now)
+        ensures goes { (contents : Option Contents) (parts : Option Parts) (records : Option (List HoldRecord)) (faults : ℕ) → Agrees records table.old.holds → Goes scene (Incoming.Message message.now)
             (moment_of self.old table.old contents parts records faults)
             (moment_of self.new table.new contents parts records faults) result }
+        ensures calls { (contents : Option Contents) (parts : Option Parts) (failing : Option (Call → ℕ)) → Makes scene (Incoming.Message message.now) self.old table.old contents parts failing failing result }
     {
         match message {
             Message::Error(_) => Ok(self.give_up(table)),
@@ -444,6 +458,7 @@ impl Session {
             (moment_of self.new table.new (K.contents keeper.new) (K.parts keeper.new) (K.records keeper.new) (K.faults keeper.new)) result }
         ensures files { K.files keeper.new ≡ K.files keeper.old }
         ensures told { is_some (K.contents keeper.new) ≡ is_some (K.contents keeper.old) }
+        ensures calls { Makes scene (Incoming.Bytes bytes.now) self.old table.old (K.contents keeper.old) (K.parts keeper.old) (K.failing keeper.old) (K.failing keeper.new) result }
     {
         let Doing::Takes(taking) = &self.doing else {
             return self.refuse(alloc, table);
@@ -482,6 +497,7 @@ impl Session {
             (moment_of self.new table.new (K.contents keeper.new) (K.parts keeper.new) (K.records keeper.new) (K.faults keeper.new)) result }
         ensures files { K.files keeper.new ≡ K.files keeper.old }
         ensures told { is_some (K.parts keeper.old) ≡ true → is_some (K.contents keeper.new) ≡ is_some (K.contents keeper.old) }
+        ensures calls { Makes scene (Incoming.Message message.now) self.old table.old (K.contents keeper.old) (K.parts keeper.old) (K.failing keeper.old) (K.failing keeper.new) result }
     {
         match message {
             Message::Error(_) => Ok(self.give_up(table)),
@@ -509,6 +525,7 @@ impl Session {
             (moment_of self.new table.new (K.contents keeper.new) (K.parts keeper.new) (K.records keeper.new) (K.faults keeper.new)) result }
         ensures files { K.files keeper.new ≡ K.files keeper.old }
         ensures told { is_some (K.parts keeper.old) ≡ true → is_some (K.contents keeper.new) ≡ is_some (K.contents keeper.old) }
+        ensures calls { Makes scene (Incoming.Message Message.Valid) self.old table.old (K.contents keeper.old) (K.parts keeper.old) (K.failing keeper.old) (K.failing keeper.new) result }
     {
         let Doing::Took(taken) = &self.doing else {
             return self.refuse(alloc, table);
@@ -536,6 +553,7 @@ impl Session {
             (moment_of self.new table.new (K.contents keeper.new) (K.parts keeper.new) (K.records keeper.new) (K.faults keeper.new)) result }
         ensures files { K.files keeper.new ≡ K.files keeper.old }
         ensures told { is_some (K.parts keeper.old) ≡ true → is_some (K.contents keeper.new) ≡ is_some (K.contents keeper.old) }
+        ensures calls { Makes scene incoming.now self.old table.old (K.contents keeper.old) (K.parts keeper.old) (K.failing keeper.old) (K.failing keeper.new) result }
     {
         match incoming {
             Incoming::Opening => Ok(answers::welcome(scene.place.id)),
@@ -583,6 +601,13 @@ impl Session {
             → st.sessions a ≡ session_of self.old → Brings body incoming.now
             → SeesPartOf (K.parts keeper.old) self.old incoming.now k.part k.right → k.fails ≡ failed_in step.kind
             → reply_of step ≡ on_frame (here s st k a) (st.sessions a) body) }
+        ensures calls { IfOk result (λ step. (s : SetUp) (st : State) (k : Look) (a : EndName) (body : FrameText)
+            → IsScene (record { place = place_of self.old; clock = now; number = number }) s st k a
+            → Keeps table.old (K.contents keeper.old) (stand_of st) → ((key : List ℕ) → is_filled s st key ≡ is_filling table.old key)
+            → st.sessions a ≡ session_of self.old → Brings body incoming.now
+            → SeesPartOf (K.parts keeper.old) self.old incoming.now k.part k.right → k.fails ≡ failed_in step.kind
+            → MakesCalls (calls_frame (here s st k a) (st.sessions a) body) k.fails (K.failing keeper.old) (K.failing keeper.new)) }
+        ensures left { IfOk result (λ step. K.failing keeper.new ≡ option_map (fewer (failed_in step.kind)) (K.failing keeper.old)) }
         ensures rows { IfOk result (λ step. (stand : Stand) (part : ℕ) (right : Bool) → Keeps table.old (K.contents keeper.old) stand
             → SeesPartOf (K.parts keeper.old) self.old incoming.now part right → Keeps table.new (K.contents keeper.new) (stand_after step.kind stand)) }
 
@@ -617,6 +642,7 @@ impl Session {
         ensures err_contents { OnErr result (K.contents keeper.new ≡ K.contents keeper.old) }
         ensures err_parts { OnErr result (K.parts keeper.new ≡ K.parts keeper.old) }
         ensures err_records { OnErr result (K.records keeper.new ≡ K.records keeper.old) }
+        ensures err_failing { OnErr result (K.failing keeper.new ≡ K.failing keeper.old) }
 
         // The files stay. A store that tells its contents still does; of a commit it must tell the part, too.
         ensures files { K.files keeper.new ≡ K.files keeper.old }
@@ -653,6 +679,8 @@ impl Session {
         ensures told { is_some (K.contents keeper.new) ≡ is_some (K.contents keeper.old) }
         ensures later { K.faults keeper.old ≤ K.faults keeper.new }
         ensures cause { IfOk result (λ more. IfSome (failed_more more) (λ call. Rose (K.faults keeper.old) (K.faults keeper.new))) }
+        ensures calls { IfOk result (λ more. MakesCalls (calls_next (session_of self.old).doing) (failed_more more) (K.failing keeper.old) (K.failing keeper.new)) }
+        ensures err_failing { OnErr result (K.failing keeper.new ≡ K.failing keeper.old) }
     {
         let Doing::Gives(giving) = &self.doing else {
             return Ok(More::Nothing);
