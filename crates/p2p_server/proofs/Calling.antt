@@ -1,11 +1,14 @@
 -- Calls of a store that were made, one after the other.
 use Rattle.std.proofs.Common.{◌≡◌, ℕ, ◌-◌, Bool, true, false, List, [], ◌∷◌, Option, Some, None, refl, sym, ap, ◌∙◌, subst, arith}
-use Rattle.std.specs.Prelude.{nat_lt, ◌==◌, if◌then◌else◌}
-use Rattle.std.specs.Option.{option_map}
+use Rattle.std.specs.Prelude.{nat_lt, ◌==◌, if◌then◌else◌, Result, Ok, Err}
+use Rattle.std.specs.Option.{ForSome, option_map}
+use Rattle.std.specs.Result.{IsErrAnd, IsErrOf}
 use Rattle.annex_base.specs.Calls.{call_number, same_call}
 use Rattle.annex_base.specs.declared.kinds.Call.{Call}
 use Rattle.annex_base.specs.declared.kinds.Call.TheVariants as calls
-use Rattle.object_store.specs.Calls.{FailsAsTold, one_fewer}
+use Rattle.object_store.specs.Calls.{FailsAsTold, has_failed, one_fewer}
+use Rattle.object_store.specs.declared.keeper.KeeperFault.{KeeperFault}
+use Rattle.object_store.specs.declared.keeper.KeeperFault.TheVariants as faults
 use Rattle.content_lock.specs.Turns.{FailInTurn, Turn}
 use Rattle.p2p_server.specs.CallsMade.{MakesCalls, fewer}
 
@@ -110,3 +113,27 @@ makes_turns call next failed before after turns =
 
 pub turn_unfailed : (call : Call) (before after : Option (Call → ℕ)) → FailInTurn ((call, false) ∷ []) before after → after ≡ before
 turn_unfailed call before after turns = unfailed call before after (turn_one call false before after turns)
+
+-- ---- for want of memory
+
+-- a call that was refused for want of memory changes no number
+pub memory_left : (T : Type 0) (call : Call) (fault : KeeperFault) (before after : Option (Call → ℕ)) → fault ≡ faults.NoMemory → FailsAsTold call before after (has_failed {T = T} (Err fault)) → after ≡ before
+memory_left T call faults.NoMemory before after is only = unfailed call before after only
+memory_left T call faults.Failed before after is only = absurd cc
+
+-- so where the fault is handed on
+pub memory_handed : {T : Type 0} (S : Type 0) (r : Result T KeeperFault) (call : Call) (fault : KeeperFault) (before mid after : Option (Call → ℕ)) → IsErrAnd r (λ d. d ≡ fault) → mid ≡ before
+    → FailsAsTold call mid after (has_failed {T = S} (Err fault)) → IsErrOf r faults.NoMemory → after ≡ before
+memory_handed S (Ok x) call fault before mid after same was only is = absurd same
+memory_handed S (Err d) call fault before mid after same was only is =
+    let memory : d ≡ faults.NoMemory = cc in
+    memory_left S call fault mid after (sym same ∙ memory) only ∙ was
+
+-- where no call of a kind is to fail, one that didn't leaves the numbers
+pub unchanged_all : (call : Call) (before : Option (Call → ℕ)) → ForSome before (λ failing. false ≡ nat_lt 0 (failing call)) → before ≡ option_map (one_fewer call) before
+unchanged_all call None none = refl
+unchanged_all call (Some failing) none = λ i. Some (λ c. sym (unchanged call failing (none failing refl) c) i)
+
+-- calls of which none failed leave the numbers
+pub all_well : (calls : List Call) (before after : Option (Call → ℕ)) → MakesCalls calls None before after → after ≡ before
+all_well calls before after made = made.left ∙ sym (as_it_was before)

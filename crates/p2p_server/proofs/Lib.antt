@@ -15,6 +15,7 @@ pub mod ReplyLines
 pub mod Sending
 pub mod Moves
 pub mod Reading
+pub mod RowCalls
 pub mod Stepping
 pub mod Taking
 pub mod Telling
