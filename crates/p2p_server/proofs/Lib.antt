@@ -13,6 +13,7 @@ pub mod Leaving
 pub mod Phases
 pub mod ReplyLines
 pub mod Sending
+pub mod Making
 pub mod Moves
 pub mod Reading
 pub mod RowCalls

@@ -1,9 +1,9 @@
 -- Bytes are asked for where the content isn't there, nor being filled.
 use Rattle.std.proofs.Common.{false, None, [], ◌∷◌, refl, sym, ap, ◌∙◌}
 use Rattle.std.specs.Option.{option_map}
-use Rattle.std.proofs.lemmas.Result.{IfOk-weaker, OnErr-always}
+use Rattle.std.proofs.lemmas.Result.{IfOk-weaker}
 use Rattle.annex_base.specs.declared.kinds.Call.TheVariants as calls
-use Rattle.annex_base.proofs.Results.{IfOk-both}
+use Rattle.annex_base.proofs.Results.{IfOk-both, OnErr-always}
 use Rattle.node_model.specs.Calls.{to_resume}
 use Rattle.p2p_server.specs.Answers.{failed_in, here_of}
 use Rattle.p2p_server.specs.CallsMade.{fewer}
