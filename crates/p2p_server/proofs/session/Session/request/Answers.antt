@@ -103,13 +103,13 @@ returns-in_ok-key-in-RemoveBefore-clause-calls g c =
     let speaks : nat_le 3 c.args.self.now.spoken ≡ true = le-leb 3 c.args.self.now.spoken c.if-self-lt3.false in
     rw (c.in-RemoveBefore.is, ← c.in_ok-key-in-RemoveBefore.ensures) (
     request_makes c.args.scene _ c.args.self.now c.args.table.now _ _ _ _ c.remove_before.result
-    (λ h. if nat_lt (now_of h) (1000 * c.in-RemoveBefore.before.now) then to_remove_here h c.in_ok-key-in-RemoveBefore.key else []) c.requires.waits (before_calls _ _ _ speaks) (λ k is part right sees. r.calls k is) r.left)
+    (λ h. if nat_lt (now_of h) (1000 * c.in-RemoveBefore.before) then to_remove_here h c.in_ok-key-in-RemoveBefore.key else []) c.requires.waits (before_calls _ _ _ speaks) (λ k is part right sees. r.calls k is) r.left)
 
 pub returns-then-self-lt3-2-clause-calls : goal.returns-then-self-lt3-2-clause-calls
 returns-then-self-lt3-2-clause-calls g c = rw c.in-GetTimestamp.is (c.refuse-then-self-lt3-2.ensures.calls c.args.scene _ _ _ _ (low_time c.args.self.now c.requires.waits c.if-self-lt3-2.true))
 
 pub returns-else-self-lt3-2-clause-calls : goal.returns-else-self-lt3-2-clause-calls
-returns-else-self-lt3-2-clause-calls g c = rw c.in-GetTimestamp.is (request_quiet c.args.scene _ c.args.self.now c.args.table.now _ _ _ _ c.requires.waits (λ h. refl) (rw c.time.ensures refl))
+returns-else-self-lt3-2-clause-calls g c = rw c.in-GetTimestamp.is (request_quiet c.args.scene _ c.args.self.now c.args.table.now _ _ _ _ c.requires.waits (λ h. refl) (rw c.time.ensures.says refl))
 
 pub returns-then-self-lt1-clause-calls : goal.returns-then-self-lt1-clause-calls
 returns-then-self-lt1-clause-calls g c = rw c.in-Get.is (c.refuse-then-self-lt1.ensures.calls c.args.scene _ _ _ _ (low_get c.args.self.now _ _ _ c.requires.waits c.if-self-lt1.true))
