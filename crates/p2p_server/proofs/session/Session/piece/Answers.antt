@@ -46,7 +46,7 @@ pub returns-in_default-clause-calls : goal.returns-in_default-clause-calls
 returns-in_default-clause-calls g c = c.refuse.ensures.calls c.args.scene _ _ _ _ (no_bytes c.args.self.now c.args.bytes.now c.in_default.not-Takes)
 
 pub returns-then-not-awaits-clause-calls : goal.returns-then-not-awaits-clause-calls
-returns-then-not-awaits-clause-calls g c = 
+returns-then-not-awaits-clause-calls g c =
     let left = c.in-Takes.taking.left in
     let len : c.len-count.result ≡ length c.args.bytes.now.items = omega (arith, c.args.bytes.now.ok.0, c.len-count.ensures) in
     c.refuse-then-not-awaits.ensures.calls c.args.scene _ _ _ _
@@ -54,7 +54,7 @@ returns-then-not-awaits-clause-calls g c =
     ((λ j. nat_lt 0 (sym len j) && nat_le (sym len j) left) ∙ sym c.awaits.ensures ∙ c.if-not-awaits.true))
 
 pub returns-in-Ok-clause-calls : goal.returns-in-Ok-clause-calls
-returns-in-Ok-clause-calls g c = 
+returns-in-Ok-clause-calls g c =
     let len : c.len-count.result ≡ length c.args.bytes.now.items = omega (arith, c.args.bytes.now.ok.0, c.len-count.ensures) in
     let left = c.in-Takes.taking.left in
     let fits : (nat_lt 0 (length c.args.bytes.now.items) && nat_le (length c.args.bytes.now.items) left) ≡ true =
@@ -63,7 +63,7 @@ returns-in-Ok-clause-calls g c =
     (rw c.silent.ensures (makes_one calls.Append false _ _ c.in-Ok.ensures.failing))
 
 pub returns-in-Err-Failed-clause-calls : goal.returns-in-Err-Failed-clause-calls
-returns-in-Err-Failed-clause-calls g c = 
+returns-in-Err-Failed-clause-calls g c =
     let len : c.len-count.result ≡ length c.args.bytes.now.items = omega (arith, c.args.bytes.now.ok.0, c.len-count.ensures) in
     let left = c.in-Takes.taking.left in
     let fits : (nat_lt 0 (length c.args.bytes.now.items) && nat_le (length c.args.bytes.now.items) left) ≡ true =

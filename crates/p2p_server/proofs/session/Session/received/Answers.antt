@@ -25,6 +25,6 @@ pub returns-in-Valid-clause-calls : goal.returns-in-Valid-clause-calls
 returns-in-Valid-clause-calls g c = rw c.in-Valid.is c.verify.ensures.calls
 
 pub returns-in_default-clause-calls : goal.returns-in_default-clause-calls
-returns-in_default-clause-calls g c = 
+returns-in_default-clause-calls g c =
     c.refuse.ensures.calls c.args.scene _ _ _ _
     (none_took c.args.self.now c.args.message.now c.requires.phase c.in_default.not-Error c.in_default.not-Valid c.in_default.not-Invalid)

@@ -17,6 +17,6 @@ pub returns-in_default-clause-calls : goal.returns-in_default-clause-calls
 returns-in_default-clause-calls g c = c.refuse.ensures.calls c.args.scene _ _ _ _ (no_valid c.args.self.now c.in_default.not-Took)
 
 pub returns-clause-calls : goal.returns-clause-calls
-returns-clause-calls g c = 
+returns-clause-calls g c =
     let r = c.in_ok-step.ensures in
     valid_makes c.args.scene c.args.self.now c.in-Took.taken c.args.table.now _ _ _ _ c.in_ok-step.step c.in-Took.is r.calls r.left
