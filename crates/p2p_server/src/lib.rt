@@ -8,6 +8,7 @@ mod laws;
 mod more;
 mod place;
 mod session;
+mod session_transfer;
 mod step;
 mod transfer;
 

@@ -47,10 +47,10 @@ use std::mem;
 
 /// A session at a server's end of a connection (git-annex P2P protocol). That of a closed one is new.
 pub struct Session {
-    place: Place,
+    pub(crate) place: Place,
     // The version that was agreed on; 0 before.
-    spoken: u64,
-    doing: Doing,
+    pub(crate) spoken: u64,
+    pub(crate) doing: Doing,
 }
 
 impl Session {
@@ -87,7 +87,7 @@ impl Session {
     }
 
     /// Lets go of what it has: a hold that it guards is kept, and a part that it fills stays.
-    fn let_go(&mut self, table: &mut LockTable)
+    pub(crate) fn let_go(&mut self, table: &mut LockTable)
         requires owns { Owns (owner_at self.old.place) (share_in self.old.doing) table.old.holds }
         requires fills { HasFill table.old self.old.doing }
         ensures session { self.new ≡ record { place = self.old.place; spoken = self.old.spoken; doing = Doing.Waits } }
@@ -98,7 +98,7 @@ impl Session {
     }
 
     /// Makes it new.
-    fn reset(&mut self, table: &mut LockTable)
+    pub(crate) fn reset(&mut self, table: &mut LockTable)
         requires owns { Owns (owner_at self.old.place) (share_in self.old.doing) table.old.holds }
         requires fills { HasFill table.old self.old.doing }
         ensures session { self.new ≡ record { place = self.old.place; spoken = 0; doing = Doing.Waits } }
@@ -109,7 +109,7 @@ impl Session {
     }
 
     /// Closes the connection on what isn't expected.
-    fn refuse(&mut self, alloc: Global, table: &mut LockTable) -> Result<Step, NoMemory>
+    pub(crate) fn refuse(&mut self, alloc: Global, table: &mut LockTable) -> Result<Step, NoMemory>
         requires owns { Owns (owner_at self.old.place) (share_in self.old.doing) table.old.holds }
         requires fills { HasFill table.old self.old.doing }
         ensures goes { (x : Scene) (i : Incoming) (contents : Option Contents) (parts : Option Parts) (records : Option (List HoldRecord)) (faults : ℕ) → x.place ≡ self.old.place → IsUnexpected i self.old → Agrees records table.old.holds
@@ -124,7 +124,7 @@ impl Session {
     }
 
     /// ERROR: closes the connection.
-    fn give_up(&mut self, table: &mut LockTable) -> Step
+    pub(crate) fn give_up(&mut self, table: &mut LockTable) -> Step
         requires owns { Owns (owner_at self.old.place) (share_in self.old.doing) table.old.holds }
         requires fills { HasFill table.old self.old.doing }
         ensures goes { (x : Scene) (text : List ℕ) (contents : Option Contents) (parts : Option Parts) (records : Option (List HoldRecord)) (faults : ℕ) → x.place ≡ self.old.place → Agrees records table.old.holds
@@ -175,69 +175,6 @@ impl Session {
                 begin(&mut self.doing, Doing::Guards { share });
                 Ok(step)
             }
-        }
-    }
-
-    /// GET: the content's bytes from a place on are sent next.
-    fn get<K: Keeper>(
-        &mut self,
-        table: &LockTable,
-        keeper: &mut K,
-        start: u64,
-        key: &Key,
-        scene: Scene,
-    ) -> Result<Step, NoMemory>
-        requires at { IsAt scene self.old table.now }
-        requires agrees { Agrees (K.records keeper.old) table.now.holds }
-        requires waits { self.old.doing ≡ Doing.Waits }
-        requires spoken { 1 ≤ self.old.spoken }
-        ensures goes { (file : List ℕ) → Goes scene (Incoming.Message (Message.Get start file key.now))
-            (moment_of self.old table.now (K.contents keeper.old) (K.parts keeper.old) (K.records keeper.old) (K.faults keeper.old))
-            (moment_of self.new table.now (K.contents keeper.new) (K.parts keeper.new) (K.records keeper.new) (K.faults keeper.new)) result }
-        ensures files { K.files keeper.new ≡ K.files keeper.old }
-        ensures told { is_some (K.contents keeper.new) ≡ is_some (K.contents keeper.old) }
-        ensures calls { (file : List ℕ) → Makes scene (Incoming.Message (Message.Get start file key.now)) self.old table.now (K.contents keeper.old) (K.parts keeper.old) (K.failing keeper.old) (K.failing keeper.new) result }
-    {
-        let (step, giving) = transfer::get(scene, keeper, start, key)?;
-        match giving {
-            Some(giving) => {
-                begin(&mut self.doing, Doing::Gives(giving));
-                Ok(step)
-            }
-            None => {
-                self.spoken = 0;
-                Ok(step)
-            }
-        }
-    }
-
-    /// PUT: the part's bytes are asked for.
-    fn put<K: Keeper>(
-        &mut self,
-        alloc: Global,
-        table: &mut LockTable,
-        keeper: &mut K,
-        key: &Key,
-        scene: Scene,
-    ) -> Result<Step, NoMemory>
-        requires at { IsAt scene self.old table.old }
-        requires agrees { Agrees (K.records keeper.old) table.old.holds }
-        requires waits { self.old.doing ≡ Doing.Waits }
-        requires spoken { 1 ≤ self.old.spoken }
-        ensures goes { (file : List ℕ) → Goes scene (Incoming.Message (Message.Put file key.now))
-            (moment_of self.old table.old (K.contents keeper.old) (K.parts keeper.old) (K.records keeper.old) (K.faults keeper.old))
-            (moment_of self.new table.new (K.contents keeper.new) (K.parts keeper.new) (K.records keeper.new) (K.faults keeper.new)) result }
-        ensures files { K.files keeper.new ≡ K.files keeper.old }
-        ensures told { is_some (K.contents keeper.new) ≡ is_some (K.contents keeper.old) }
-        ensures calls { (file : List ℕ) → Makes scene (Incoming.Message (Message.Put file key.now)) self.old table.old (K.contents keeper.old) (K.parts keeper.old) (K.failing keeper.old) (K.failing keeper.new) result }
-    {
-        let (step, wanting) = transfer::put(scene, alloc, table, keeper, key)?;
-        match wanting {
-            Some(wanting) => {
-                begin(&mut self.doing, Doing::Wants(wanting));
-                Ok(step)
-            }
-            None => Ok(step),
         }
     }
 
@@ -415,124 +352,6 @@ impl Session {
             }
             _ => self.refuse(alloc, table),
         }
-    }
-
-    /// The answer to a message, of a session that asked for bytes: how many come.
-    fn announced(
-        &mut self,
-        alloc: Global,
-        table: &mut LockTable,
-        message: &Message,
-        scene: Scene,
-    ) -> Result<Step, NoMemory>
-        requires at { IsAt scene self.old table.old }
-        requires phase { IsWanting self.old.doing }
-        ensures goes { (contents : Option Contents) (parts : Option Parts) (records : Option (List HoldRecord)) (faults : ℕ) → Agrees records table.old.holds → Goes scene (Incoming.Message message.now)
-            (moment_of self.old table.old contents parts records faults)
-            (moment_of self.new table.new contents parts records faults) result }
-        ensures calls { (contents : Option Contents) (parts : Option Parts) (failing : Option (Call → ℕ)) → Makes scene (Incoming.Message message.now) self.old table.old contents parts failing failing result }
-    {
-        match message {
-            Message::Error(_) => Ok(self.give_up(table)),
-            Message::Data(count) => {
-                expect(&mut self.doing, *count);
-                Ok(Step::silent(EntryKind::Talk { job: None }))
-            }
-            _ => self.refuse(alloc, table),
-        }
-    }
-
-    /// A piece of a part.
-    fn piece<K: Keeper>(
-        &mut self,
-        alloc: Global,
-        table: &mut LockTable,
-        keeper: &mut K,
-        bytes: &Vec<u8>,
-        scene: Scene,
-    ) -> Result<Step, NoMemory>
-        requires at { IsAt scene self.old table.old }
-        requires agrees { Agrees (K.records keeper.old) table.old.holds }
-        ensures goes { Goes scene (Incoming.Bytes bytes.now)
-            (moment_of self.old table.old (K.contents keeper.old) (K.parts keeper.old) (K.records keeper.old) (K.faults keeper.old))
-            (moment_of self.new table.new (K.contents keeper.new) (K.parts keeper.new) (K.records keeper.new) (K.faults keeper.new)) result }
-        ensures files { K.files keeper.new ≡ K.files keeper.old }
-        ensures told { is_some (K.contents keeper.new) ≡ is_some (K.contents keeper.old) }
-        ensures calls { Makes scene (Incoming.Bytes bytes.now) self.old table.old (K.contents keeper.old) (K.parts keeper.old) (K.failing keeper.old) (K.failing keeper.new) result }
-    {
-        let Doing::Takes(taking) = &self.doing else {
-            return self.refuse(alloc, table);
-        };
-        let count = bytes.len() as u64;
-        if !taking.awaits(count) {
-            return self.refuse(alloc, table);
-        }
-        match keeper.append_part(taking.fill.key(), bytes) {
-            Ok(()) => {
-                append(&mut self.doing, bytes);
-                Ok(Step::silent(EntryKind::Talk { job: None }))
-            }
-            Err(KeeperFault::Failed) => {
-                self.reset(table);
-                Ok(transfer::lost(scene, Call::Append))
-            }
-            Err(KeeperFault::NoMemory) => Err(NoMemory),
-        }
-    }
-
-    /// The answer to a message, of a session that has all bytes of a part: whether they are good.
-    fn received<K: Keeper>(
-        &mut self,
-        alloc: Global,
-        table: &mut LockTable,
-        keeper: &mut K,
-        message: &Message,
-        scene: Scene,
-    ) -> Result<Step, NoMemory>
-        requires at { IsAt scene self.old table.old }
-        requires agrees { Agrees (K.records keeper.old) table.old.holds }
-        requires phase { IsTook self.old.doing }
-        ensures goes { Goes scene (Incoming.Message message.now)
-            (moment_of self.old table.old (K.contents keeper.old) (K.parts keeper.old) (K.records keeper.old) (K.faults keeper.old))
-            (moment_of self.new table.new (K.contents keeper.new) (K.parts keeper.new) (K.records keeper.new) (K.faults keeper.new)) result }
-        ensures files { K.files keeper.new ≡ K.files keeper.old }
-        ensures told { is_some (K.parts keeper.old) ≡ true → is_some (K.contents keeper.new) ≡ is_some (K.contents keeper.old) }
-        ensures calls { Makes scene (Incoming.Message message.now) self.old table.old (K.contents keeper.old) (K.parts keeper.old) (K.failing keeper.old) (K.failing keeper.new) result }
-    {
-        match message {
-            Message::Error(_) => Ok(self.give_up(table)),
-            Message::Valid => self.verify(alloc, table, keeper, scene),
-            Message::Invalid => {
-                self.let_go(table);
-                Ok(Step::says(EntryKind::Talk { job: None }, Message::Failure))
-            }
-            _ => self.refuse(alloc, table),
-        }
-    }
-
-    /// VALID.
-    fn verify<K: Keeper>(
-        &mut self,
-        alloc: Global,
-        table: &mut LockTable,
-        keeper: &mut K,
-        scene: Scene,
-    ) -> Result<Step, NoMemory>
-        requires at { IsAt scene self.old table.old }
-        requires agrees { Agrees (K.records keeper.old) table.old.holds }
-        ensures goes { Goes scene (Incoming.Message Message.Valid)
-            (moment_of self.old table.old (K.contents keeper.old) (K.parts keeper.old) (K.records keeper.old) (K.faults keeper.old))
-            (moment_of self.new table.new (K.contents keeper.new) (K.parts keeper.new) (K.records keeper.new) (K.faults keeper.new)) result }
-        ensures files { K.files keeper.new ≡ K.files keeper.old }
-        ensures told { is_some (K.parts keeper.old) ≡ true → is_some (K.contents keeper.new) ≡ is_some (K.contents keeper.old) }
-        ensures calls { Makes scene (Incoming.Message Message.Valid) self.old table.old (K.contents keeper.old) (K.parts keeper.old) (K.failing keeper.old) (K.failing keeper.new) result }
-    {
-        let Doing::Took(taken) = &self.doing else {
-            return self.refuse(alloc, table);
-        };
-        let step = transfer::verify(scene, alloc, keeper, taken)?;
-        self.let_go(table);
-        Ok(step)
     }
 
     /// The answer to what is heard.
@@ -748,7 +567,7 @@ impl Session {
 }
 
 /// A session without a token does this from now on.
-fn begin(doing: &mut Doing, next: Doing)
+pub(crate) fn begin(doing: &mut Doing, next: Doing)
     requires { IsBare doing.old }
     ensures { doing.new ≡ next }
 {
@@ -789,34 +608,6 @@ fn spend(doing: Doing, table: &mut LockTable)
                 sum: _,
             },
         ) => table.unfill(fill),
-    }
-}
-
-/// So many bytes are to come.
-fn expect(doing: &mut Doing, count: u64)
-    requires phase { IsWanting doing.old }
-    ensures doing { doing_of doing.new ≡ takes_from count (doing_of doing.old) }
-    ensures share { share_in doing.new ≡ share_in doing.old }
-    ensures fills { (rows : Rows) → HasFill rows doing.old → HasFill rows doing.new }
-    ensures fed { (p : Parts) → IsFed p doing.old → IsFed p doing.new }
-{
-    match mem::replace(doing, Doing::Waits) {
-        Doing::Wants(wanting) => begin(doing, wanting.announced(count)),
-        _ => unreachable!(),
-    }
-}
-
-/// The piece was put to the part.
-fn append(doing: &mut Doing, piece: &[u8])
-    requires room { HasRoom doing.old (length piece.now) }
-    ensures doing { doing_of doing.new ≡ took_bytes (length piece.now) (doing_of doing.old) }
-    ensures share { share_in doing.new ≡ share_in doing.old }
-    ensures fills { (rows : Rows) → HasFill rows doing.old → HasFill rows doing.new }
-    ensures fed { (p p' : Parts) → IsFed p doing.old → IsLonger doing.old p p' piece.now → IsFed p' doing.new }
-{
-    match mem::replace(doing, Doing::Waits) {
-        Doing::Takes(taking) => begin(doing, taking.appended(piece)),
-        _ => unreachable!(),
     }
 }
 

@@ -5,7 +5,7 @@ use Rattle.p2p_server.proofs.Waiting.{in_phase, put_so, wanting_of}
 use Rattle.node_model.specs.Calls.{to_offer}
 use Rattle.node_model.specs.SessionStep.{is_here}
 use Rattle.p2p_server.proofs.Making.{if_true, request_makes}
-use Rattle.p2p_server.proofs.session.Session.put.Goals as goal
+use Rattle.p2p_server.proofs.session_transfer.Session.put.Goals as goal
 
 pub returns-in-Some-clause-goes : goal.returns-in-Some-clause-goes
 returns-in-Some-clause-goes g c = λ file.

@@ -2,7 +2,7 @@
 use Rattle.p2p_server.proofs.Unexpected.{no_valid}
 use Rattle.p2p_server.proofs.Phases.{valid_so}
 use Rattle.p2p_server.proofs.Making.{valid_makes}
-use Rattle.p2p_server.proofs.session.Session.verify.Goals as goal
+use Rattle.p2p_server.proofs.session_transfer.Session.verify.Goals as goal
 
 pub returns-in_default-clause-goes : goal.returns-in_default-clause-goes
 returns-in_default-clause-goes g c = c.refuse.ensures.goes c.args.scene _ _ _ _ _ c.requires.at.here (no_valid c.args.self.now c.in_default.not-Took) c.requires.agrees

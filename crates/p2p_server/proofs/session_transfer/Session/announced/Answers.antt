@@ -2,7 +2,7 @@
 use Rattle.std.proofs.Common.{refl}
 use Rattle.p2p_server.proofs.Phases.{announced_so}
 use Rattle.p2p_server.proofs.Unexpected.{none_wants}
-use Rattle.p2p_server.proofs.session.Session.announced.Goals as goal
+use Rattle.p2p_server.proofs.session_transfer.Session.announced.Goals as goal
 
 pub returns-in-Error-clause-goes : goal.returns-in-Error-clause-goes
 returns-in-Error-clause-goes c = λ contents parts records faults agrees. rw c.in-Error.is (c.give_up.ensures.goes c.args.scene _ contents parts records faults c.requires.at.here agrees)

@@ -5,7 +5,7 @@ use Rattle.p2p_server.proofs.Waiting.{get_so, giving_of, in_phase, spoken_of}
 use Rattle.std.proofs.Common.{[], ◌∷◌}
 use Rattle.annex_base.specs.declared.kinds.Call.TheVariants as calls
 use Rattle.p2p_server.proofs.Making.{if_true, request_makes}
-use Rattle.p2p_server.proofs.session.Session.get.Goals as goal
+use Rattle.p2p_server.proofs.session_transfer.Session.get.Goals as goal
 
 pub returns-in-Some-clause-goes : goal.returns-in-Some-clause-goes
 returns-in-Some-clause-goes g c = λ file.

@@ -1,7 +1,7 @@
 -- By the client's word on what it sent.
 use Rattle.p2p_server.proofs.Phases.{invalid_so}
 use Rattle.p2p_server.proofs.Unexpected.{none_took}
-use Rattle.p2p_server.proofs.session.Session.received.Goals as goal
+use Rattle.p2p_server.proofs.session_transfer.Session.received.Goals as goal
 
 pub returns-in-Error-clause-goes : goal.returns-in-Error-clause-goes
 returns-in-Error-clause-goes g c = rw c.in-Error.is (c.give_up.ensures.goes c.args.scene _ _ _ _ _ c.requires.at.here c.requires.agrees)

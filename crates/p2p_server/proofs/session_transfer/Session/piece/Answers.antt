@@ -12,7 +12,7 @@ use Rattle.annex_base.specs.declared.kinds.Call.TheVariants as calls
 use Rattle.std.proofs.Common.{false}
 use Rattle.p2p_server.proofs.Calling.{makes_one, memory_left}
 use Rattle.p2p_server.proofs.Making.{piece_makes}
-use Rattle.p2p_server.proofs.session.Session.piece.Goals as goal
+use Rattle.p2p_server.proofs.session_transfer.Session.piece.Goals as goal
 
 pub returns-in_default-clause-goes : goal.returns-in_default-clause-goes
 returns-in_default-clause-goes g c = c.refuse.ensures.goes c.args.scene _ _ _ _ _ c.requires.at.here (no_bytes c.args.self.now c.args.bytes.now c.in_default.not-Takes) c.requires.agrees
