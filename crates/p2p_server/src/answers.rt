@@ -12,7 +12,7 @@ ghost use Rattle.node_model.specs.Sessions.{guards, Waits};
 ghost use Rattle.content_lock.specs.Rows.{AreAfter, bar_at};
 ghost use Rattle.content_lock.specs.Stored.{Agrees};
 ghost use Rattle.content_lock.specs.Tokens.{Owns, ShareView};
-ghost use Rattle.p2p_server.specs.Answers.{Does, failed_in, is_in, owner_of};
+ghost use Rattle.p2p_server.specs.Answers.{Does, contents_after, failed_in, is_in, owner_of};
 ghost use Rattle.p2p_server.specs.Bounds.{Fits};
 ghost use Rattle.p2p_server.specs.CallsMade.{MakesCalls, fewer};
 ghost use Rattle.p2p_server.specs.Phases.{IsNoGain};
@@ -95,6 +95,7 @@ pub(crate) fn check_present<K: Keeper>(
     ensures later { K.faults keeper.old ≤ K.faults keeper.new }
     ensures cause { IfSome (failed_in result.kind) (λ call. Rose (K.faults keeper.old) (K.faults keeper.new)) }
     ensures calls { MakesCalls (calls.Has ∷ []) (failed_in result.kind) (K.failing keeper.old) (K.failing keeper.new) }
+    ensures contents { K.contents keeper.new ≡ contents_after (K.contents keeper.old) (K.parts keeper.old) result.kind }
 {
     match table.check(keeper, &key) {
         Ok(Look::Present) => granted(EntryKind::Check {
@@ -122,6 +123,7 @@ pub(crate) fn remove<K: Keeper>(scene: Scene, table: &LockTable, keeper: &mut K,
     ensures cause { IfSome (failed_in result.kind) (λ call. Rose (K.faults keeper.old) (K.faults keeper.new)) }
     ensures calls { ForSome (K.contents keeper.old) (λ c. MakesCalls (to_remove (is_in c key) (bar_at table.now key) (is_blocked table.now.holds key scene.clock)) (failed_in result.kind) (K.failing keeper.old) (K.failing keeper.new)) }
     ensures left { K.failing keeper.new ≡ option_map (fewer (failed_in result.kind)) (K.failing keeper.old) }
+    ensures contents { K.contents keeper.new ≡ contents_after (K.contents keeper.old) (K.parts keeper.old) result.kind }
 {
     match table.remove_now(keeper, &key, scene.clock) {
         Ok(Removed::Gone) => granted(EntryKind::Gone {
@@ -159,6 +161,7 @@ pub(crate) fn remove_before<K: Keeper>(
     ensures cause { IfSome (failed_in result.kind) (λ call. Rose (K.faults keeper.old) (K.faults keeper.new)) }
     ensures calls { ForSome (K.contents keeper.old) (λ c. MakesCalls (if nat_lt scene.clock (1000 * before) then to_remove (is_in c key) (bar_at table.now key) (is_blocked table.now.holds key scene.clock) else []) (failed_in result.kind) (K.failing keeper.old) (K.failing keeper.new)) }
     ensures left { K.failing keeper.new ≡ option_map (fewer (failed_in result.kind)) (K.failing keeper.old) }
+    ensures contents { K.contents keeper.new ≡ contents_after (K.contents keeper.old) (K.parts keeper.old) result.kind }
 {
     if scene.clock / 1000 < before {
         remove(scene, table, keeper, key)
@@ -200,6 +203,7 @@ pub(crate) fn lock<K: Keeper>(
     ensures calls { IfOk result (λ r. ForSome (K.contents keeper.old) (λ c. MakesCalls (to_lock scene.place.locks (is_in c key) (bar_at table.old key)) (failed_in r.0.kind) (K.failing keeper.old) (K.failing keeper.new))) }
     ensures left { IfOk result (λ r. K.failing keeper.new ≡ option_map (fewer (failed_in r.0.kind)) (K.failing keeper.old)) }
     ensures err_failing { OnErr result (K.failing keeper.new ≡ K.failing keeper.old) }
+    ensures contents { IfOk result (λ r. K.contents keeper.new ≡ contents_after (K.contents keeper.old) (K.parts keeper.old) r.0.kind) }
 {
     if !scene.place.locks {
         return Ok((denied(Found::Nolock, key), None));

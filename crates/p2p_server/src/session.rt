@@ -20,7 +20,7 @@ ghost use Rattle.node_model.specs.State.{State};
 ghost use Rattle.content_lock.specs.Rows.{Rows, bar_at, is_filling};
 ghost use Rattle.content_lock.specs.Stored.{Agrees};
 ghost use Rattle.content_lock.specs.Tokens.{Owns, ShareView, given_in};
-ghost use Rattle.p2p_server.specs.Answers.{failed_in, owner_at, reply_of, size_in};
+ghost use Rattle.p2p_server.specs.Answers.{LeavesContents, contents_after, failed_in, owner_at, reply_of, size_in};
 ghost use Rattle.p2p_server.specs.Bounds.{Fits, FitsMore, IsKind, IsReplyIf};
 ghost use Rattle.p2p_server.specs.CallsMade.{MakesCalls, fewer};
 ghost use Rattle.p2p_server.specs.Giving.{IsPieceOf, failed_more, is_giving, reply_more, session_sent};
@@ -117,6 +117,7 @@ impl Session {
             (moment_of self.old table.old contents parts records faults)
             (moment_of self.new table.new contents parts records faults) result }
         ensures calls { (x : Scene) (i : Incoming) (contents : Option Contents) (parts : Option Parts) (failing : Option (Call → ℕ)) → IsUnexpected i self.old → Makes x i self.old table.old contents parts failing failing result }
+        ensures leaves { IfOk result (λ step. LeavesContents step.kind) }
     {
         let text = Text::new(alloc, b"unexpected")?;
         self.reset(table);
@@ -132,6 +133,7 @@ impl Session {
             (moment_of self.old table.old contents parts records faults)
             (moment_of self.new table.new contents parts records faults) result }
         ensures calls { (x : Scene) (text : List ℕ) (contents : Option Contents) (parts : Option Parts) (failing : Option (Call → ℕ)) → MakesStep x (Incoming.Message (Message.Error text)) self.old table.old contents parts failing failing result }
+        ensures leaves { LeavesContents result.kind }
     {
         self.reset(table);
         Step::closes(self.place.close_kind(), None)
@@ -166,6 +168,7 @@ impl Session {
         ensures files { K.files keeper.new ≡ K.files keeper.old }
         ensures told { is_some (K.contents keeper.new) ≡ is_some (K.contents keeper.old) }
         ensures calls { Makes scene (Incoming.Message (Message.LockContent key.now)) self.old table.old (K.contents keeper.old) (K.parts keeper.old) (K.failing keeper.old) (K.failing keeper.new) result }
+        ensures contents { IfOk result (λ step. K.contents keeper.new ≡ contents_after (K.contents keeper.old) (K.parts keeper.old) step.kind) }
     {
         let key = key.copy()?;
         let (step, share) = answers::lock(scene, table, keeper, key)?;
@@ -198,6 +201,7 @@ impl Session {
         ensures files { K.files keeper.new ≡ K.files keeper.old }
         ensures told { is_some (K.contents keeper.new) ≡ is_some (K.contents keeper.old) }
         ensures calls { Makes scene (Incoming.Message message.now) self.old table.old (K.contents keeper.old) (K.parts keeper.old) (K.failing keeper.old) (K.failing keeper.new) result }
+        ensures contents { IfOk result (λ step. K.contents keeper.new ≡ contents_after (K.contents keeper.old) (K.parts keeper.old) step.kind) }
     {
         match message {
             Message::Error(_) => Ok(self.give_up(table)),
@@ -262,6 +266,7 @@ impl Session {
         ensures files { K.files keeper.new ≡ K.files keeper.old }
         ensures told { is_some (K.contents keeper.new) ≡ is_some (K.contents keeper.old) }
         ensures calls { Makes scene (Incoming.Message message.now) self.old table.old (K.contents keeper.old) (K.parts keeper.old) (K.failing keeper.old) (K.failing keeper.new) result }
+        ensures contents { IfOk result (λ step. K.contents keeper.new ≡ contents_after (K.contents keeper.old) (K.parts keeper.old) step.kind) }
     {
         match message {
             Message::Error(_) => Ok(self.give_up(table)),
@@ -293,6 +298,8 @@ impl Session {
         ensures files { K.files keeper.new ≡ K.files keeper.old }
         ensures told { is_some (K.contents keeper.new) ≡ is_some (K.contents keeper.old) }
         ensures calls { MakesStep scene (Incoming.Message (Message.UnlockContent key)) self.old table.old (K.contents keeper.old) (K.parts keeper.old) (K.failing keeper.old) (K.failing keeper.new) result }
+        ensures leaves { LeavesContents result.kind }
+        ensures contents { K.contents keeper.new ≡ K.contents keeper.old }
     {
         let share = unguard(&mut self.doing);
         let hold = share.number();
@@ -322,6 +329,7 @@ impl Session {
             (moment_of self.old table.old contents parts records faults)
             (moment_of self.new table.new contents parts records faults) result }
         ensures calls { (contents : Option Contents) (parts : Option Parts) (failing : Option (Call → ℕ)) → Makes scene (Incoming.Message message.now) self.old table.old contents parts failing failing result }
+        ensures leaves { IfOk result (λ step. LeavesContents step.kind) }
     {
         match message {
             Message::Error(_) => Ok(self.give_up(table)),
@@ -343,6 +351,7 @@ impl Session {
             (moment_of self.old table.old contents parts records faults)
             (moment_of self.new table.new contents parts records faults) result }
         ensures calls { (contents : Option Contents) (parts : Option Parts) (failing : Option (Call → ℕ)) → Makes scene (Incoming.Message message.now) self.old table.old contents parts failing failing result }
+        ensures leaves { IfOk result (λ step. LeavesContents step.kind) }
     {
         match message {
             Message::Error(_) => Ok(self.give_up(table)),
@@ -373,6 +382,7 @@ impl Session {
         ensures files { K.files keeper.new ≡ K.files keeper.old }
         ensures told { is_some (K.parts keeper.old) ≡ true → is_some (K.contents keeper.new) ≡ is_some (K.contents keeper.old) }
         ensures calls { Makes scene incoming.now self.old table.old (K.contents keeper.old) (K.parts keeper.old) (K.failing keeper.old) (K.failing keeper.new) result }
+        ensures contents { IfOk result (λ step. K.contents keeper.new ≡ contents_after (K.contents keeper.old) (K.parts keeper.old) step.kind) }
     {
         match incoming {
             Incoming::Opening => Ok(answers::welcome(scene.place.id)),
@@ -466,6 +476,7 @@ impl Session {
         // The files stay. A store that tells its contents still does; of a commit it must tell the part, too.
         ensures files { K.files keeper.new ≡ K.files keeper.old }
         ensures told { is_some (K.parts keeper.old) ≡ true → is_some (K.contents keeper.new) ≡ is_some (K.contents keeper.old) }
+        ensures contents { IfOk result (λ step. K.contents keeper.new ≡ contents_after (K.contents keeper.old) (K.parts keeper.old) step.kind) }
     {
         let scene = Scene {
             place: self.place,

@@ -20,7 +20,7 @@ ghost use Rattle.node_model.specs.State.{State};
 ghost use Rattle.content_lock.specs.Rows.{Rows, bar_at, is_filling};
 ghost use Rattle.content_lock.specs.Stored.{Agrees};
 ghost use Rattle.content_lock.specs.Tokens.{Owns, ShareView, given_in};
-ghost use Rattle.p2p_server.specs.Answers.{failed_in, owner_at, reply_of, size_in};
+ghost use Rattle.p2p_server.specs.Answers.{LeavesContents, contents_after, failed_in, owner_at, reply_of, size_in};
 ghost use Rattle.p2p_server.specs.Bounds.{Fits, FitsMore, IsKind, IsReplyIf};
 ghost use Rattle.p2p_server.specs.CallsMade.{MakesCalls, fewer};
 ghost use Rattle.p2p_server.specs.Giving.{IsPieceOf, failed_more, is_giving, reply_more, session_sent};
@@ -65,6 +65,7 @@ impl Session {
         ensures files { K.files keeper.new ≡ K.files keeper.old }
         ensures told { is_some (K.contents keeper.new) ≡ is_some (K.contents keeper.old) }
         ensures calls { (file : List ℕ) → Makes scene (Incoming.Message (Message.Get start file key.now)) self.old table.now (K.contents keeper.old) (K.parts keeper.old) (K.failing keeper.old) (K.failing keeper.new) result }
+        ensures contents { IfOk result (λ step. K.contents keeper.new ≡ contents_after (K.contents keeper.old) (K.parts keeper.old) step.kind) }
     {
         let (step, giving) = transfer::get(scene, keeper, start, key)?;
         match giving {
@@ -98,6 +99,7 @@ impl Session {
         ensures files { K.files keeper.new ≡ K.files keeper.old }
         ensures told { is_some (K.contents keeper.new) ≡ is_some (K.contents keeper.old) }
         ensures calls { (file : List ℕ) → Makes scene (Incoming.Message (Message.Put file key.now)) self.old table.old (K.contents keeper.old) (K.parts keeper.old) (K.failing keeper.old) (K.failing keeper.new) result }
+        ensures contents { IfOk result (λ step. K.contents keeper.new ≡ contents_after (K.contents keeper.old) (K.parts keeper.old) step.kind) }
     {
         let (step, wanting) = transfer::put(scene, alloc, table, keeper, key)?;
         match wanting {
@@ -123,6 +125,7 @@ impl Session {
             (moment_of self.old table.old contents parts records faults)
             (moment_of self.new table.new contents parts records faults) result }
         ensures calls { (contents : Option Contents) (parts : Option Parts) (failing : Option (Call → ℕ)) → Makes scene (Incoming.Message message.now) self.old table.old contents parts failing failing result }
+        ensures leaves { IfOk result (λ step. LeavesContents step.kind) }
     {
         match message {
             Message::Error(_) => Ok(self.give_up(table)),
@@ -151,6 +154,7 @@ impl Session {
         ensures files { K.files keeper.new ≡ K.files keeper.old }
         ensures told { is_some (K.contents keeper.new) ≡ is_some (K.contents keeper.old) }
         ensures calls { Makes scene (Incoming.Bytes bytes.now) self.old table.old (K.contents keeper.old) (K.parts keeper.old) (K.failing keeper.old) (K.failing keeper.new) result }
+        ensures contents { IfOk result (λ step. K.contents keeper.new ≡ contents_after (K.contents keeper.old) (K.parts keeper.old) step.kind) }
     {
         let Doing::Takes(taking) = &self.doing else {
             return self.refuse(alloc, table);
@@ -190,6 +194,7 @@ impl Session {
         ensures files { K.files keeper.new ≡ K.files keeper.old }
         ensures told { is_some (K.parts keeper.old) ≡ true → is_some (K.contents keeper.new) ≡ is_some (K.contents keeper.old) }
         ensures calls { Makes scene (Incoming.Message message.now) self.old table.old (K.contents keeper.old) (K.parts keeper.old) (K.failing keeper.old) (K.failing keeper.new) result }
+        ensures contents { IfOk result (λ step. K.contents keeper.new ≡ contents_after (K.contents keeper.old) (K.parts keeper.old) step.kind) }
     {
         match message {
             Message::Error(_) => Ok(self.give_up(table)),
@@ -218,6 +223,7 @@ impl Session {
         ensures files { K.files keeper.new ≡ K.files keeper.old }
         ensures told { is_some (K.parts keeper.old) ≡ true → is_some (K.contents keeper.new) ≡ is_some (K.contents keeper.old) }
         ensures calls { Makes scene (Incoming.Message Message.Valid) self.old table.old (K.contents keeper.old) (K.parts keeper.old) (K.failing keeper.old) (K.failing keeper.new) result }
+        ensures contents { IfOk result (λ step. K.contents keeper.new ≡ contents_after (K.contents keeper.old) (K.parts keeper.old) step.kind) }
     {
         let Doing::Took(taken) = &self.doing else {
             return self.refuse(alloc, table);

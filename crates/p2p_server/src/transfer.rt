@@ -13,7 +13,7 @@ ghost use Rattle.node_model.specs.Ends.{server_end};
 ghost use Rattle.node_model.specs.Sessions.{Gives, Waits, gives, reaches, takes_more, version_told, wants};
 ghost use Rattle.node_model.specs.SessionStep.{Here, bytes_left, content_of, on_put, on_valid, reply, tries};
 ghost use Rattle.content_lock.specs.Rows.{Rows, bar_at, is_filling};
-ghost use Rattle.p2p_server.specs.Answers.{Changes, Does, failed_in, is_in, owner_of, reply_of, size_in};
+ghost use Rattle.p2p_server.specs.Answers.{Changes, Does, LeavesContents, contents_after, failed_in, is_in, owner_of, reply_of, size_in};
 ghost use Rattle.p2p_server.specs.Bounds.{Fits};
 ghost use Rattle.p2p_server.specs.CallsMade.{MakesCalls, fewer};
 ghost use Rattle.p2p_server.specs.Phases.{IsJudged, IsNoGain, wanted_in};
@@ -83,6 +83,7 @@ pub(crate) fn get<K: Keeper>(
     ensures cause { IfOk result (λ r. IfSome (failed_in r.0.kind) (λ call. Rose (K.faults keeper.old) (K.faults keeper.new))) }
     ensures calls { IfOk result (λ r. MakesCalls (calls.Size ∷ []) (failed_in r.0.kind) (K.failing keeper.old) (K.failing keeper.new)) }
     ensures err_failing { OnErr result (K.failing keeper.new ≡ K.failing keeper.old) }
+    ensures leaves { IfOk result (λ r. LeavesContents r.0.kind) }
 {
     let key = key.copy()?;
     match keeper.size(&key) {
@@ -141,6 +142,7 @@ pub(crate) fn put<K: Keeper>(
     ensures calls { IfOk result (λ r. ForSome (K.contents keeper.old) (λ c. (part : ℕ) → Tells (K.parts keeper.old) (λ p. part ≡ length (p key.now)) → MakesCalls (to_offer part (is_in c key.now) (is_filling table.old key.now)) (failed_in r.0.kind) (K.failing keeper.old) (K.failing keeper.new))) }
     ensures left { IfOk result (λ r. K.failing keeper.new ≡ option_map (fewer (failed_in r.0.kind)) (K.failing keeper.old)) }
     ensures err_failing { OnErr result (K.failing keeper.new ≡ K.failing keeper.old) }
+    ensures leaves { IfOk result (λ r. LeavesContents r.0.kind) }
 {
     match keeper.has(key) {
         Ok(true) => Ok((
@@ -192,6 +194,7 @@ fn ask<K: Keeper>(
     ensures calls { IfOk result (λ r. (part : ℕ) → Tells (K.parts keeper.old) (λ p. part ≡ length (p key.now)) → MakesCalls (to_resume part) (failed_in r.0.kind) (K.failing keeper.old) (K.failing keeper.new)) }
     ensures left { IfOk result (λ r. K.failing keeper.new ≡ option_map (fewer (failed_in r.0.kind)) (K.failing keeper.old)) }
     ensures err_failing { OnErr result (K.failing keeper.new ≡ K.failing keeper.old) }
+    ensures leaves { IfOk result (λ r. LeavesContents r.0.kind) }
 {
     let size = match keeper.part_size(key) {
         Ok(size) => size,
@@ -399,6 +402,7 @@ pub(crate) fn verify<K: Keeper>(
     ensures calls { IfOk result (λ step. (right : Bool) → SeesTaken (K.parts keeper.old) taken.now right → MakesCalls (to_commit right) (failed_in step.kind) (K.failing keeper.old) (K.failing keeper.new)) }
     ensures left { IfOk result (λ step. K.failing keeper.new ≡ option_map (fewer (failed_in step.kind)) (K.failing keeper.old)) }
     ensures err_failing { OnErr result (K.failing keeper.new ≡ K.failing keeper.old) }
+    ensures contents { IfOk result (λ step. K.contents keeper.new ≡ contents_after (K.contents keeper.old) (K.parts keeper.old) step.kind) }
 {
     let key = taken.fill.key().copy()?;
     match &taken.sum {
@@ -427,6 +431,7 @@ fn commit<K: Keeper>(scene: Scene, keeper: &mut K, key: Key, size: u64) -> Resul
     ensures cause { IfOk result (λ step. IfSome (failed_in step.kind) (λ call. Rose (K.faults keeper.old) (K.faults keeper.new))) }
     ensures calls { IfOk result (λ step. MakesCalls (calls.Commit ∷ []) (failed_in step.kind) (K.failing keeper.old) (K.failing keeper.new)) }
     ensures err_failing { OnErr result (K.failing keeper.new ≡ K.failing keeper.old) }
+    ensures contents { IfOk result (λ step. K.contents keeper.new ≡ contents_after (K.contents keeper.old) (K.parts keeper.old) step.kind) }
 {
     match keeper.commit(&key) {
         Ok(()) => Ok(Step::says(
@@ -456,6 +461,7 @@ fn discard<K: Keeper>(scene: Scene, keeper: &mut K, key: &Key) -> Step
     ensures later { K.faults keeper.old ≤ K.faults keeper.new }
     ensures cause { IfSome (failed_in result.kind) (λ call. Rose (K.faults keeper.old) (K.faults keeper.new)) }
     ensures calls { MakesCalls (calls.DropPart ∷ []) (failed_in result.kind) (K.failing keeper.old) (K.failing keeper.new) }
+    ensures leaves { LeavesContents result.kind }
 {
     match keeper.drop_part(key) {
         Ok(()) => Step::says(EntryKind::Talk { job: None }, Message::Failure),

@@ -107,3 +107,9 @@ returns-in-Err-StoreFault-clause-left g c =
     let why = rw c.in-Err-StoreFault.field-0-is at c.in-Err-StoreFault.ensures.why in
     let turns = rw c.in-Err-StoreFault.field-0-is at c.in-Err-StoreFault.ensures.failing in
     rw c.failed.ensures (remove_left _ _ c.args.key _ _ _ _ _ why turns)
+
+pub returns-in-Ok-Gone-clause-contents : goal.returns-in-Ok-Gone-clause-contents
+returns-in-Ok-Gone-clause-contents g c = rw c.granted.ensures (c.in-Ok-Gone.ensures.gone c.in-Ok-Gone.field-0-is)
+
+pub returns-in-Ok-Absent-clause-contents : goal.returns-in-Ok-Absent-clause-contents
+returns-in-Ok-Absent-clause-contents g c = rw c.granted-in-Ok-Absent.ensures (c.in-Ok-Absent.ensures.absent c.in-Ok-Absent.field-0-is)

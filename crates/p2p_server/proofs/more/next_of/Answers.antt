@@ -28,13 +28,13 @@ returns-in-Ok-2-clause-does g c = λ k is h at content fails.
     (rw content (reads_off (k giving.key) giving.at n c.in-Ok-2.field-0 told (λ e. c.if-read-count.false (cc (c.in-Ok.is, c.in-Ok-2.is)))))
 
 pub returns-in-Ok-clause-calls : goal.returns-in-Ok-clause-calls
-returns-in-Ok-clause-calls g c = 
+returns-in-Ok-clause-calls g c =
     let giving = c.args.giving.now in
     let some : 0 < giving.end - giving.at = omega (arith, c.if-left-eq0.false) in
     rw (some_left (giving.end - giving.at) some) (makes_one calls.Read false _ _ c.in-Ok.ensures.failing)
 
 pub returns-in-Ok-2-clause-calls : goal.returns-in-Ok-2-clause-calls
-returns-in-Ok-2-clause-calls g c = 
+returns-in-Ok-2-clause-calls g c =
     let giving = c.args.giving.now in
     let some : 0 < giving.end - giving.at = omega (arith, c.if-left-eq0.false) in
     rw (some_left (giving.end - giving.at) some) (makes_one calls.Read false _ _ c.in-Ok-2.ensures.failing)

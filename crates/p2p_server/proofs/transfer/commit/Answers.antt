@@ -13,3 +13,6 @@ returns-in-Ok-clause-calls g c = rw c.says.ensures (makes_one calls.Commit false
 
 pub returns-clause-err_failing : goal.returns-clause-err_failing
 returns-clause-err_failing g c = memory_left (Unit {0}) calls.Commit _ _ _ c.in-Err-NoMemory.field-0-is c.in-Err-NoMemory.ensures.failing
+
+pub returns-in-Ok-clause-contents : goal.returns-in-Ok-clause-contents
+returns-in-Ok-clause-contents g c = rw c.says.ensures c.in-Ok.ensures.content

@@ -30,6 +30,6 @@ pub returns-in_err-count-clause-memory : goal.returns-in_err-count-clause-memory
 returns-in_err-count-clause-memory g c = memory_handed ℕ c.from_residual.result calls.ReadPart c.in_err-count.field-0.0 _ _ _ c.from_residual.ensures.1 c.loop-at.invariant.failing c.in_err-count.ensures.failing
 
 pub returns-clause-calls : goal.returns-clause-calls
-returns-clause-calls g c = 
+returns-clause-calls g c =
     let was = c.loop-at.invariant in
     record { told = was.none (omega (arith, c.loop-at-test.false)); count = was.failing ∙ unchanged_all calls.ReadPart _ (was.none (omega (arith, c.loop-at-test.false))) }

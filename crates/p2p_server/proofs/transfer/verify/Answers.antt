@@ -3,6 +3,7 @@ use Rattle.std.proofs.Common.{refl, ◌∙◌}
 use Rattle.std.proofs.lemmas.Result.{IfOk-weaker}
 use Rattle.p2p_server.proofs.Calm.{each_ok}
 use Rattle.p2p_server.proofs.Transfers.{judged_lost, judged_right, judged_so, sees_right, sees_wrong, wrong_digest, wrong_size}
+use Rattle.std.proofs.Common.{sym}
 use Rattle.p2p_server.proofs.transfer.verify.Goals as goal
 
 pub returns-in-Right-clause-does : goal.returns-in-Right-clause-does
@@ -61,3 +62,12 @@ returns-in-WrongDigest-clause-calls g c = λ right sees.
     let key = c.in_ok-key.ensures ∙ c.key.ensures in
     let no = sees_wrong _ c.args.taken.now c.in-Some.sum c.in_ok-key.key right c.in_ok-judge_sum-in-Some.field-0 c.in-Some.is key c.in_ok-judge_sum-in-Some.ensures.right (wrong_digest _ _ _ c.in-WrongDigest.is) sees in
     rw no c.discard-in-WrongDigest.ensures.calls
+
+pub returns-in-WrongSize-clause-contents : goal.returns-in-WrongSize-clause-contents
+returns-in-WrongSize-clause-contents g c = c.discard.ensures.contents ∙ sym (c.discard.ensures.leaves _ _)
+
+pub returns-in-WrongDigest-clause-contents : goal.returns-in-WrongDigest-clause-contents
+returns-in-WrongDigest-clause-contents g c = c.discard-in-WrongDigest.ensures.contents ∙ sym (c.discard-in-WrongDigest.ensures.leaves _ _)
+
+pub returns-in-None-clause-contents : goal.returns-in-None-clause-contents
+returns-in-None-clause-contents g c = c.discard-in-None.ensures.contents ∙ sym (c.discard-in-None.ensures.leaves _ _)

@@ -26,14 +26,14 @@ returns-in-None-clause-goes g c =
     c.requires.at.here r.does r.after c.lock.ensures.bars r.fits r.shared r.refused r.owns c.lock.ensures.others r.plain r.still c.lock.ensures.parts c.lock.ensures.agrees c.lock.ensures.later r.cause)
 
 pub returns-in-Some-clause-calls : goal.returns-in-Some-clause-calls
-returns-in-Some-clause-calls g c = 
+returns-in-Some-clause-calls g c =
     let r = c.in_ok-step.ensures in
     let key = c.in_ok-key.key in
     rw (← c.in_ok-key.ensures) (
     request_makes c.args.scene _ c.args.self.now c.args.table.now _ _ _ _ c.in_ok-step.step (λ h. to_lock h.locks (is_here h key) (bar_on h key)) c.requires.waits (λ h. refl) (λ k is part right sees. r.calls k is) r.left)
 
 pub returns-in-None-clause-calls : goal.returns-in-None-clause-calls
-returns-in-None-clause-calls g c = 
+returns-in-None-clause-calls g c =
     let r = c.in_ok-step.ensures in
     let key = c.in_ok-key.key in
     rw (← c.in_ok-key.ensures) (

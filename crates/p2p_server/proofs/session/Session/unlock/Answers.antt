@@ -19,11 +19,11 @@ returns-in-Ok-clause-goes g c =
     c.in-Ok.ensures.after c.in-Ok.ensures.owns c.in-Ok.ensures.others c.release.ensures.contents c.release.ensures.parts c.release.ensures.agrees c.release.ensures.later
 
 pub returns-in-Ok-clause-calls : goal.returns-in-Ok-clause-calls
-returns-in-Ok-clause-calls g c = 
+returns-in-Ok-clause-calls g c =
     unlock_makes c.args.scene c.args.key c.args.self.now c.unguard-share.result c.args.table.now _ _ _ _ c.silent.result c.requires.guards c.unguard-share.ensures.guards
     (rw c.silent.ensures (makes_one calls.Unhold false _ _ c.in-Ok.ensures.failing))
 
 pub returns-in-Err-clause-calls : goal.returns-in-Err-clause-calls
-returns-in-Err-clause-calls g c = 
+returns-in-Err-clause-calls g c =
     unlock_makes c.args.scene c.args.key c.args.self.now c.unguard-share.result c.args.table.now _ _ _ _ c.silent-in-Err.result c.requires.guards c.unguard-share.ensures.guards
     (rw c.silent-in-Err.ensures (makes_one calls.Unhold true _ _ c.in-Err.ensures.failing))

@@ -36,3 +36,9 @@ returns-in-None-clause-calls g c = λ file.
     let r = c.in_ok-step.ensures in
     request_makes c.args.scene _ c.args.self.now c.args.table.now _ _ _ _ c.in_ok-step.step (λ h. calls.Size ∷ []) c.requires.waits
     (λ h. if_true _ (calls.Size ∷ []) (le-leb 1 c.args.self.now.spoken c.requires.spoken)) (λ k is part right sees. r.calls) r.calls.left
+
+pub returns-in-Some-clause-contents : goal.returns-in-Some-clause-contents
+returns-in-Some-clause-contents g c = c.get.ensures.contents ∙ sym (c.in_ok-step.ensures.leaves _ _)
+
+pub returns-in-None-clause-contents : goal.returns-in-None-clause-contents
+returns-in-None-clause-contents g c = c.get.ensures.contents ∙ sym (c.in_ok-step.ensures.leaves _ _)

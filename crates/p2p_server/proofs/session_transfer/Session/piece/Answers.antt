@@ -12,6 +12,7 @@ use Rattle.annex_base.specs.declared.kinds.Call.TheVariants as calls
 use Rattle.std.proofs.Common.{false}
 use Rattle.p2p_server.proofs.Calling.{makes_one, memory_left}
 use Rattle.p2p_server.proofs.Making.{piece_makes}
+use Rattle.p2p_server.proofs.Leaving.{contents_left}
 use Rattle.p2p_server.proofs.session_transfer.Session.piece.Goals as goal
 
 pub returns-in_default-clause-goes : goal.returns-in_default-clause-goes
@@ -46,7 +47,7 @@ pub returns-in_default-clause-calls : goal.returns-in_default-clause-calls
 returns-in_default-clause-calls g c = c.refuse.ensures.calls c.args.scene _ _ _ _ (no_bytes c.args.self.now c.args.bytes.now c.in_default.not-Takes)
 
 pub returns-then-not-awaits-clause-calls : goal.returns-then-not-awaits-clause-calls
-returns-then-not-awaits-clause-calls g c = 
+returns-then-not-awaits-clause-calls g c =
     let left = c.in-Takes.taking.left in
     let len : c.len-count.result ≡ length c.args.bytes.now.items = omega (arith, c.args.bytes.now.ok.0, c.len-count.ensures) in
     c.refuse-then-not-awaits.ensures.calls c.args.scene _ _ _ _
@@ -54,7 +55,7 @@ returns-then-not-awaits-clause-calls g c =
     ((λ j. nat_lt 0 (sym len j) && nat_le (sym len j) left) ∙ sym c.awaits.ensures ∙ c.if-not-awaits.true))
 
 pub returns-in-Ok-clause-calls : goal.returns-in-Ok-clause-calls
-returns-in-Ok-clause-calls g c = 
+returns-in-Ok-clause-calls g c =
     let len : c.len-count.result ≡ length c.args.bytes.now.items = omega (arith, c.args.bytes.now.ok.0, c.len-count.ensures) in
     let left = c.in-Takes.taking.left in
     let fits : (nat_lt 0 (length c.args.bytes.now.items) && nat_le (length c.args.bytes.now.items) left) ≡ true =
@@ -63,7 +64,7 @@ returns-in-Ok-clause-calls g c =
     (rw c.silent.ensures (makes_one calls.Append false _ _ c.in-Ok.ensures.failing))
 
 pub returns-in-Err-Failed-clause-calls : goal.returns-in-Err-Failed-clause-calls
-returns-in-Err-Failed-clause-calls g c = 
+returns-in-Err-Failed-clause-calls g c =
     let len : c.len-count.result ≡ length c.args.bytes.now.items = omega (arith, c.args.bytes.now.ok.0, c.len-count.ensures) in
     let left = c.in-Takes.taking.left in
     let fits : (nat_lt 0 (length c.args.bytes.now.items) && nat_le (length c.args.bytes.now.items) left) ≡ true =
@@ -74,3 +75,15 @@ returns-in-Err-Failed-clause-calls g c =
 
 pub returns-in-Err-NoMemory-clause-calls : goal.returns-in-Err-NoMemory-clause-calls
 returns-in-Err-NoMemory-clause-calls g c = memory_left (Unit {0}) calls.Append _ _ _ c.in-Err-NoMemory.field-0-is c.in-Err-NoMemory.ensures.failing
+
+pub returns-in_default-clause-contents : goal.returns-in_default-clause-contents
+returns-in_default-clause-contents g c = contents_left _ _ c.refuse.result c.refuse.ensures.leaves
+
+pub returns-then-not-awaits-clause-contents : goal.returns-then-not-awaits-clause-contents
+returns-then-not-awaits-clause-contents g c = contents_left _ _ c.refuse-then-not-awaits.result c.refuse-then-not-awaits.ensures.leaves
+
+pub returns-in-Ok-clause-contents : goal.returns-in-Ok-clause-contents
+returns-in-Ok-clause-contents g c = rw c.silent.ensures c.append_part.ensures.contents
+
+pub returns-in-Err-Failed-clause-contents : goal.returns-in-Err-Failed-clause-contents
+returns-in-Err-Failed-clause-contents g c = rw c.lost.ensures c.append_part.ensures.contents

@@ -1,6 +1,8 @@
 -- By the client's word on what it sent.
 use Rattle.p2p_server.proofs.Phases.{invalid_so}
 use Rattle.p2p_server.proofs.Unexpected.{none_took}
+use Rattle.p2p_server.proofs.Leaving.{contents_left}
+use Rattle.std.proofs.Common.{sym}
 use Rattle.p2p_server.proofs.session_transfer.Session.received.Goals as goal
 
 pub returns-in-Error-clause-goes : goal.returns-in-Error-clause-goes
@@ -25,6 +27,12 @@ pub returns-in-Valid-clause-calls : goal.returns-in-Valid-clause-calls
 returns-in-Valid-clause-calls g c = rw c.in-Valid.is c.verify.ensures.calls
 
 pub returns-in_default-clause-calls : goal.returns-in_default-clause-calls
-returns-in_default-clause-calls g c = 
+returns-in_default-clause-calls g c =
     c.refuse.ensures.calls c.args.scene _ _ _ _
     (none_took c.args.self.now c.args.message.now c.requires.phase c.in_default.not-Error c.in_default.not-Valid c.in_default.not-Invalid)
+
+pub returns-in-Error-clause-contents : goal.returns-in-Error-clause-contents
+returns-in-Error-clause-contents g c = sym (c.give_up.ensures.leaves _ _)
+
+pub returns-in_default-clause-contents : goal.returns-in_default-clause-contents
+returns-in_default-clause-contents g c = contents_left _ _ c.refuse.result c.refuse.ensures.leaves

@@ -2,6 +2,7 @@
 use Rattle.p2p_server.proofs.Unexpected.{no_valid}
 use Rattle.p2p_server.proofs.Phases.{valid_so}
 use Rattle.p2p_server.proofs.Making.{valid_makes}
+use Rattle.p2p_server.proofs.Leaving.{contents_left}
 use Rattle.p2p_server.proofs.session_transfer.Session.verify.Goals as goal
 
 pub returns-in_default-clause-goes : goal.returns-in_default-clause-goes
@@ -17,6 +18,9 @@ pub returns-in_default-clause-calls : goal.returns-in_default-clause-calls
 returns-in_default-clause-calls g c = c.refuse.ensures.calls c.args.scene _ _ _ _ (no_valid c.args.self.now c.in_default.not-Took)
 
 pub returns-clause-calls : goal.returns-clause-calls
-returns-clause-calls g c = 
+returns-clause-calls g c =
     let r = c.in_ok-step.ensures in
     valid_makes c.args.scene c.args.self.now c.in-Took.taken c.args.table.now _ _ _ _ c.in_ok-step.step c.in-Took.is r.calls r.left
+
+pub returns-in_default-clause-contents : goal.returns-in_default-clause-contents
+returns-in_default-clause-contents g c = contents_left _ _ c.refuse.result c.refuse.ensures.leaves
