@@ -13,3 +13,6 @@ pub mod Remote
 pub mod Begun
 pub mod Sides
 pub mod Stepping
+pub mod CallsMade
+pub mod SlotCalls
+pub mod Calling
