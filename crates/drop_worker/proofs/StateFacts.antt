@@ -22,7 +22,7 @@ use Rattle.drop_worker.specs.declared.turn.Taken.{Taken}
 use Rattle.drop_worker.specs.declared.turn.Output.{Output}
 use Rattle.drop_worker.specs.Worker.{Worker}
 use Rattle.drop_worker.specs.Working.{Rest, Sight, end_in, failed_in, made_of, phase_as, present_in, turn_in, work_of}
-use Rattle.drop_worker.specs.Doing.{moved}
+use Rattle.drop_worker.specs.Doing.{next_work}
 use Rattle.drop_worker.specs.Feeding.{FedAt, FindsAt, step_of}
 use Rattle.drop_worker.specs.Sides.{IsNext, side_in}
 use Rattle.drop_worker.specs.Stepping.{DoesSo}
@@ -90,9 +90,9 @@ steps_so x rows rows' contents w w' taken out s st k v f sees d =
       made = (λ i. by_partner now (Jobs.partner (sym work i).what.peer (sym work i).phase))
           ∙ (found_step now o f (ap (λ (u : Work). is_awaiting u.phase) (sym work) ∙ awaiting w.phase) sees.finds (fed_open x now w.slot o f taken sees.sight.ends (ap (λ (u : Work). u.slot) work) sees.fed)
           ∙ ap (λ (m : Made). Some m) (sym (d.makes rest ∙ ap (step_of o f) is)));
-      next = λ going. next_at (side_in w) x.read (reading s st v) (work_of rest w') (moved turned (step_of o f turned))
+      next = λ going. next_at (side_in w) x.read (reading s st v) (work_of rest w') (next_work turned (step_of o f turned))
           (work_after (record { present = st.present; bar = st.bar; ends = st.ends }) s.number (entry_of s.number k made) v) sees.sight.read
-          (ap (moved turned) (sym (d.makes rest)) ∙ (ap (λ (t : Turn). moved t made) is ∙ sym (own_entry (option_is (job_of out.kind) v.number) whose))) (d.next going rest);
+          (ap (next_work turned) (sym (d.makes rest)) ∙ (ap (λ (t : Turn). next_work t made) is ∙ sym (own_entry (option_is (job_of out.kind) v.number) whose))) (d.next going rest);
     }
   where
     o : Option ℕ
@@ -119,5 +119,5 @@ steps_so x rows rows' contents w w' taken out s st k v f sees d =
     whose : option_is (job_of out.kind) v.number ≡ true
     whose = (λ i. option_is (d.whose i) (sym work i).number) ∙ eqb_refl w.number
 
-    own_entry : (b : Bool) → b ≡ true → (if b then moved now made else v) ≡ moved now made
+    own_entry : (b : Bool) → b ≡ true → (if b then next_work now made else v) ≡ next_work now made
     own_entry b e = rw e refl

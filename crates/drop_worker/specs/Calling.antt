@@ -1,24 +1,30 @@
 -- Which calls of its store a step of a drop makes, where the store tells its contents, for private contracts (the project's own).
-use Rattle.std.specs.Prelude.{◌≡◌, ℕ, Bool, not, ◌&&◌, List, [], Option, Some, None, Result, Ok, Err}
+use Rattle.std.specs.Prelude.{◌≡◌, ℕ, Bool, not, ◌&&◌, List, [], ◌∷◌, Option, Some, None, Result, Ok, Err}
 use Rattle.std.specs.List.{list_any}
 use Rattle.std.specs.Option.{ForSome}
 use Rattle.annex_base.specs.declared.kinds.Call.{Call}
+use Rattle.annex_base.specs.declared.kinds.Call.TheVariants as calls
 use Rattle.annex_base.specs.declared.memory.NoMemory.{NoMemory}
 use Rattle.run_data.specs.declared.entry.By.TheVariants.{Job as by_job}
 use Rattle.run_data.specs.declared.entry.FrameView.{FrameView}
+use Rattle.run_data.specs.declared.job.DropRefusal.TheVariants as refusals
 use Rattle.run_data.specs.declared.job.Outcome.{Outcome}
+use Rattle.run_data.specs.declared.job.Outcome.TheVariants.{Refused}
 use Rattle.run_data.specs.declared.row.Hold.{Hold}
 use Rattle.object_store.specs.Stores.{Contents}
 use Rattle.node_model.specs.Calls.{to_release}
+use Rattle.node_model.specs.DropStep.{lacking}
 use Rattle.node_model.specs.JobStep.{Turn}
 use Rattle.node_model.specs.Rows.{is_lost_ordered, same_owner}
 use Rattle.content_lock.specs.Rows.{Rows}
+use Rattle.drop_worker.specs.declared.judging.Verdict.{Verdict}
+use Rattle.drop_worker.specs.declared.judging.Verdict.TheVariants as verdicts
 use Rattle.drop_worker.specs.declared.turn.Output.{Output}
 use Rattle.drop_worker.specs.declared.turn.Taken.{Taken}
 use Rattle.drop_worker.specs.CallsMade.{MakesCalls}
 use Rattle.drop_worker.specs.Feeding.{Fed, FedAt}
 use Rattle.drop_worker.specs.Leaving.{stands_on}
-use Rattle.drop_worker.specs.SlotCalls.{frame_calls, phase_calls}
+use Rattle.drop_worker.specs.SlotCalls.{end_calls, frame_calls, opening_calls, phase_calls}
 use Rattle.drop_worker.specs.Worker.{Worker}
 use Rattle.drop_worker.specs.Working.{Rest, Sight, failed_in, present_in, turn_in}
 
@@ -64,3 +70,10 @@ has_open rows w = list_any (λ (h : Hold). same_owner h.owner (by_job w.number) 
 abbrev pub MakesEnd : Rows → Worker → Outcome → Failing → Failing → Result Output NoMemory → Type 0
 MakesEnd rows w outcome before after (Ok out) = MakesCalls (to_release (has_open rows w && not (is_lost_ordered outcome))) (failed_in out.kind) before after
 MakesEnd rows w outcome before after (Err e) = after ≡ before
+
+-- those of the step of a local drop by its judgement
+abbrev pub calls_by : Verdict → Turn → List Call
+calls_by (verdicts.Asks peer) t = opening_calls t peer
+calls_by verdicts.Removes t = calls.Remove ∷ []
+calls_by (verdicts.Late end clock) t = end_calls t (Refused (refusals.Expired end clock))
+calls_by verdicts.Lacks t = end_calls t (lacking t)

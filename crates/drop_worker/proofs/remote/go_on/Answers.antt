@@ -4,7 +4,7 @@ use Rattle.std.specs.Prelude.{find}
 use Rattle.drop_proof.specs.declared.rule.Side.TheVariants.{Remote}
 use Rattle.run_data.specs.declared.job.Outcome.TheVariants.{Refused}
 use Rattle.drop_worker.specs.declared.phase.Phase.{Phase}
-use Rattle.drop_worker.specs.Judging.{asks_of, gathered}
+use Rattle.drop_worker.specs.Judging.{asks_of, evidence_of}
 use Rattle.drop_worker.specs.Leaving.{store}
 use Rattle.drop_worker.specs.Feeding.{FitsRemote}
 use Rattle.drop_worker.proofs.RemoteGoings.{asks_did, lacks_did_remotely, orders_did}
@@ -16,7 +16,7 @@ returns-in-Enough-clause-did g c = λ number.
     let read = g.H.Here.reading c.args.here.now in
     let w = c.args.worker.now in
     orders_did read (g.H.Here.ends c.args.here.now) c.args.time number w c.go_to.new.worker c.args.target c.requires.stands.remote c.requires.at c.need.result c.deref-3.result.now c.need.ensures
-    (c.deref-3.ensures.value ∙ (c.in_ok-items.ensures.known ∙ ap (λ l. gathered Remote read w l []) (c.deref.ensures.value ∙ c.in_ok-candidates.ensures.all)))
+    (c.deref-3.ensures.value ∙ (c.in_ok-items.ensures.known ∙ ap (λ l. evidence_of Remote read w l []) (c.deref.ensures.value ∙ c.in_ok-candidates.ensures.all)))
     c.args.table.now (store (g.K.Keeper.contents c.args.keeper.now) (g.K.Keeper.records c.args.keeper.now) (g.K.Keeper.faults c.args.keeper.now)) c.go_to.result (c.judge.ensures.enough c.in-Enough.end c.in-Enough.is)
     c.go_to.ensures.does c.go_to.ensures.speaks c.go_to.ensures.err (subst (λ (ph : Phase). FitsRemote ph w.token) c.requires.at c.requires.stands.fits) c.requires.stands.owns c.requires.stands.agrees
 
@@ -25,7 +25,7 @@ returns-in-Some-clause-did g c = λ number.
     let read = g.H.Here.reading c.args.here.now in
     let w = c.args.worker.now in
     asks_did read (g.H.Here.ends c.args.here.now) c.args.time number w c.go_to-in-Some.new.worker c.args.target c.requires.stands.remote c.requires.at c.need.result c.deref-3.result.now c.need.ensures
-    (c.deref-3.ensures.value ∙ (c.in_ok-items.ensures.known ∙ ap (λ l. gathered Remote read w l []) (c.deref.ensures.value ∙ c.in_ok-candidates.ensures.all)))
+    (c.deref-3.ensures.value ∙ (c.in_ok-items.ensures.known ∙ ap (λ l. evidence_of Remote read w l []) (c.deref.ensures.value ∙ c.in_ok-candidates.ensures.all)))
     c.args.table.now (store (g.K.Keeper.contents c.args.keeper.now) (g.K.Keeper.records c.args.keeper.now) (g.K.Keeper.faults c.args.keeper.now)) c.in-Some.peer c.go_to-in-Some.result
     (c.judge.ensures.lacking c.in-Lacking.counted c.in-Lacking.needed c.in-Lacking.full c.in-Lacking.full_needed c.in-Lacking.is).0
     (ap (find (asks_of read w)) (sym (c.deref-in-Lacking.ensures.value ∙ c.in_ok-candidates.ensures.all)) ∙ (sym c.next.ensures ∙ c.in-Some.is))
@@ -36,7 +36,7 @@ returns-clause-did g c = λ number.
     let read = g.H.Here.reading c.args.here.now in
     let w = c.args.worker.now in
     lacks_did_remotely read (g.H.Here.ends c.args.here.now) c.args.time number w c.finish.new.worker c.args.target c.requires.stands.remote c.requires.at c.need.result c.deref-3.result.now c.need.ensures
-    (c.deref-3.ensures.value ∙ (c.in_ok-items.ensures.known ∙ ap (λ l. gathered Remote read w l []) (c.deref.ensures.value ∙ c.in_ok-candidates.ensures.all)))
+    (c.deref-3.ensures.value ∙ (c.in_ok-items.ensures.known ∙ ap (λ l. evidence_of Remote read w l []) (c.deref.ensures.value ∙ c.in_ok-candidates.ensures.all)))
     c.args.table.now c.finish.new.table (store (g.K.Keeper.contents c.args.keeper.now) (g.K.Keeper.records c.args.keeper.now) (g.K.Keeper.faults c.args.keeper.now)) (store (g.K.Keeper.contents c.finish.new.keeper) (g.K.Keeper.records c.finish.new.keeper) (g.K.Keeper.faults c.finish.new.keeper)) (Refused c.in_ok-why-in-None.why) c.finish.result
     (c.judge.ensures.lacking c.in-Lacking.counted c.in-Lacking.needed c.in-Lacking.full c.in-Lacking.full_needed c.in-Lacking.is).0
     (ap (find (asks_of read w)) (sym (c.deref-in-Lacking.ensures.value ∙ c.in_ok-candidates.ensures.all)) ∙ (sym c.next.ensures ∙ c.in-None.is))
