@@ -122,7 +122,7 @@ module _ (read : Reading) (ends_at : EndName → End) (time : ℕ) (rows rows' :
 -- ---- the share that couldn't be released
 
 -- a share is an open hold of its owner's
-open_there : (hs : List Hold) (share : ShareView) (by : By) → HasShare hs share → share.owner ≡ by → same_owner by by ≡ true → list_any (λ h. same_owner h.owner by && not h.kept) hs ≡ true
+pub open_there : (hs : List Hold) (share : ShareView) (by : By) → HasShare hs share → share.owner ≡ by → same_owner by by ≡ true → list_any (λ h. same_owner h.owner by && not h.kept) hs ≡ true
 open_there [] share by has mine itself = absurd (cc)
 open_there (h ∷ hs) share by has mine itself = go ((h.number == share.number) && not h.kept) refl has (λ later. open_there hs share by later mine itself)
   where
@@ -146,7 +146,7 @@ open_there (h ∷ hs) share by has mine itself = go ((h.number == share.number) 
     go false e is ih =
         ap (λ (b : Bool). (same_owner h.owner by && not h.kept) || b) (ih is) ∙ or_true (same_owner h.owner by && not h.kept)
 
-same_number : (n : ℕ) → (n == n) ≡ true
+pub same_number : (n : ℕ) → (n == n) ≡ true
 same_number n = grind arith
 
 release_fails : (t : Turn) (taken : Option FrameView) (outcome : Outcome) → t.look.fails ≡ Some calls.Unhold → owns_share t ≡ true → is_lost_ordered outcome ≡ false → ends t taken outcome ≡ quietly (Fault calls.Unhold (by_me t)) taken
