@@ -24,12 +24,13 @@ use Rattle.node_model.specs.Jobs as Jobs
 use Rattle.node_model.specs.Jobs.{AsksTime, Drops, Fresh, Gets, GetsBytes, GetsWord, Greets, Next, Opens, Part, Phase, Puts, PutsBytes, PutsOffer, PutsWord, Work, is_move, job_end, partner, side_of}
 use Rattle.node_model.specs.JobStep.{Turn, bar_there, clock_of, end_with, is_there, key_of, me, owns_share, turn_of}
 use Rattle.node_model.specs.Knows.{enough_by, next_by}
-use Rattle.node_model.specs.Look.{Look, waiting}
+use Rattle.node_model.specs.Look.{Look, Made, waiting}
 use Rattle.node_model.specs.Rows.{is_lost_ordered}
 use Rattle.node_model.specs.SetUp.{SetUp}
 use Rattle.node_model.specs.State.{State}
 use Rattle.node_model.specs.TransferStep.{next_source}
 use Rattle.node_model.specs.Turns.{has_room, is_awaiting, needs, outcome_of}
+use Rattle.drop_worker.specs.Working.{failed_in}
 
 -- at the end of a job
 abbrev pub end_calls : Turn → Outcome → List Call
@@ -178,3 +179,10 @@ turn_calls t (Some peer) = partner_calls t peer (end_with t peer).opened
 abbrev pub slot_calls : SetUp → State → Look → Option Work → List Call
 slot_calls s st k None = []
 slot_calls s st k (Some v) = turn_calls (turn_of s st k v) (partner v.what.peer v.phase)
+
+-- ---- what failed
+
+-- the call that the step failed of, as its entry tells it
+abbrev pub failed_by : Option Made → Option Call
+failed_by None = None
+failed_by (Some m) = failed_in m.kind
