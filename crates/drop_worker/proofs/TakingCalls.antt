@@ -111,10 +111,13 @@ module _ (x : Sight) (rows : Rows) (w : Worker) (peer : ℕ) where
   pub quiet_makes : (taken : Taken) (before : Failing) (r : Result Output NoMemory) → IfOk r (λ out. failed_in out.kind ≡ None)
       → ((p : List ℕ → Bool) (fails : Option Call) (rest : Rest) (m : Message) → taken ≡ takens.Message m → message_calls (turn_in x rows p fails rest w) (phase_as w.phase) m ≡ [])
       → MakesFed x rows w peer taken before before r
-  quiet_makes taken before (Ok out) well none p None fed rest = makes_none [] (failed_in out.kind) before refl well
-  quiet_makes taken before (Ok out) well none p (Some f) comes rest =
-      let t = turn_in x rows p (failed_in out.kind) rest w in
-      makes_none (frame_calls t f.body) (failed_in out.kind) before (frame_none t w.phase f.body refl (λ m is. none p (failed_in out.kind) rest m (sym comes.is ∙ is))) well
+  quiet_makes taken before (Ok out) well none = go
+    where
+      go : MakesFed x rows w peer taken before before (Ok out)
+      go p None fed rest = makes_none [] (failed_in out.kind) before refl well
+      go p (Some f) comes rest =
+          let t = turn_in x rows p (failed_in out.kind) rest w in
+          makes_none (frame_calls t f.body) (failed_in out.kind) before (frame_none t w.phase f.body refl (λ m is. none p (failed_in out.kind) rest m (sym comes.is ∙ is))) well
   quiet_makes taken before (Err e) well none = refl
 
   pub spoken_makes : (m : Message) (before : Failing) (r : Result Output NoMemory) → IfOk r (λ out. failed_in out.kind ≡ None) → (IsTime w.phase m → ⊥) → MakesFed x rows w peer (takens.Message m) before before r
@@ -128,10 +131,13 @@ module _ (x : Sight) (rows : Rows) (w : Worker) (peer : ℕ) where
   pub message_makes : (m : Message) (before after : Failing) (r : Result Output NoMemory)
       → IfOk r (λ out. (p : List ℕ → Bool) (rest : Rest) → MakesCalls (message_calls (turn_in x rows p (failed_in out.kind) rest w) (phase_as w.phase) m) (failed_in out.kind) before after) → (IfOk r (λ out. ⊥) → after ≡ before)
       → MakesFed x rows w peer (takens.Message m) before after r
-  message_makes m before after (Ok out) made still p None fed rest = absurd (let both : takens.Message m ≡ takens.Closed = fed.0 in cc)
-  message_makes m before after (Ok out) made still p (Some f) comes rest =
-      let t = turn_in x rows p (failed_in out.kind) rest w in
-      makes_as (frame_calls t f.body) (message_calls t (phase_as w.phase) m) (failed_in out.kind) (failed_in out.kind) before after (line_frame t f.body m (lined f.body m comes.is)) refl (made p rest)
+  message_makes m before after (Ok out) made still = go
+    where
+      go : MakesFed x rows w peer (takens.Message m) before after (Ok out)
+      go p None fed rest = absurd (let both : takens.Message m ≡ takens.Closed = fed.0 in cc)
+      go p (Some f) comes rest =
+          let t = turn_in x rows p (failed_in out.kind) rest w in
+          makes_as (frame_calls t f.body) (message_calls t (phase_as w.phase) m) (failed_in out.kind) (failed_in out.kind) before after (line_frame t f.body m (lined f.body m comes.is)) refl (made p rest)
   message_makes m before after (Err e) made still = still tt
 
 -- ---- the target's time
