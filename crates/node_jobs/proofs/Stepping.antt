@@ -41,7 +41,7 @@ use Rattle.drop_worker.specs.Working.{end_in, failed_in, frames_of, phase_as, si
 use Rattle.node_jobs.specs.declared.acted.Acted.{Acted}
 use Rattle.node_jobs.specs.declared.finding.Found.{Found}
 use Rattle.node_jobs.specs.Acting.{IsKindOf, SeesActed, SeesJobs, StepsJobs, WaitsFor, made_by, taken_by}
-use Rattle.node_jobs.specs.Changes.{Changes, input_of, kept, output_of}
+use Rattle.node_jobs.specs.Changes.{Changes, input_of, job_after, output_of}
 use Rattle.node_jobs.specs.Doings.{ActsSo, ReadsOn, SeesAct}
 use Rattle.node_jobs.specs.Feeds.{SeesJob}
 use Rattle.node_jobs.specs.Finding.{Finds, FindsFirst, IsFirst, IsSlotIdle, has_slot}
@@ -304,7 +304,7 @@ module _ (links : List EndView) (clock : ClockSet) (settings : Settings) (jobs :
       works_so : AreWorks s st' (record jobs { running = now })
       works_so = subst (λ (js : List DropJob). AreWorks s st' (record jobs { running = js })) (sym ch.now_is) (by_end a.ended refl)
         where
-          by_end : (b : Bool) → a.ended ≡ b → AreWorks s st' (record jobs { running = ch.front ++ (kept b ch.j' ++ ch.back) })
+          by_end : (b : Bool) → a.ended ≡ b → AreWorks s st' (record jobs { running = ch.front ++ (job_after b ch.j' ++ ch.back) })
           by_end false going = works_on_so (gone.onward going) going
           by_end true ended = works_off_so (gone.last ended)
 

@@ -9,7 +9,7 @@ ghost use Rattle.drop_worker.specs.Doing.{HasToken};
 ghost use Rattle.drop_worker.specs.Feeding.{ToldAt};
 ghost use Rattle.drop_worker.specs.Leaving.{stands_on};
 ghost use Rattle.drop_worker.specs.Working.{failed_in};
-ghost use Rattle.node_jobs.specs.Changes.{Changes, kept};
+ghost use Rattle.node_jobs.specs.Changes.{Changes, job_after};
 ghost use Rattle.node_jobs.specs.Running.{IsDrop};
 
 use crate::acted::Acted;
@@ -100,7 +100,7 @@ fn settle(
     requires room { vec_len running.old < vec_capacity running.old }
     requires owns { HasToken job.worker.number job.worker.job.key job.worker.token table.old }
     requires spent { ended ≡ true → job.worker.token ≡ tokens.Nothing }
-    ensures list { running.new.items ≡ take index running.old.items ++ kept ended job ++ drop index running.old.items }
+    ensures list { running.new.items ≡ take index running.old.items ++ job_after ended job ++ drop index running.old.items }
     ensures table { table.new ≡ table.old }
 {
     if !ended {

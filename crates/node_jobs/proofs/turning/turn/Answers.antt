@@ -4,7 +4,7 @@ use Rattle.std.specs.Prelude.{length}
 use Rattle.content_lock.specs.Rows.{Rows}
 use Rattle.trust_groups.specs.View.{settings_of}
 use Rattle.drop_worker.specs.Worker.{Worker}
-use Rattle.node_jobs.specs.Changes.{Changes, kept}
+use Rattle.node_jobs.specs.Changes.{Changes, job_after}
 use Rattle.node_jobs.proofs.Placing.{put_there, take_len, taken_there}
 use Rattle.node_jobs.proofs.turning.turn.Goals as goal
 
@@ -25,7 +25,7 @@ returns-in-Ok-clause-changes g c =
       j' = c.act.new.job;
       place = take_len index was (omega (arith, c.requires.there));
       was_is = c.take_out-job.ensures.was;
-      now_is = put_there was c.take_out-job.new.running.items c.settle.new.running.items (kept c.in-Ok.out.ended c.act.new.job) index c.requires.there c.take_out-job.ensures.now c.settle.ensures.list;
+      now_is = put_there was c.take_out-job.new.running.items c.settle.new.running.items (job_after c.in-Ok.out.ended c.act.new.job) index c.requires.there c.take_out-job.ensures.now c.settle.ensures.list;
       job = c.number-number.ensures ∙ ap (λ (w : Worker). w.number) c.worker.ensures;
       slot = c.slot-slot.ensures ∙ ap (λ (w : Worker). w.slot) c.worker-2.ensures;
       takes = refl;
