@@ -16,6 +16,7 @@ ghost use Rattle.drop_worker.specs.Alike.{Alike};
 ghost use Rattle.drop_worker.specs.Sides.{IsNumbered};
 ghost use Rattle.drop_worker.specs.SlotCalls.{failed_by, slot_calls};
 ghost use Rattle.std.specs.declared.option.Option.{Option};
+ghost use Rattle.annex_base.specs.declared.kinds.Call.{Call};
 
 /// Works of a remote drop that are alike take the same step, need room at the same ends, read the same, and are moved alike by each entry:
 /// no step reads what was heard of the job's own repository where the settings don't have it asked (own).
@@ -31,7 +32,9 @@ pub fn holds_are_numbered()
     ensures { (kind : EntryKind) (n : ℕ) (was now : locks.Rows) → locks.AreAfter kind was now → IsNumbered n kind → All (λ h. h.number < n) was.holds → (m : ℕ) → n < m → All (λ h. h.number < m) now.holds }
 {}
 
-/// The step of a slot fails of the call that the look has fail, exactly where that is one of the step's calls (own).
+/// The step of a slot fails of the call that the look has fail, exactly where that is one of the step's calls; and which calls these
+/// are doesn't depend on which fails (own).
 pub fn steps_fail_of_their_calls()
-    ensures { (s : SetUp) (st : State) (k : Look) (v : Option Work) → failed_by (slot_step s st k v) ≡ failing k.fails (slot_calls s st k v) }
+    ensures free { (s : SetUp) (st : State) (k : Look) (fails : Option Call) (v : Option Work) → slot_calls s st (record k { fails = fails }) v ≡ slot_calls s st k v }
+    ensures fault { (s : SetUp) (st : State) (k : Look) (v : Option Work) → failed_by (slot_step s st k v) ≡ failing k.fails (slot_calls s st k v) }
 {}
