@@ -41,6 +41,9 @@ one_place r line byte line' byte' is are =
 one_quantity : (r : Reading) (q q' : Quantity) → r ≡ PastLimit q → r ≡ PastLimit q' → q ≡ q'
 one_quantity r q q' is are = let same : PastLimit q ≡ PastLimit q' = sym is ∙ are in cc
 
+one_script : (r : Reading) (all all' : List whole.Command) → r ≡ Commands all → r ≡ Commands all' → all ≡ all'
+one_script r all all' is are = let same : Commands all ≡ Commands all' = sym is ∙ are in cc
+
 commands_or_bad : (r : Reading) (all : List whole.Command) (line byte : ℕ) → r ≡ Commands all → r ≡ BadLine line byte → ⊥
 commands_or_bad r all line byte is are = let same : Commands all ≡ BadLine line byte = sym is ∙ are in cc
 
@@ -54,7 +57,11 @@ bad_or_past r line byte q is are = let same : BadLine line byte ≡ PastLimit q 
 
 module _ (x : HaveOneReading) (bytes t t' : List ℕ) where
   one_report : IsReport bytes t → IsReport bytes t' → t ≡ t'
-  one_report d d' = d.text_is ∙ ap (λ script. report script (run_of script)) (x.script bytes d.script d'.script d.is_script d'.is_script) ∙ sym d'.text_is
+  one_report d d' =
+      d.text_is
+      ∙ ap (λ script. report d.is_script.all (run_of script)) (x.script bytes d.script d'.script d.is_script d'.is_script)
+      ∙ ap (λ all. report all (run_of d'.script)) (one_script (reading bytes) d.is_script.all d'.is_script.all d.is_script.says d'.is_script.says)
+      ∙ sym d'.text_is
 
   one_complaint : (IsComplaint bytes t ⊎ IsMissing bytes t) → (IsComplaint bytes t' ⊎ IsMissing bytes t') → t ≡ t'
   one_complaint (inl d) (inl d') = d.text_is ∙ one_place (reading bytes) d.line d.byte d'.line d'.byte d.bad d'.bad ∙ sym d'.text_is
@@ -160,7 +167,7 @@ module _ (x : HaveOneReading) (bytes text : List ℕ) (s : Status) (left left' t
   due_answered Usage a r w = absurd a
 
 -- for a script its report is due
-pub due_report : (bytes : List ℕ) (script : List Command) → length bytes ≤ script_limit → IsScript bytes script → IsDue bytes Done (report script (run_of script))
+pub due_report : (bytes : List ℕ) (script : List Command) → length bytes ≤ script_limit → (is : IsScript bytes script) → IsDue bytes Done (report is.all (run_of script))
 due_report bytes script short is = record { short = short; script = script; is_script = is; text_is = refl }
 
 -- ---- what a call found, or where it found nothing

@@ -41,7 +41,7 @@ pub record IsReport (bytes text : List ℕ) : Type 0 where
   pub short : length bytes ≤ script_limit
   pub script : List Command
   pub is_script : IsScript bytes script
-  pub text_is : text ≡ report script (run_of script)
+  pub text_is : text ≡ report is_script.all (run_of script)
 
 -- the line that names a place of a script
 abbrev pub place_text : ℕ → ℕ → List ℕ

@@ -2,8 +2,7 @@
 
 ghost use Rattle.std.specs.Prelude.{IfOk, ◌≡◌, ◌≤◌, ◌<◌, length, slice_get, Some};
 ghost use Rattle.script_lang.specs.Script.{reading, Commands};
-ghost use Rattle.thin_script.specs.Built.{first_unbuilt};
-ghost use Rattle.thin_script.specs.Script.{IsScript};
+ghost use Rattle.thin_script.specs.Built.{first_unbuilt, thin_commands};
 ghost use Rattle.annex_cli.specs.Whole.{script_limit};
 ghost use Rattle.annex_cli.specs.Top.{IsDue, HasGoodRun, limit_text, place_text};
 
@@ -50,16 +49,23 @@ fn script_due(alloc: Global, bytes: &[u8], script: &Script) -> Result<Due, NoMem
     ensures due { IfOk result (λ d. IsDue bytes.now d.status d.text.items) }
     ensures good { IfOk result (λ d. d.status ≡ Status.Done → HasGoodRun bytes.now) }
 {
-    match thin_lines(alloc, script.lines())? {
-        Ok(lines) => report_due(alloc, bytes, &lines),
+    let commands = script.lines();
+    match thin_lines(alloc, commands)? {
+        Ok(lines) => report_due(alloc, bytes, commands, &lines),
         Err(place) => missing_due(alloc, bytes, script, place),
     }
 }
 
-/// The report of a script's run.
-fn report_due(alloc: Global, _bytes: &[u8], script: &[Command]) -> Result<Due, NoMemory>
+/// The report of a script's run, which is that of its lines as thin runs have them.
+fn report_due(
+    alloc: Global,
+    _bytes: &[u8],
+    script: &[script_lang::Command],
+    lines: &[Command],
+) -> Result<Due, NoMemory>
     requires short { length _bytes.now ≤ script_limit }
-    requires script { IsScript _bytes.now script.now }
+    requires says { reading _bytes.now ≡ Commands script.now }
+    requires built { thin_commands script.now ≡ Some lines.now }
     ensures due { IfOk result (λ d. IsDue _bytes.now d.status d.text.items) }
     ensures good { IfOk result (λ d. d.status ≡ Status.Done → HasGoodRun _bytes.now) }
 {
@@ -69,7 +75,7 @@ fn report_due(alloc: Global, _bytes: &[u8], script: &[Command]) -> Result<Due, N
     script_runs_are_thin();
     thin_runs_are_safe();
     thin_refusals_have_causes();
-    let run = run_script(alloc, script)?;
+    let run = run_script(alloc, lines)?;
     let text = report(alloc, script, &run)?;
     Ok(Due {
         status: Status::Done,

@@ -26,9 +26,9 @@ use Rattle.node_model.specs.Step.{step}
 use Rattle.driver_model.specs.Lines.{Agendum, BlockLine, Line, Runs, Crashes, Closes, Fails, Have, SetPart, Add, File, Set, Raw, Merge, Compact, Begin, Turns, Settle, Close, Crash, Wait, Fail, Par}
 use Rattle.driver_model.specs.Lines
 use Rattle.driver_model.specs.Driver.{Driver, Given, adds, drops_part, fails_at, notes, puts_part, set_up_of, state_at, without_old_flights}
-use Rattle.driver_model.specs.ScriptSteps.{begins, begins_part, calling, closes, closes_each, closes_end, compacts, compacts_files, crashes, enters, faults, fills_up, gains, has, is_busy, is_nil, logs, logs_some, merges, merges_files, news, sends, sets, sets_part, setting_line, shrinks, unknown, unless_busy, waits, will_fail, writes}
+use Rattle.driver_model.specs.ScriptSteps.{begins, begins_part, unless_fails, closes, closes_each, closes_end, compacts, compacts_files, crashes, enters, faults, fills_up, gains, has, is_busy, is_nil, logs, logs_some, merges, merges_files, news, sends, sets, sets_part, setting_line, shrinks, unknown, unless_busy, waits, will_fail, writes}
 use Rattle.driver_model.specs.Turning.{bytes_taken, look_for, looks, makes, plain_look, turn}
-use Rattle.driver_model.specs.Rounds.{Agenda, Blocked, Going, agenda, block_round, block_rounds, blocks, came_to, goes_round, is_over, is_settled, may_begin, most_rounds, numbers, round, rounds, settles, takes, takes_all, takes_each, turns_of, with_round}
+use Rattle.driver_model.specs.Rounds.{Agenda, InBlock, AfterRounds, agenda, block_round, block_rounds, blocks, came_to, goes_round, is_over, is_settled, may_begin, most_rounds, numbers, round, rounds, settles, takes, takes_all, takes_each, turns_of, with_round}
 use Rattle.driver_model.specs.Driving.{does, turns, with_mark}
 use Rattle.driver_model.specs.Sound.{OnlyAdds}
 use Rattle.driver_model.proofs.Settles.{store_past}
@@ -57,7 +57,7 @@ then_grew a b c x y = (y.0 ++ x.0, y.1 ∙ ap (λ past. y.0 ++ past) x.1 ∙ sym
 
 -- ---- store calls and lines
 
-calling_adds : (d done : Driver) (r : ℕ) (call : Call) → Adds d done → Adds d (calling r call d done)
+calling_adds : (d done : Driver) (r : ℕ) (call : Call) → Adds d done → Adds d (unless_fails r call d done)
 calling_adds d done r call x = go (fails_at d r call)
   where
     go : (b : Bool) → Adds d (if b then faults r call d else done)
@@ -120,14 +120,14 @@ fills_adds g r key bytes d = go (fails_at d r calls.Append)
     put : Driver
     put = puts_part r key bytes d
 
-    go : (b : Bool) → Adds d (if b then faults r calls.Append d else calling r calls.Commit (puts_part r key bytes d) (gains g r key bytes (puts_part r key bytes d)))
+    go : (b : Bool) → Adds d (if b then faults r calls.Append d else unless_fails r calls.Commit (puts_part r key bytes d) (gains g r key bytes (puts_part r key bytes d)))
     go true = one d.past _
     go false = calling_adds put (gains g r key bytes put) r calls.Commit (gains_adds g r key bytes put)
 
 unless_adds : (g : Given) (r : ℕ) (key : List ℕ) (d done : Driver) → Adds d done → Adds d (unless_busy g r key d done)
-unless_adds g r key d done x = calling_adds d (if is_busy g d r key then d else calling r calls.DropPart d done) r calls.Has (go (is_busy g d r key))
+unless_adds g r key d done x = calling_adds d (if is_busy g d r key then d else unless_fails r calls.DropPart d done) r calls.Has (go (is_busy g d r key))
   where
-    go : (b : Bool) → Adds d (if b then d else calling r calls.DropPart d done)
+    go : (b : Bool) → Adds d (if b then d else unless_fails r calls.DropPart d done)
     go true = stays d.past d.past refl
     go false = calling_adds d done r calls.DropPart x
 
@@ -202,14 +202,14 @@ turns_of_adds g (r ∷ rs) d = then_grew d.past (turn g r d).past (turns_of g rs
 pub round_adds : (g : Given) (d : Driver) → Adds d (round g d)
 round_adds g d = turns_of_adds g (numbers g) d
 
-goes_adds : (g : Given) (x : Going) → Adds x.driver (goes_round g x).driver
+goes_adds : (g : Given) (x : AfterRounds) → Adds x.driver (goes_round g x).driver
 goes_adds g x = go (is_settled x)
   where
     go : (b : Bool) → Adds x.driver (if b then x else came_to x (round g x.driver)).driver
     go true = stays x.driver.past x.driver.past refl
     go false = round_adds g x.driver
 
-rounds_adds : (g : Given) (n : ℕ) (x : Going) → Adds x.driver (rounds g n x).driver
+rounds_adds : (g : Given) (n : ℕ) (x : AfterRounds) → Adds x.driver (rounds g n x).driver
 rounds_adds g zero x = goes_adds g x
 rounds_adds g (suc n) x = go (then_grew x.driver.past (rounds g n x).driver.past (rounds g n (rounds g n x)).driver.past (rounds_adds g n x) (rounds_adds g n (rounds g n x))) (is_settled x)
   where
@@ -238,14 +238,14 @@ agendas_adds : (g : Given) (ags : List Agenda) (d : Driver) → Adds d (takes_ea
 agendas_adds g [] d = stays d.past d.past refl
 agendas_adds g (a ∷ ags) d = then_grew d.past (takes g a d).driver.past (takes_each g ags (takes g a d).driver).driver.past (takes_adds g a.repo a.lines a.jobs d) (agendas_adds g ags (takes g a d).driver)
 
-block_adds : (g : Given) (x : Blocked) → Adds x.driver (block_round g x).driver
+block_adds : (g : Given) (x : InBlock) → Adds x.driver (block_round g x).driver
 block_adds g x = go (is_over x)
   where
     go : (b : Bool) → Adds x.driver (if b then x else with_round g x (takes_each g x.left x.driver)).driver
     go true = stays x.driver.past x.driver.past refl
     go false = then_grew x.driver.past (takes_each g x.left x.driver).driver.past (round g (takes_each g x.left x.driver).driver).past (agendas_adds g x.left x.driver) (round_adds g (takes_each g x.left x.driver).driver)
 
-block_rounds_adds : (g : Given) (n : ℕ) (x : Blocked) → Adds x.driver (block_rounds g n x).driver
+block_rounds_adds : (g : Given) (n : ℕ) (x : InBlock) → Adds x.driver (block_rounds g n x).driver
 block_rounds_adds g zero x = block_adds g x
 block_rounds_adds g (suc n) x = go (then_grew x.driver.past (block_rounds g n x).driver.past (block_rounds g n (block_rounds g n x)).driver.past (block_rounds_adds g n x) (block_rounds_adds g n (block_rounds g n x))) (is_over x)
   where
@@ -255,7 +255,7 @@ block_rounds_adds g (suc n) x = go (then_grew x.driver.past (block_rounds g n x)
 
 pub blocks_adds : (g : Given) (xs : List Agendum) (d : Driver) → Adds d (blocks g xs d)
 blocks_adds g xs d =
-    let b : Blocked = record { driver = d; left = map_agendas; idle = 0; took = true } in
+    let b : InBlock = record { driver = d; left = map_agendas; idle = 0; took = true } in
     then_grew d.past (block_rounds g most_rounds b).driver.past (settles g (block_rounds g most_rounds b).driver).past (block_rounds_adds g most_rounds b) (settles_adds g (block_rounds g most_rounds b).driver)
   where
     map_agendas : List Agenda

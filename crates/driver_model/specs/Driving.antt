@@ -41,12 +41,12 @@ abbrev pub drives : Given → List Line → Driver → Driver
 drives g [] d = d
 drives g (line ∷ lines) d = drives g lines (with_mark (does g line d))
 
-abbrev pub driven : Given → List Line → Driver
-driven g lines = drives g lines at_first
+abbrev pub driver_after : Given → List Line → Driver
+driver_after g lines = drives g lines at_first
 
 abbrev pub run_with : Given → Driver → Run
 run_with g d = record { repos = g.repos; entries = reverse d.past; tree = d.tree; marks = d.marks }
 
 -- the run of a script
 abbrev pub run_of : Given → List Line → Run
-run_of g lines = run_with g (driven g lines)
+run_of g lines = run_with g (driver_after g lines)

@@ -22,7 +22,7 @@ ghost use Rattle.driver_model.specs.Sound.{IsSound, OnlyAdds, StaysSound};
 ghost use Rattle.driver_model.specs.Turning.{turn};
 
 use annex_key::key_texts_have_no_fault;
-use race_core::{runs_grow, steps_find_their_cause};
+use race_core::{frames_go_to_others, runs_grow, steps_find_their_cause};
 use run_data::files_have_their_paths;
 use union_merge::{differences_make_the_union, unions_have_the_lines_of_both};
 
@@ -51,6 +51,7 @@ pub fn drivers_stay_sound()
 {
     // For the proof, which cites them.
     steps_find_their_cause();
+    frames_go_to_others();
     runs_grow();
     files_have_their_paths();
     unions_have_the_lines_of_both();

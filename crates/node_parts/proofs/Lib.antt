@@ -2,6 +2,7 @@
 pub mod Sounding
 pub mod Saying
 pub mod Going
+pub mod Asked
 pub mod Served
 pub mod Posting
 pub mod Posts

@@ -14,3 +14,7 @@ pub mod Seeing
 pub mod Keys
 pub mod Shutting
 pub mod Making
+pub mod Called
+pub mod Storing
+pub mod Telling
+pub mod Rising

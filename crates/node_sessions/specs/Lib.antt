@@ -4,5 +4,7 @@ pub mod Words
 pub mod Kinds
 pub mod Serving
 pub mod Turns
+pub mod Calls
+pub mod Stored
 pub mod Moments
 pub mod Built

@@ -6,6 +6,7 @@ use Rattle.hash_dirs.specs.LogPath.{location_path}
 use Rattle.run_data.specs.declared.entry.Entry.{Entry}
 use Rattle.run_data.specs.declared.entry.EntryKind.TheVariants.{Log}
 use Rattle.run_data.specs.declared.entry.LogFile.TheVariants.{Location}
+use Rattle.content_lock.specs.CallsMade.{MakesCalls}
 use Rattle.union_merge.specs.Branch.{merged_file}
 use Rattle.union_merge.specs.LineSet.{IsLine}
 use Rattle.node_model.specs.Look.{Look, Made, entry_of}
@@ -51,6 +52,12 @@ abbrev pub WhereMade : Result (Unit {0}) NodeRefused → Type 0 → Type 0
 WhereMade (Ok x) P = P
 WhereMade (Err refusals.StoreFault) P = P
 WhereMade (Err e) P = Unit {0}
+
+-- the call of the node that writes one file asked its store for that alone; a full history and want of memory leave what is to fail
+abbrev pub PutsFile : Result (Unit {0}) NodeRefused → Option (Call → ℕ) → Option (Call → ℕ) → Type 0
+PutsFile (Ok x) before after = MakesCalls (PutFile ∷ []) None before after
+PutsFile (Err refusals.StoreFault) before after = MakesCalls (PutFile ∷ []) (Some PutFile) before after
+PutsFile (Err e) before after = after ≡ before
 
 -- the entry of this step, of the repository of this number at this look, was added to the history
 pub record AddsStep (step : Option Made) (number : ℕ) (k : Look) (was now : List Entry) : Type 0 where

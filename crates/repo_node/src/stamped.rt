@@ -9,6 +9,7 @@ ghost use Rattle.node_model.specs.Owed.{stamp_at};
 ghost use Rattle.run_data.specs.Files.{HasPath};
 ghost use Rattle.union_merge.specs.Branch.{lines_at};
 ghost use Rattle.union_merge.specs.LineSet.{IsLine};
+ghost use Rattle.repo_node.specs.Calls.{Makes, to_log};
 ghost use Rattle.repo_node.specs.Logs.{IsLogOf, log_of, stamped, stamped_by, with_lines};
 ghost use Rattle.repo_node.specs.Refusals.{RefusesSo};
 
@@ -126,6 +127,7 @@ impl<K: Keeper> Node<K> {
         ensures parts { K.parts self.new.keeper ≡ K.parts self.old.keeper }
         ensures later { K.faults self.old.keeper ≤ K.faults self.new.keeper }
         ensures cause { IsErrOf result NodeRefused.StoreFault → Rose (K.faults self.old.keeper) (K.faults self.new.keeper) }
+        ensures calls { Makes (to_log self.old (log_of kind (option_copied key.entry)) (line_text kind (stamped_by self.old kind (option_copied key.entry) entry.now) ∷ [])) calls.PutFile result (K.failing self.old.keeper) (K.failing self.new.keeper) }
     {
         let alloc = self.allocator();
         let file = log_of(kind, key)?;

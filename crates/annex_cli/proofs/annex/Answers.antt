@@ -12,5 +12,6 @@ returns-clause-due g c = λ bytes text status words left due read write.
     (λ fault. read (c.run.ensures.read fault)) (λ fault. write (c.run.ensures.write fault))
 
 pub returns-clause-reported : goal.returns-clause-reported
-returns-clause-reported g c = λ bytes script words left short is read write.
-    returns-clause-due g c bytes (report script (run_of script)) _ words left (due_report bytes script short is) read write
+returns-clause-reported g c = λ bytes script lines words left short says built read write.
+    returns-clause-due g c bytes (report script (run_of lines)) _ words left
+    (due_report bytes lines short (record { all = script; says = says; built = built })) read write
