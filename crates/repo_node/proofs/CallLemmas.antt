@@ -1,7 +1,7 @@
 -- From what a store tells of each call to the calls of a step.
 use Rattle.std.proofs.Common.{◌≡◌, ℕ, ◌-◌, Bool, true, false, List, [], ◌∷◌, ◌++◌, Option, Some, None, Result, Ok, Err, IfErr, refl, sym, ap, ◌∙◌, subst, arith}
 use Rattle.std.specs.Prelude.{nat_lt, ◌==◌, cond, find, if◌then◌else◌}
-use Rattle.std.specs.Option.{ForSome, option_map, option_or}
+use Rattle.std.specs.Option.{option_map, option_or}
 use Rattle.std.specs.Result.{IsErrAnd}
 use Rattle.std.proofs.lemmas.List.Folds.{find-append}
 use Rattle.annex_base.specs.Calls.{call_number, same_call}

@@ -1,7 +1,6 @@
 -- The calls of a step that places a content or a part, and what it has done where it stops.
-use Rattle.std.proofs.Common.{◌≡◌, ℕ, inl, inr, Bool, true, false, ◌||◌, if◌then◌else◌, List, [], ◌∷◌, ◌++◌, length, Option, Some, None, Result, Ok, Err, OnOk, OnErr, IfErr, bytes_eq, is_some, refl, sym, ap, ◌∙◌, subst}
-use Rattle.std.specs.Prelude.{IfOk}
-use Rattle.std.specs.Option.{ForSome, option_map}
+use Rattle.std.proofs.Common.{◌≡◌, ℕ, Bool, true, false, ◌||◌, if◌then◌else◌, List, [], ◌∷◌, ◌++◌, length, Option, Some, None, Result, Ok, Err, OnOk, OnErr, IfErr, bytes_eq, is_some, refl, sym, ap, ◌∙◌, subst}
+use Rattle.std.specs.Option.{option_map}
 use Rattle.annex_base.specs.declared.kinds.Call.{Call}
 use Rattle.annex_base.specs.declared.kinds.Call.TheVariants as calls
 use Rattle.annex_base.proofs.Conditions.{bytes_eq-refl}
@@ -21,7 +20,7 @@ use Rattle.repo_node.specs.Calls.{IsDoneBy, Makes, StopsAt, StopsEarly, StopsIn,
 use Rattle.repo_node.specs.Nodes.{NodeView}
 use Rattle.repo_node.specs.Pasts.{FailsFor, SamePast}
 use Rattle.repo_node.specs.Placing.{IsTaken, with_content, with_gain}
-use Rattle.repo_node.specs.Refusals.{RefusesFor, RefusesSo}
+use Rattle.repo_node.specs.Refusals.{RefusesSo}
 use Rattle.repo_node.specs.Walks.{over}
 use Rattle.repo_node.proofs.CallLemmas.{Failing, makes_then, stops_before, stops_early, stops_then}
 use Rattle.repo_node.proofs.OwedLemmas.{refused_stay}

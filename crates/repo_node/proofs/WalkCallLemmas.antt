@@ -1,6 +1,6 @@
 -- The calls of a walk over files, of which each is written or isn't.
-use Rattle.std.proofs.Common.{◌≡◌, ℕ, ◌+◌, ◌<◌, ◌≤◌, Bool, true, false, ◌||◌, if◌then◌else◌, List, [], ◌∷◌, ◌++◌, drop, length, get_or, Option, Some, None, Result, Ok, Err, refl, sym, ap, ◌∙◌, subst, arith}
-use Rattle.std.specs.Prelude.{◌==◌, nat_lt, find, cond}
+use Rattle.std.proofs.Common.{◌≡◌, ℕ, ◌+◌, ◌<◌, ◌≤◌, Bool, true, false, ◌||◌, if◌then◌else◌, List, [], ◌∷◌, ◌++◌, drop, length, get_or, Option, Some, None, Result, Ok, refl, sym, ap, ◌∙◌, subst, arith}
+use Rattle.std.specs.Prelude.{◌==◌, nat_lt, find}
 use Rattle.std.specs.List.{list_any}
 use Rattle.std.specs.Option.{ForSome, option_map}
 use Rattle.std.proofs.lemmas.Bool.{true≢false}
@@ -15,7 +15,7 @@ use Rattle.run_data.specs.Files.{file_of, file_path, kind_of}
 use Rattle.log_lines.specs.declared.entry.LogKind.{LogKind}
 use Rattle.log_lines.specs.Newest.{current_lines}
 use Rattle.node_model.specs.Files.{compact_lines}
-use Rattle.union_merge.specs.Branch.{Files, lines_at, with_file}
+use Rattle.union_merge.specs.Branch.{lines_at, with_file}
 use Rattle.union_merge.specs.LineSet.{difference}
 use Rattle.repo_node.specs.declared.refused.NodeRefused.{NodeRefused}
 use Rattle.repo_node.specs.declared.refused.NodeRefused.TheVariants as refusals

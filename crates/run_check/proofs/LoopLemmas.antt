@@ -1,11 +1,10 @@
 -- The checker's loops over entries and frames, against the definitions.
-use Rattle.std.proofs.Common.{◌≡◌, ℕ, ◌+◌, ◌<◌, Bool, true, false, not, ◌&&◌, ◌||◌, cond, count_by, List, [], ◌∷◌, ◌++◌, length, get_or, take, drop, reverse, Option, Some, None, refl, sym, ap, ◌∙◌, subst, arith}
-use Rattle.std.specs.Prelude.{is_none, if◌then◌else◌, ◌==◌, filter, map, option_map, option_to_list, slice_get}
-use Rattle.std.specs.List.{list_all, list_any, range_with_len}
-use Rattle.std.proofs.lemmas.List.{append_assoc, append-nil, length-reverse, length-take-le, map-append, reverse-append, take_more}
+use Rattle.std.proofs.Common.{◌≡◌, ℕ, ◌+◌, ◌<◌, Bool, true, false, ◌&&◌, ◌||◌, count_by, List, [], ◌∷◌, ◌++◌, length, get_or, take, reverse, Option, Some, None, refl, sym, ap, ◌∙◌, arith}
+use Rattle.std.specs.Prelude.{is_none, if◌then◌else◌, filter, option_map, option_to_list}
+use Rattle.std.specs.List.{list_any, range_with_len}
+use Rattle.std.proofs.lemmas.List.{append-nil, length-reverse, length-take-le, reverse-append, take_more}
 use Rattle.std.proofs.lemmas.List.Elements.{filter-append}
 use Rattle.run_data.specs.declared.entry.Entry.{Entry}
-use Rattle.run_data.specs.declared.entry.FrameView.{FrameView}
 use Rattle.run_data.specs.declared.run.RepoView.{RepoView}
 use Rattle.run_model.specs.Frames.{Flying, last_of, said_of, says}
 use Rattle.run_model.specs.Said.{is_request, message_in}
@@ -14,15 +13,12 @@ use Rattle.run_check.specs.Values.{as_said}
 use Rattle.run_model.specs.Logs.{before_step, in_drop, is_step}
 use Rattle.run_model.specs.Drops.{option_is_none}
 use Rattle.run_model.specs.Past.{Decision, decided_after, decision, is_of, present}
-use Rattle.node_model.specs.Evidence.{Offer, gather, reached_candidates}
+use Rattle.node_model.specs.Evidence.{Offer, gather}
 use Rattle.drop_proof.specs.declared.evidence.Evidence.{Evidence}
 use Rattle.drop_proof.specs.declared.rule.Need.{Need}
 use Rattle.drop_proof.specs.declared.rule.Side.{Side}
 use Rattle.drop_proof.specs.Judging.{is_enough}
-use Rattle.run_model.specs.Safety.{Removal, add_removal, all_stand, count, is_backed, is_rightful, least_need, removal, removals, stands, stands_kind, trusts, within}
-use Rattle.run_check.specs.Standing.{all_stand_by, stands_by, stands_kind_by}
-use Rattle.drop_proof.specs.declared.evidence.Kind.{Kind}
-use Rattle.drop_proof.specs.declared.evidence.Kind.TheVariants.{Locked, Trusted, Recent}
+use Rattle.run_model.specs.Safety.{Removal, add_removal, count, is_backed, is_rightful, least_need, removal, removals, trusts, within}
 use Rattle.node_model.specs.Look.{first_of}
 use Rattle.run_model.specs.Drops.{Vouch, newer, reply, tells}
 use Rattle.run_check.specs.declared.vouching.Told.{Told}

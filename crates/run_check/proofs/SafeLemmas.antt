@@ -1,14 +1,13 @@
 -- A run is safe where it is safe at each place for each key that is taken away.
-use Rattle.std.proofs.Common.{◌≡◌, ℕ, zero, suc, ◌+◌, ◌<◌, ◌≤◌, Bool, true, false, not, ◌&&◌, ◌||◌, cond, List, [], ◌∷◌, ◌++◌, length, take, reverse, Option, Some, None, ◌⊎◌, inl, inr, refl, sym, ap, ◌∙◌, subst, arith, add-one, add-zero, zero-add}
+use Rattle.std.proofs.Common.{◌≡◌, ℕ, zero, suc, ◌+◌, ◌<◌, ◌≤◌, Bool, true, false, not, ◌&&◌, ◌||◌, List, [], ◌∷◌, ◌++◌, length, take, reverse, Option, Some, None, inl, inr, refl, sym, ap, ◌∙◌, subst, arith, add-one, add-zero, zero-add}
 use Rattle.std.specs.Prelude.{◌↔◌, IsTrue, nat_le}
 use Rattle.std.proofs.lemmas.Bool.Decides.{nat_tests}
 use Rattle.std.specs.List.{list_all, list_any, range_with_len}
 use Rattle.std.proofs.lemmas.List.{reverse-reverse, take_all}
 use Rattle.annex_base.specs.Lists.{Each, Member}
-use Rattle.annex_base.proofs.Lists.{Each-reverse, Each-take, list_all_member, list_all_parts, list_all-from_Each, Each-from_members, list_any_found, list_any_nowhere}
+use Rattle.annex_base.proofs.Lists.{Each-reverse, Each-take, list_all_member, list_any_found, list_any_nowhere}
 use Rattle.annex_base.proofs.Conditions.{bytes_eq-true, by_test, decided}
 use Rattle.annex_base.proofs.Numbers.{range_suc}
-use Rattle.run_data.specs.declared.entry.By.{By}
 use Rattle.run_data.specs.declared.entry.By.TheVariants.{Script, Job as by_job, Peer}
 use Rattle.run_data.specs.declared.entry.Entry.{Entry}
 use Rattle.run_data.specs.declared.entry.EntryKind.{EntryKind}

@@ -1,5 +1,5 @@
 -- What the proof of `checker::is_within` needs beside the tactics.
-use Rattle.std.proofs.Common.{length, reverse, ap, ◌∙◌}
+use Rattle.std.proofs.Common.{reverse, ap, ◌∙◌}
 use Rattle.run_model.specs.Safety.{least_need, within}
 use Rattle.run_check.proofs.LoopLemmas.{within_same}
 use Rattle.run_check.proofs.checker.is_within.Goals as goal

@@ -1,5 +1,5 @@
 -- What the proof of `node::Node::merge` needs beside the tactics.
-use Rattle.std.proofs.Common.{◌≡◌, List, ℕ, None, Result, Err, arith, sym, ap, subst, ◌∙◌}
+use Rattle.std.proofs.Common.{List, ℕ, None, arith, sym, ap, subst, ◌∙◌}
 use Rattle.annex_base.specs.Lists.{Each}
 use Rattle.union_merge.specs.Branch.{Files}
 use Rattle.union_merge.specs.FileView.{files_of}
@@ -7,7 +7,6 @@ use Rattle.union_merge.specs.LineSet.{IsLine, IsLineSet}
 use Rattle.repo_node.specs.Walks.{merge_file, over}
 use Rattle.repo_node.proofs.WalkLemmas.{Went, merge_over, went_on, went_stops}
 use Rattle.annex_base.specs.declared.kinds.Call.TheVariants.{PutFile}
-use Rattle.repo_node.specs.declared.refused.NodeRefused.{NodeRefused}
 use Rattle.repo_node.specs.declared.refused.NodeRefused.TheVariants.{StoreFault}
 use Rattle.repo_node.specs.Calls.{StopsIn, to_write}
 use Rattle.content_lock.specs.CallsMade.{MakesCalls}
