@@ -2,16 +2,17 @@
 use Rattle.std.proofs.Common.{◌≡◌, ◌⊎◌, inl, inr, ℕ, ◌<◌, ◌≤◌, List, ◌++◌, length, Option, Some, None, Result, Ok, Err, IfOk, refl, sym, ap, subst, ◌∙◌, arith, length-append}
 use Rattle.std.proofs.lemmas.Bool.{cases_lt}
 use Rattle.std.proofs.lemmas.List.{append-nil}
-use Rattle.std.specs.Prelude.{MatchResult, codes}
+use Rattle.std.specs.Prelude.{codes}
 use Rattle.std.specs.Io.KnownBytes.{append_known}
 use Rattle.std.specs.Fmt.{decimal}
-use Rattle.script_lang.specs.declared.command.Command as whole
+use Rattle.script_lang.specs.declared.command.Command.{Command}
 use Rattle.script_lang.specs.declared.fault.Quantity.{Quantity}
 use Rattle.script_lang.specs.Limits.{limit_of, quantity_name}
 use Rattle.script_lang.specs.Script.{Reading, Commands, BadLine, PastLimit, reading}
-use Rattle.thin_script.specs.declared.command.Command.{Command}
-use Rattle.thin_script.specs.Script.{IsScript, IsUnbuilt}
-use Rattle.thin_driver.specs.Driver.{run_of}
+use Rattle.driver_model.specs.Driving.{run_of}
+use Rattle.driver_model.specs.Lines.{Line}
+use Rattle.driver_script.specs.Given.{given_of}
+use Rattle.driver_script.specs.Script.{IsScript, IsUnbuilt}
 use Rattle.report_text.specs.Report.{report}
 use Rattle.annex_cli.specs.declared.due.Due.{Due}
 use Rattle.annex_cli.specs.declared.status.Status.{Status}
@@ -21,9 +22,9 @@ use Rattle.annex_cli.specs.Top.{IsReport, IsComplaint, IsMissing, IsLong, IsPast
 
 -- one thing is said of a text
 pub record HaveOneReading : Type 0 where
-  pub script : (bytes : List ℕ) (script other : List Command) → IsScript bytes script → IsScript bytes other → script ≡ other
+  pub script : (bytes : List ℕ) (script other : List Command) (lines more : List Line) → IsScript bytes script lines → IsScript bytes other more → (script ≡ other) × (lines ≡ more)
   pub line : (bytes : List ℕ) (line other : ℕ) → IsUnbuilt bytes line → IsUnbuilt bytes other → line ≡ other
-  pub one : (bytes : List ℕ) (script : List Command) (line : ℕ) → IsScript bytes script → IsUnbuilt bytes line → ⊥
+  pub one : (bytes : List ℕ) (script : List Command) (lines : List Line) (line : ℕ) → IsScript bytes script lines → IsUnbuilt bytes line → ⊥
 
 -- what is due for a text is one status, with one text
 abbrev IsOne : Status → Status → List ℕ → List ℕ → Type 0
@@ -41,10 +42,10 @@ one_place r line byte line' byte' is are =
 one_quantity : (r : Reading) (q q' : Quantity) → r ≡ PastLimit q → r ≡ PastLimit q' → q ≡ q'
 one_quantity r q q' is are = let same : PastLimit q ≡ PastLimit q' = sym is ∙ are in cc
 
-commands_or_bad : (r : Reading) (all : List whole.Command) (line byte : ℕ) → r ≡ Commands all → r ≡ BadLine line byte → ⊥
+commands_or_bad : (r : Reading) (all : List Command) (line byte : ℕ) → r ≡ Commands all → r ≡ BadLine line byte → ⊥
 commands_or_bad r all line byte is are = let same : Commands all ≡ BadLine line byte = sym is ∙ are in cc
 
-commands_or_past : (r : Reading) (all : List whole.Command) (q : Quantity) → r ≡ Commands all → r ≡ PastLimit q → ⊥
+commands_or_past : (r : Reading) (all : List Command) (q : Quantity) → r ≡ Commands all → r ≡ PastLimit q → ⊥
 commands_or_past r all q is are = let same : Commands all ≡ PastLimit q = sym is ∙ are in cc
 
 bad_or_past : (r : Reading) (line byte : ℕ) (q : Quantity) → r ≡ BadLine line byte → r ≡ PastLimit q → ⊥
@@ -54,7 +55,12 @@ bad_or_past r line byte q is are = let same : BadLine line byte ≡ PastLimit q 
 
 module _ (x : HaveOneReading) (bytes t t' : List ℕ) where
   one_report : IsReport bytes t → IsReport bytes t' → t ≡ t'
-  one_report d d' = d.text_is ∙ ap (λ script. report script (run_of script)) (x.script bytes d.script d'.script d.is_script d'.is_script) ∙ sym d'.text_is
+  one_report d d' =
+      let same = x.script bytes d.script d'.script d.lines d'.lines d.is_script d'.is_script in
+      d.text_is
+      ∙ ap (λ script. report script (run_of (given_of script) d.lines)) same.0
+      ∙ ap (λ lines. report d'.script (run_of (given_of d'.script) lines)) same.1
+      ∙ sym d'.text_is
 
   one_complaint : (IsComplaint bytes t ⊎ IsMissing bytes t) → (IsComplaint bytes t' ⊎ IsMissing bytes t') → t ≡ t'
   one_complaint (inl d) (inl d') = d.text_is ∙ one_place (reading bytes) d.line d.byte d'.line d'.byte d.bad d'.bad ∙ sym d'.text_is
@@ -69,12 +75,12 @@ module _ (x : HaveOneReading) (bytes t t' : List ℕ) where
   one_limit (inr d) (inr d') = d.text_is ∙ ap (λ q. limit_text (quantity_name q) (limit_of q)) (one_quantity (reading bytes) d.quantity d'.quantity d.past d'.past) ∙ sym d'.text_is
 
   report_or_complaint : IsReport bytes t → (IsComplaint bytes t' ⊎ IsMissing bytes t') → ⊥
-  report_or_complaint d (inl d') = commands_or_bad (reading bytes) d.is_script.all d'.line d'.byte d.is_script.says d'.bad
-  report_or_complaint d (inr d') = x.one bytes d.script d'.line d.is_script d'.unbuilt
+  report_or_complaint d (inl d') = commands_or_bad (reading bytes) d.script d'.line d'.byte d.is_script.says d'.bad
+  report_or_complaint d (inr d') = x.one bytes d.script d.lines d'.line d.is_script d'.unbuilt
 
   report_or_limit : IsReport bytes t → (IsLong bytes t' ⊎ IsPast bytes t') → ⊥
   report_or_limit d (inl d') = absurd (omega (arith, d.short, d'.long))
-  report_or_limit d (inr d') = commands_or_past (reading bytes) d.is_script.all d'.quantity d.is_script.says d'.past
+  report_or_limit d (inr d') = commands_or_past (reading bytes) d.script d'.quantity d.is_script.says d'.past
 
   complaint_or_limit : (IsComplaint bytes t ⊎ IsMissing bytes t) → (IsLong bytes t' ⊎ IsPast bytes t') → ⊥
   complaint_or_limit (inl d) (inl d') = absurd (omega (arith, d.short, d'.long))
@@ -160,16 +166,8 @@ module _ (x : HaveOneReading) (bytes text : List ℕ) (s : Status) (left left' t
   due_answered Usage a r w = absurd a
 
 -- for a script its report is due
-pub due_report : (bytes : List ℕ) (script : List Command) → length bytes ≤ script_limit → IsScript bytes script → IsDue bytes Done (report script (run_of script))
-due_report bytes script short is = record { short = short; script = script; is_script = is; text_is = refl }
-
--- ---- what a call found, or where it found nothing
-
-pub found : {V : Type 0} (r : Result V ℕ) (v : V) (P : V → Type 0) (Q : ℕ → Type 0) → r ≡ Ok v → MatchResult r P Q → P v
-found r v P Q is told = subst (λ o. MatchResult o P Q) is told
-
-pub missed : {V : Type 0} (r : Result V ℕ) (n : ℕ) (P : V → Type 0) (Q : ℕ → Type 0) → r ≡ Err n → MatchResult r P Q → Q n
-missed r n P Q is told = subst (λ o. MatchResult o P Q) is told
+pub due_report : (bytes : List ℕ) (script : List Command) (lines : List Line) → length bytes ≤ script_limit → IsScript bytes script lines → IsDue bytes Done (report script (run_of (given_of script) lines))
+due_report bytes script lines short is = record { short = short; script = script; lines = lines; is_script = is; text_is = refl }
 
 -- ---- an answer with a status and a text is due
 

@@ -2,4 +2,6 @@
 pub mod WordLemmas
 pub mod DueLemmas
 pub mod ReportLemmas
+pub mod RunLemmas
+pub mod GoodLemmas
 pub mod PlaceLemmas

@@ -1,99 +1,82 @@
--- What the report wants of a run: its lines may stand in the files of a branch, and what the script shows of logs is of
+-- What the report wants of a run: its entries are well formed, its clocks are within their bounds, and what the script shows is of
 -- repositories that it declares.
-use Rattle.std.proofs.Common.{◌≡◌, ℕ, ◌+◌, ◌<◌, ◌≤◌, ◌^◌, Bool, List, [], ◌∷◌, ◌++◌, length, reverse, Option, Some, None, refl, sym, ap, ◌∙◌, subst, arith, append_assoc, length-append}
-use Rattle.std.proofs.lemmas.List.{length-map, reverse-reverse}
+use Rattle.std.proofs.Common.{◌≡◌, ℕ, ◌+◌, ◌<◌, ◌≤◌, List, [], ◌∷◌, length, reverse, refl, subst, arith, length-append}
+use Rattle.std.proofs.lemmas.List.{reverse-reverse}
 use Rattle.annex_base.specs.Lists.{Each}
-use Rattle.annex_base.proofs.Lists.{Each-reverse}
-use Rattle.union_merge.specs.LineSet.{IsLine}
+use Rattle.annex_base.proofs.Lists.{Each-both, Each-reverse, Each-weaker}
+use Rattle.run_data.specs.Repos.{IsSetUp}
 use Rattle.run_data.specs.declared.entry.Entry.{Entry}
 use Rattle.run_data.specs.declared.entry.EntryKind.{EntryKind}
-use Rattle.run_data.specs.declared.entry.EntryKind.TheVariants.{Log}
+use Rattle.run_data.specs.declared.entry.EntryKind.TheVariants.{Crash, Log}
 use Rattle.run_data.specs.declared.run.Run.{Run}
-use Rattle.run_data.specs.declared.run.RepoView.{RepoView}
-use Rattle.thin_model.specs.Branches.{LogsToPath}
-use Rattle.thin_model.specs.Thin.{HasLines, IsThinRun, MayCome, ThinKind, ThinPast, ThinStep}
-use Rattle.thin_script.specs.declared.command.Command.{Command}
-use Rattle.thin_script.specs.declared.command.Command.TheVariants as commands
-use Rattle.thin_script.specs.Lines.{declared, declared_by, MayStand}
-use Rattle.thin_script.specs.Program.{AllStand, IsProgram}
-use Rattle.thin_driver.specs.Driver.{AreShort, IsShort, run_of, view_of}
-use Rattle.report_text.specs.Walk.{IsLogged, ShowsKnown}
+use Rattle.node_model.specs.SetUp.{SetUp}
+use Rattle.run_model.specs.Run.{IsBounded, IsRun, IsSmall, RunPast, set_up}
+use Rattle.script_lang.specs.declared.command.Command.{Command}
+use Rattle.script_lang.specs.declared.command.Command.TheVariants as commands
+use Rattle.script_lang.specs.Context.{Context}
+use Rattle.script_lang.specs.Script as script
+use Rattle.script_lang.specs.Script.{context_with, no_context}
+use Rattle.script_lang.specs.Standing.{AllStand, Stands}
+use Rattle.driver_model.specs.Logged.{LogsWell}
+use Rattle.driver_script.specs.Lines.{declared_by, repos_of}
+use Rattle.report_text.specs.Branches.{LogsLines}
+use Rattle.report_text.specs.Walk.{IsAhead, IsWellFormed, SetsClock, ShowsKnown}
 
 -- ---- the run
 
-no_lines : (lines : List (List ℕ)) → lines ≡ [] → Each IsLine lines
-no_lines lines none = subst (λ ls. Each IsLine ls) (sym none) tt
+logs_is : (kind : EntryKind) (lines : List (List ℕ)) → LogsWell kind lines → LogsLines kind lines
+logs_is (Log file) lines x = (x.0, x.2.each)
+logs_is kind lines x = tt
 
-kind_logged : (repos : List RepoView) (past : List Entry) (r time : ℕ) (lines : List (List ℕ)) (kind : EntryKind)
-    → HasLines kind lines → ThinKind repos past r time lines kind → LogsToPath kind × Each IsLine lines
-kind_logged repos past r time lines (Log file) has may = (may.path, may.set.each)
-kind_logged repos past r time lines kind has may = (tt, no_lines lines has)
+clock_is : (kind : EntryKind) → IsSmall kind → SetsClock kind
+clock_is (Crash clock) x = x
+clock_is kind x = tt
 
-step_logged : (repos : List RepoView) (past : List Entry) (e : Entry) → ThinStep repos past e → IsLogged e
-step_logged repos past e step = go e.repo step.may
-  where
-    go : (r : Option ℕ) → MayCome repos past e r → IsLogged e
-    go (Some r) own = let both = kind_logged repos past r e.time e.lines e.kind own.lines own.kind in record { path = both.0; lines = both.1 }
-    go None wait = record { path = subst (λ kind. LogsToPath kind) (sym wait.kind_is) tt; lines = no_lines e.lines wait.lines }
+abbrev pub DoesLog : Entry → Type 0
+DoesLog e = LogsWell e.kind e.lines
 
-past_logged : (repos : List RepoView) (past : List Entry) → ThinPast repos past → Each IsLogged past
-past_logged repos [] thin = tt
-past_logged repos (e ∷ past) thin = (step_logged repos past e thin.0, past_logged repos past thin.1)
+formed_is : (e : Entry) → IsBounded e → DoesLog e → IsWellFormed e
+formed_is e bounds logs = record { logs = logs_is e.kind e.lines logs; in_time = bounds.in_time; clock = clock_is e.kind bounds.small }
 
--- the lines of a thin run may stand in the files of a branch
-pub thin_logged : (run : Run) → IsThinRun run → Each IsLogged run.entries
-thin_logged run thin =
-    subst (λ es. Each IsLogged es) (reverse-reverse run.entries) (Each-reverse IsLogged (reverse run.entries) (past_logged run.repos (reverse run.entries) thin.steps))
+past_bounded : (s : ℕ → SetUp) (past : List Entry) → RunPast s past → Each IsBounded past
+past_bounded s [] run = tt
+past_bounded s (e ∷ past) run = (record { in_time = run.0.order.in_time; small = run.0.order.small }, past_bounded s past run.1)
+
+-- the entries of a run are well formed
+pub run_formed : (run : Run) → IsRun run → Each DoesLog run.entries → Each IsWellFormed run.entries
+run_formed run is logs =
+    let bounds = Each-reverse IsBounded (reverse run.entries) (past_bounded (set_up run) (reverse run.entries) is.steps) in
+    Each-both IsBounded DoesLog IsWellFormed formed_is run.entries (subst (Each IsBounded) (reverse-reverse run.entries) bounds) logs
+
+-- and the clocks of its repositories are within their bounds
+pub run_ahead : (run : Run) → IsRun run → Each IsAhead run.repos
+run_ahead run is = Each-weaker IsSetUp IsAhead (λ r set. set.offset) run.repos is.repos
 
 -- ---- the script
 
-one_known : (m n : ℕ) (c : Command) → n ≤ m → MayStand n c → ShowsKnown m c
-one_known m n (commands.ShowClaims r key) l s = omega (arith, l, s)
-one_known m n (commands.ShowLocation r key) l s = omega (arith, l, s)
-one_known m n (commands.ShowLog r file) l s = omega (arith, l, s)
-one_known m n (commands.ShowLogs r) l s = omega (arith, l, s)
-one_known m n (commands.ShowNumbers r) l s = omega (arith, l, s)
-one_known m n (commands.ShowLevel r target) l s = (omega (arith, l, s.0), omega (arith, l, s.1))
-one_known m n c l s = tt
+one_known : (m : ℕ) (x : Context) (c : Command) → length x.repos ≤ m → Stands x c → ShowsKnown m c
+one_known m x (commands.ShowClaims r k) l s = let here = s.0 in omega (arith, l, here)
+one_known m x (commands.ShowLocation r k) l s = let here = s.0 in omega (arith, l, here)
+one_known m x (commands.ShowLog r file) l s = let here = s.0 in omega (arith, l, here)
+one_known m x (commands.ShowLogs r) l s = omega (arith, l, s)
+one_known m x (commands.ShowNumbers r path) l s = let here = s.0 in omega (arith, l, here)
+one_known m x (commands.ShowLevel r target) l s = let here = s.0 in let there = s.1 in (omega (arith, l, here), omega (arith, l, there))
+one_known m x (commands.ShowRow r k) l s = let here = s.0 in omega (arith, l, here)
+one_known m x c l s = tt
 
-all_known : (m n : ℕ) (script : List Command) → n + length (declared script) ≤ m → AllStand n script → Each (ShowsKnown m) script
-all_known m n [] l s = tt
-all_known m n (c ∷ script) l s =
-    let both = length-append (declared_by c) (declared script) in
-    (one_known m n c (omega (arith, l)) s.0, all_known m (n + length (declared_by c)) script (omega (arith, l, both)) s.1)
+-- a command declares as many repositories for those behind it as for the run
+pub declares_alike : (c : Command) → length (script.declared_by c) ≡ length (declared_by c)
+declares_alike (commands.Repo name id offset version locks) = refl
+declares_alike c = refl
 
--- a program shows logs of the repositories that it declares
-program_shows_known : (script : List Command) → IsProgram script → Each (ShowsKnown (length (declared script))) script
-program_shows_known script program = all_known (length (declared script)) 0 script (omega arith) program.stand
+all_known : (m : ℕ) (x : Context) (cs : List Command) → length x.repos + length (repos_of cs) ≤ m → AllStand x cs → Each (ShowsKnown m) cs
+all_known m x [] l s = tt
+all_known m x (c ∷ cs) l s =
+    let both = length-append (declared_by c) (repos_of cs) in
+    let long = length-append x.repos (script.declared_by c) in
+    let alike = declares_alike c in
+    (one_known m x c (omega (arith, l, both)) s.0, all_known m (context_with x c) cs (omega (arith, l, both, long, alike)) s.2)
 
--- ---- its contents
-
-one_short : (n : ℕ) (c : Command) → MayStand n c → IsShort c
-one_short n (commands.Have r key size) s = omega (arith, s.3)
-one_short n c s = tt
-
-all_short : (n : ℕ) (script : List Command) → AllStand n script → AreShort script
-all_short n [] s = tt
-all_short n (c ∷ script) s = (one_short n c s.0, all_short (n + length (declared_by c)) script s.1)
-
--- ---- both
-
--- the law of the runs of scripts, as the lemma takes it
-abbrev RunsAreThin : Type 0
-RunsAreThin = (script : List Command) → IsProgram script → AreShort script → length (run_of script).entries < 2 ^ 62 → IsThinRun (run_of script)
-
--- the run of a script is thin
-pub script_is_thin : RunsAreThin → (script : List Command) (run : Run) → IsProgram script → run ≡ run_of script → length run.entries < 2 ^ 32 → IsThinRun run
-script_is_thin thin script run program run_is few =
-    subst (λ (r : Run). IsThinRun r) (sym run_is) (thin script program (all_short 0 script program.stand) small)
-  where
-    few_of : length (run_of script).entries < 2 ^ 32
-    few_of = subst (λ (r : Run). length r.entries < 2 ^ 32) run_is few
-
-    small : length (run_of script).entries < 2 ^ 62
-    small = omega (arith, few_of)
-
--- and the script shows logs of its repositories
-pub script_shows_known : (script : List Command) (run : Run) → IsProgram script → run ≡ run_of script → Each (ShowsKnown (length run.repos)) script
-script_shows_known script run program run_is =
-    subst (λ n. Each (ShowsKnown n) script) (sym (ap (λ (r : Run). length r.repos) run_is ∙ length-map (declared script) view_of)) (program_shows_known script program)
+-- the script shows what is of its repositories
+pub script_shows_known : (cs : List Command) → AllStand no_context cs → Each (ShowsKnown (length (repos_of cs))) cs
+script_shows_known cs stand = all_known (length (repos_of cs)) no_context cs (omega arith) stand

@@ -4,15 +4,17 @@ use Rattle.std.specs.declared.option.Option.{Option}
 use Rattle.std.specs.Io.KnownBytes.{append_known}
 use Rattle.std.specs.Fmt.{decimal}
 use Rattle.run_data.specs.declared.run.Run.{Run}
-use Rattle.thin_model.specs.Safety.{IsSafe}
-use Rattle.thin_model.specs.Thin.{IsThinRun}
-use Rattle.thin_model.specs.Causes.{HasCauses}
-use Rattle.thin_script.specs.declared.command.Command.{Command}
+use Rattle.run_model.specs.Causes.{HasCauses}
+use Rattle.run_model.specs.Run as runs
+use Rattle.run_model.specs.Safety.{IsSafe}
+use Rattle.script_lang.specs.declared.command.Command.{Command}
 use Rattle.script_lang.specs.declared.fault.Quantity.{Quantity}
 use Rattle.script_lang.specs.Limits.{quantity_name, limit_of}
 use Rattle.script_lang.specs.Script.{reading, BadLine, PastLimit}
-use Rattle.thin_script.specs.Script.{IsScript, IsUnbuilt}
-use Rattle.thin_driver.specs.Driver.{run_of}
+use Rattle.driver_model.specs.Driving.{run_of}
+use Rattle.driver_model.specs.Lines.{Line}
+use Rattle.driver_script.specs.Given.{given_of}
+use Rattle.driver_script.specs.Script.{IsScript, IsUnbuilt}
 use Rattle.report_text.specs.Report.{report}
 use Rattle.annex_cli.specs.declared.status.Status.{Status}
 use Rattle.annex_cli.specs.declared.status.Status.TheVariants.{Done, Usage, Script, ReadFault, WriteFault, NoMemory, Limit}
@@ -25,23 +27,24 @@ IsRun words = words ≡ codes "run" ∷ []
 abbrev pub usage_text : List ℕ
 usage_text = codes "usage: annex run | threads | storm NUMBER JOBS\n"
 
--- what is promised of a run: it is one that repositories may make without messages, the last copies are safe in it,
--- and each refused job has its cause
+-- what is promised of a run: it is one that repositories may make, the last copies are safe in it, and each refused job has its
+-- cause
 pub record IsGood (run : Run) : Type 0 where
-  pub thin : IsThinRun run
+  pub lawful : runs.IsRun run
   pub safe : IsSafe run
   pub causes : HasCauses run
 
 -- the run of the script that the bytes are is good
 abbrev pub HasGoodRun : List ℕ → Type 0
-HasGoodRun bytes = (script : List Command) → IsScript bytes script → IsGood (run_of script)
+HasGoodRun bytes = (script : List Command) (lines : List Line) → IsScript bytes script lines → IsGood (run_of (given_of script) lines)
 
 -- the bytes are a script whose forms are all built, and the text is the report of its run
 pub record IsReport (bytes text : List ℕ) : Type 0 where
   pub short : length bytes ≤ script_limit
   pub script : List Command
-  pub is_script : IsScript bytes script
-  pub text_is : text ≡ report script (run_of script)
+  pub lines : List Line
+  pub is_script : IsScript bytes script lines
+  pub text_is : text ≡ report script (run_of (given_of script) lines)
 
 -- the line that names a place of a script
 abbrev pub place_text : ℕ → ℕ → List ℕ

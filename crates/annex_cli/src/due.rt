@@ -1,21 +1,25 @@
 //! The text that is due for the bytes of a script.
 
-ghost use Rattle.std.specs.Prelude.{IfOk, ◌≡◌, ◌≤◌, ◌<◌, length, slice_get, Some};
+ghost use Rattle.std.specs.Prelude.{IfOk, ◌≡◌, ◌≤◌, ◌<◌, List, length, slice_get, Some};
 ghost use Rattle.script_lang.specs.Script.{reading, Commands};
-ghost use Rattle.thin_script.specs.Built.{first_unbuilt};
-ghost use Rattle.thin_script.specs.Script.{IsScript};
+ghost use Rattle.driver_model.specs.Lines.{Line};
+ghost use Rattle.driver_script.specs.Lines.{first_unbuilt, repos_of};
+ghost use Rattle.annex_cli.specs.Runs.{AreLines, IsRunOf};
 ghost use Rattle.annex_cli.specs.Whole.{script_limit};
 ghost use Rattle.annex_cli.specs.Top.{IsDue, HasGoodRun, limit_text, place_text};
 
+use crate::runs::run_script;
 use crate::status::Status;
 use crate::whole::SCRIPT_LIMIT;
 use annex_base::{NoMemory, put_number};
+use driver_model::{driven_runs_are_runs, runs_log_lines};
+use driver_script::{
+    first_missing, scripts_are_built_or_not, scripts_may_be_driven, scripts_run_or_miss_a_form,
+};
 use report_text::report;
-use script_lang::{Script, ScriptFault, commands_have_lines, line_numbers};
+use run_data::Run;
+use script_lang::{Script, ScriptFault, commands_have_lines, commands_stand, line_numbers};
 use std::alloc::Global;
-use thin_driver::{run_script, script_runs_are_thin};
-use thin_laws::{thin_refusals_have_causes, thin_runs_are_safe};
-use thin_script::{Command, built_scripts_are_programs, scripts_are_built_or_not, thin_lines};
 
 /// A status, and the text that is written with it.
 #[derive(Debug, Drop)]
@@ -50,27 +54,46 @@ fn script_due(alloc: Global, bytes: &[u8], script: &Script) -> Result<Due, NoMem
     ensures due { IfOk result (λ d. IsDue bytes.now d.status d.text.items) }
     ensures good { IfOk result (λ d. d.status ≡ Status.Done → HasGoodRun bytes.now) }
 {
-    match thin_lines(alloc, script.lines())? {
-        Ok(lines) => report_due(alloc, bytes, &lines),
-        Err(place) => missing_due(alloc, bytes, script, place),
+    // A law, for the proof: where no form is missing, the commands have their lines.
+    scripts_run_or_miss_a_form();
+    let commands = script.lines();
+    match first_missing(commands) {
+        None => run_due(alloc, bytes, script),
+        Some(place) => missing_due(alloc, bytes, script, place),
     }
 }
 
+/// The report of the run of a script.
+fn run_due(alloc: Global, bytes: &[u8], script: &Script) -> Result<Due, NoMemory>
+    requires short { length bytes.now ≤ script_limit }
+    requires says { reading bytes.now ≡ Commands script.now }
+    requires lines { (lines : List Line) × AreLines script.now lines }
+    ensures due { IfOk result (λ d. IsDue bytes.now d.status d.text.items) }
+    ensures good { IfOk result (λ d. d.status ≡ Status.Done → HasGoodRun bytes.now) }
+{
+    // Laws, for the proof that the script may be run.
+    commands_stand();
+    scripts_may_be_driven();
+    let run = run_script(alloc, script)?;
+    report_due(alloc, bytes, script, &run)
+}
+
 /// The report of a script's run.
-fn report_due(alloc: Global, _bytes: &[u8], script: &[Command]) -> Result<Due, NoMemory>
+fn report_due(alloc: Global, _bytes: &[u8], script: &Script, run: &Run) -> Result<Due, NoMemory>
     requires short { length _bytes.now ≤ script_limit }
-    requires script { IsScript _bytes.now script.now }
+    requires says { reading _bytes.now ≡ Commands script.now }
+    requires run { IsRunOf script.now run.now }
     ensures due { IfOk result (λ d. IsDue _bytes.now d.status d.text.items) }
     ensures good { IfOk result (λ d. d.status ≡ Status.Done → HasGoodRun _bytes.now) }
 {
-    // laws, for the proof that the run is good
-    built_scripts_are_programs();
+    // Laws, for the proof that the run is good, and has what the report wants.
+    commands_stand();
+    scripts_may_be_driven();
     scripts_are_built_or_not();
-    script_runs_are_thin();
-    thin_runs_are_safe();
-    thin_refusals_have_causes();
-    let run = run_script(alloc, script)?;
-    let text = report(alloc, script, &run)?;
+    driven_runs_are_runs();
+    runs_log_lines();
+    let commands = script.lines();
+    let text = report(alloc, commands, run)?;
     Ok(Due {
         status: Status::Done,
         text,
@@ -81,7 +104,7 @@ fn report_due(alloc: Global, _bytes: &[u8], script: &[Command]) -> Result<Due, N
 fn missing_due(alloc: Global, bytes: &[u8], _script: &Script, place: usize) -> Result<Due, NoMemory>
     requires short { length bytes.now ≤ script_limit }
     requires says { reading bytes.now ≡ Commands _script.now }
-    requires first { first_unbuilt _script.now ≡ Some place }
+    requires first { first_unbuilt (repos_of _script.now) _script.now ≡ Some place }
     ensures due { IfOk result (λ d. IsDue bytes.now d.status d.text.items) }
     ensures status { IfOk result (λ d. d.status ≡ Status.Script) }
 {

@@ -4,26 +4,30 @@
 ghost use Rattle.std.specs.Prelude.{◌≡◌, ℕ, ◌<◌, ◌≤◌, List, length, map, Some};
 ghost use Rattle.std.specs.String.{string_bytes};
 ghost use Rattle.annex_base.specs.Causes.{Rose};
-ghost use Rattle.thin_script.specs.declared.command.Command.{Command};
-ghost use Rattle.thin_script.specs.Script.{IsScript};
-ghost use Rattle.thin_driver.specs.Driver.{run_of};
+ghost use Rattle.script_lang.specs.declared.command.Command.{Command};
+ghost use Rattle.script_lang.specs.Script.{reading, Commands};
+ghost use Rattle.driver_model.specs.Driving.{run_of};
+ghost use Rattle.driver_model.specs.Lines.{Line};
+ghost use Rattle.driver_script.specs.Given.{given_of};
 ghost use Rattle.report_text.specs.Report.{report};
 ghost use Rattle.annex_cli.specs.declared.status.Status.{Status};
+ghost use Rattle.annex_cli.specs.Runs.{AreLines};
 ghost use Rattle.annex_cli.specs.Whole.{script_limit};
 ghost use Rattle.annex_cli.specs.Top.{IsRun, IsDue, EndsWith, Answers, AnswersRun};
 
 mod due;
+mod runs;
 mod status;
 mod whole;
 mod words;
 
 use annex_base::{Failed, Gate, Sink, Source};
+use driver_script::scripts_are_built_or_not;
 use due::due_text;
 pub use status::Status;
 use std::alloc::Global;
 use std::sync::Wait;
 use std::thread::Threads;
-use thin_script::scripts_are_built_or_not;
 use whole::{ReadStop, read_whole, write_whole};
 use words::is_run;
 
@@ -55,10 +59,10 @@ pub fn annex<R: Threads + Wait + Sync, S: Source, K: Sink, G: Gate>(
     ensures due { (bytes text : List ℕ) (status : Status) → IsRun (map string_bytes words.now) → S.left source.old ≡ Some bytes → IsDue bytes status text
         → (Rose (S.faults source.old) (S.faults source.new) → ⊥) → (Rose (K.faults sink.old) (K.faults sink.new) → ⊥)
         → EndsWith status text (K.taken sink.old) (K.taken sink.new) result }
-    ensures reported { (bytes : List ℕ) (script : List Command) → IsRun (map string_bytes words.now) → S.left source.old ≡ Some bytes
-        → length bytes ≤ script_limit → IsScript bytes script
+    ensures reported { (bytes : List ℕ) (script : List Command) (lines : List Line) → IsRun (map string_bytes words.now) → S.left source.old ≡ Some bytes
+        → length bytes ≤ script_limit → reading bytes ≡ Commands script → AreLines script lines
         → (Rose (S.faults source.old) (S.faults source.new) → ⊥) → (Rose (K.faults sink.old) (K.faults sink.new) → ⊥)
-        → EndsWith Status.Done (report script (run_of script)) (K.taken sink.old) (K.taken sink.new) result }
+        → EndsWith Status.Done (report script (run_of (given_of script) lines)) (K.taken sink.old) (K.taken sink.new) result }
 {
     if !is_run(words) {
         return match write_whole(sink, USAGE) {

@@ -6,3 +6,4 @@ pub mod Rows
 pub mod Stored
 pub mod Tokens
 pub mod Turns
+pub mod CallsMade

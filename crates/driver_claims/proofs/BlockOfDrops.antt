@@ -19,7 +19,7 @@ use Rattle.driver_model.specs.Lines.{Have, SetPart, Add, File, Set, Raw, Merge, 
 use Rattle.driver_model.specs.Driver.{Driver, Given, at_first}
 use Rattle.driver_model.specs.ScriptSteps.{begins, crashes, will_fail}
 use Rattle.driver_model.specs.Turning.{turn}
-use Rattle.driver_model.specs.Rounds.{Block, Blocked, takes_each, turns_of}
+use Rattle.driver_model.specs.Rounds.{Block, InBlock, takes_each, turns_of}
 use Rattle.driver_model.specs.Driving.{does, drives, with_mark, run_of, run_with}
 use Rattle.driver_claims.proofs.Settling.{block_came, block_goes, blocks_by, came, goes, settles_by}
 use Rattle.driver_claims.specs.Opened.{opened, matches_in}
@@ -88,7 +88,7 @@ line0 = c_0
 abbrev d2 : Driver
 d2 = record { past = p1; flights = ([]); fails = ([]); contents = ((record { repo = 0; key = t0; bytes = c0 }) ∷ []); parts = ([]); largest = 3; tree = ([]); marks = (2 ∷ []) }
 
-abbrev b1 : Blocked
+abbrev b1 : InBlock
 b1 = record { driver = d2; left = ((record { repo = 0; lines = ((Runs (record { kind = jobs.Drop; key = t0; path = None; peer = None })) ∷ (Fails calls.Has) ∷ (Runs (record { kind = jobs.Drop; key = t0; path = None; peer = None })) ∷ []); jobs = ([]) }) ∷ (record { repo = 1; lines = ((Crashes 0) ∷ []); jobs = ([]) }) ∷ []); idle = 0; took = true }
 
 abbrev e2 : Entry
@@ -148,7 +148,7 @@ c_6 : turn given 1 d6 ≡ d6
 unfolding opened
 c_6 = refl
 
-abbrev b3 : Blocked
+abbrev b3 : InBlock
 b3 = record { driver = d6; left = ((record { repo = 0; lines = ((Runs (record { kind = jobs.Drop; key = t0; path = None; peer = None })) ∷ []); jobs = (1 ∷ []) }) ∷ (record { repo = 1; lines = ([]); jobs = ([]) }) ∷ []); idle = 0; took = true }
 
 abbrev b4 : Block
@@ -175,7 +175,7 @@ c_9 : turn given 1 d7 ≡ d7
 unfolding opened
 c_9 = refl
 
-abbrev b5 : Blocked
+abbrev b5 : InBlock
 b5 = record { driver = d7; left = ((record { repo = 0; lines = ((Runs (record { kind = jobs.Drop; key = t0; path = None; peer = None })) ∷ []); jobs = (1 ∷ []) }) ∷ (record { repo = 1; lines = ([]); jobs = ([]) }) ∷ []); idle = 0; took = false }
 
 abbrev e6 : Entry
@@ -215,7 +215,7 @@ c_13 : turn given 1 d9 ≡ d9
 unfolding opened
 c_13 = refl
 
-abbrev b7 : Blocked
+abbrev b7 : InBlock
 b7 = record { driver = d9; left = ((record { repo = 0; lines = ([]); jobs = (2 ∷ 1 ∷ []) }) ∷ (record { repo = 1; lines = ([]); jobs = ([]) }) ∷ []); idle = 0; took = true }
 
 abbrev b8 : Block
@@ -251,7 +251,7 @@ c_16 : turn given 1 d10 ≡ d11
 unfolding opened
 c_16 = refl
 
-abbrev b9 : Blocked
+abbrev b9 : InBlock
 b9 = record { driver = d11; left = ((record { repo = 0; lines = ([]); jobs = (2 ∷ 1 ∷ []) }) ∷ (record { repo = 1; lines = ([]); jobs = ([]) }) ∷ []); idle = 0; took = false }
 
 abbrev b10 : Block
@@ -287,7 +287,7 @@ c_19 : turn given 1 d12 ≡ d13
 unfolding opened
 c_19 = refl
 
-abbrev b11 : Blocked
+abbrev b11 : InBlock
 b11 = record { driver = d13; left = ((record { repo = 0; lines = ([]); jobs = (2 ∷ 1 ∷ []) }) ∷ (record { repo = 1; lines = ([]); jobs = ([]) }) ∷ []); idle = 0; took = false }
 
 abbrev b12 : Block
@@ -323,7 +323,7 @@ c_22 : turn given 1 d14 ≡ d15
 unfolding opened
 c_22 = refl
 
-abbrev b13 : Blocked
+abbrev b13 : InBlock
 b13 = record { driver = d15; left = ((record { repo = 0; lines = ([]); jobs = (2 ∷ 1 ∷ []) }) ∷ (record { repo = 1; lines = ([]); jobs = ([]) }) ∷ []); idle = 0; took = false }
 
 abbrev b14 : Block
@@ -359,7 +359,7 @@ c_25 : turn given 1 d16 ≡ d17
 unfolding opened
 c_25 = refl
 
-abbrev b15 : Blocked
+abbrev b15 : InBlock
 b15 = record { driver = d17; left = ((record { repo = 0; lines = ([]); jobs = (2 ∷ 1 ∷ []) }) ∷ (record { repo = 1; lines = ([]); jobs = ([]) }) ∷ []); idle = 0; took = false }
 
 abbrev b16 : Block
@@ -386,7 +386,7 @@ c_28 : turn given 1 d18 ≡ d18
 unfolding opened
 c_28 = refl
 
-abbrev b17 : Blocked
+abbrev b17 : InBlock
 b17 = record { driver = d18; left = ((record { repo = 0; lines = ([]); jobs = (2 ∷ 1 ∷ []) }) ∷ (record { repo = 1; lines = ([]); jobs = ([]) }) ∷ []); idle = 0; took = false }
 
 abbrev b18 : Block
@@ -422,7 +422,7 @@ c_31 : turn given 1 d19 ≡ d20
 unfolding opened
 c_31 = refl
 
-abbrev b19 : Blocked
+abbrev b19 : InBlock
 b19 = record { driver = d20; left = ((record { repo = 0; lines = ([]); jobs = (2 ∷ 1 ∷ []) }) ∷ (record { repo = 1; lines = ([]); jobs = ([]) }) ∷ []); idle = 0; took = false }
 
 abbrev b20 : Block
@@ -440,7 +440,7 @@ c_34 : turn given 1 d20 ≡ d20
 unfolding opened
 c_34 = refl
 
-abbrev b21 : Blocked
+abbrev b21 : InBlock
 b21 = record { driver = d20; left = ((record { repo = 0; lines = ([]); jobs = (2 ∷ 1 ∷ []) }) ∷ (record { repo = 1; lines = ([]); jobs = ([]) }) ∷ []); idle = 1; took = false }
 
 abbrev b22 : Block
@@ -450,7 +450,7 @@ c_35 : takes_each given ((record { repo = 0; lines = ([]); jobs = (2 ∷ 1 ∷ [
 unfolding opened
 c_35 = refl
 
-abbrev b23 : Blocked
+abbrev b23 : InBlock
 b23 = record { driver = d20; left = ((record { repo = 0; lines = ([]); jobs = (2 ∷ 1 ∷ []) }) ∷ (record { repo = 1; lines = ([]); jobs = ([]) }) ∷ []); idle = 2; took = false }
 
 line1 : does given l1 d2 ≡ d20

@@ -13,7 +13,7 @@ use Rattle.driver_model.specs.Lines.{Have, SetPart, Add, File, Set, Raw, Merge, 
 use Rattle.driver_model.specs.Driver.{Driver, Given, at_first}
 use Rattle.driver_model.specs.ScriptSteps.{begins}
 use Rattle.driver_model.specs.Turning.{turn}
-use Rattle.driver_model.specs.Rounds.{Block, Blocked, takes_each, turns_of}
+use Rattle.driver_model.specs.Rounds.{Block, InBlock, takes_each, turns_of}
 use Rattle.driver_model.specs.Driving.{does, drives, with_mark, run_of, run_with}
 use Rattle.driver_claims.proofs.Settling.{block_came, block_goes, blocks_by, came, goes, settles_by}
 use Rattle.driver_claims.specs.Opened.{opened, matches_in}
@@ -39,7 +39,7 @@ l1 = Par ([])
 abbrev d0 : Driver
 d0 = record { past = []; flights = ([]); fails = ([]); contents = ([]); parts = ([]); largest = 0; tree = ([]); marks = ([]) }
 
-abbrev b1 : Blocked
+abbrev b1 : InBlock
 b1 = record { driver = d0; left = ((record { repo = 0; lines = ((Runs (record { kind = jobs.Drop; key = t0; path = None; peer = None })) ∷ (Runs (record { kind = jobs.Drop; key = t1; path = None; peer = None })) ∷ []); jobs = ([]) }) ∷ []); idle = 0; took = true }
 
 abbrev e0 : Entry
@@ -75,7 +75,7 @@ c_2 : turn given 0 d1 ≡ d2
 unfolding opened
 c_2 = refl
 
-abbrev b3 : Blocked
+abbrev b3 : InBlock
 b3 = record { driver = d2; left = ((record { repo = 0; lines = ((Runs (record { kind = jobs.Drop; key = t1; path = None; peer = None })) ∷ []); jobs = (1 ∷ []) }) ∷ []); idle = 0; took = true }
 
 abbrev e2 : Entry
@@ -111,7 +111,7 @@ c_5 : turn given 0 d3 ≡ d4
 unfolding opened
 c_5 = refl
 
-abbrev b5 : Blocked
+abbrev b5 : InBlock
 b5 = record { driver = d4; left = ((record { repo = 0; lines = ([]); jobs = (2 ∷ 1 ∷ []) }) ∷ []); idle = 0; took = true }
 
 abbrev b6 : Block
@@ -125,7 +125,7 @@ c_7 : turn given 0 d4 ≡ d4
 unfolding opened
 c_7 = refl
 
-abbrev b7 : Blocked
+abbrev b7 : InBlock
 b7 = record { driver = d4; left = ((record { repo = 0; lines = ([]); jobs = (2 ∷ 1 ∷ []) }) ∷ []); idle = 1; took = false }
 
 abbrev b8 : Block
@@ -135,7 +135,7 @@ c_8 : takes_each given ((record { repo = 0; lines = ([]); jobs = (2 ∷ 1 ∷ []
 unfolding opened
 c_8 = refl
 
-abbrev b9 : Blocked
+abbrev b9 : InBlock
 b9 = record { driver = d4; left = ((record { repo = 0; lines = ([]); jobs = (2 ∷ 1 ∷ []) }) ∷ []); idle = 2; took = false }
 
 line0 : does given l0 d0 ≡ d4
@@ -144,7 +144,7 @@ line0 = blocks_by given ((record { repo = 0; line = Runs (record { kind = jobs.D
 abbrev d5 : Driver
 d5 = record { past = p3; flights = ([]); fails = ([]); contents = ([]); parts = ([]); largest = 0; tree = ([]); marks = (4 ∷ []) }
 
-abbrev b10 : Blocked
+abbrev b10 : InBlock
 b10 = record { driver = d5; left = ((record { repo = 0; lines = ([]); jobs = ([]) }) ∷ []); idle = 0; took = true }
 
 abbrev b11 : Block
@@ -158,7 +158,7 @@ c_10 : turn given 0 d5 ≡ d5
 unfolding opened
 c_10 = refl
 
-abbrev b12 : Blocked
+abbrev b12 : InBlock
 b12 = record { driver = d5; left = ((record { repo = 0; lines = ([]); jobs = ([]) }) ∷ []); idle = 1; took = false }
 
 abbrev b13 : Block
@@ -168,7 +168,7 @@ c_11 : takes_each given ((record { repo = 0; lines = ([]); jobs = ([]) }) ∷ []
 unfolding opened
 c_11 = refl
 
-abbrev b14 : Blocked
+abbrev b14 : InBlock
 b14 = record { driver = d5; left = ((record { repo = 0; lines = ([]); jobs = ([]) }) ∷ []); idle = 2; took = false }
 
 line1 : does given l1 d5 ≡ d5

@@ -1,6 +1,6 @@
--- Each step of the driver only adds entries to the past.
-use Rattle.std.proofs.Common.{◌≡◌, ℕ, zero, suc, ◌+◌, Bool, true, false, List, [], ◌∷◌, ◌++◌, Option, Some, None, refl, sym, ap, ◌∙◌, append_assoc}
-use Rattle.std.specs.Prelude.{if◌then◌else◌, length, map, nat_lt, not, reverse}
+-- Each step of the driver only adds entries to the past, at the time that it is; only a wait takes time.
+use Rattle.std.proofs.Common.{◌≡◌, ℕ, zero, suc, ◌+◌, Bool, true, false, List, [], ◌∷◌, ◌++◌, Option, Some, None, refl, sym, ap, ◌∙◌, append_assoc, arith}
+use Rattle.std.specs.Prelude.{if◌then◌else◌, length, map, nat_lt, not, reverse, take}
 use Rattle.std.proofs.lemmas.List.{reverse-append}
 use Rattle.annex_base.specs.declared.kinds.Call.{Call}
 use Rattle.annex_base.specs.declared.kinds.Call.TheVariants as calls
@@ -15,7 +15,7 @@ use Rattle.run_data.specs.declared.entry.LogFile.TheVariants.{Of}
 use Rattle.run_data.specs.declared.job.Job.{Job}
 use Rattle.run_data.specs.Files.{file_of}
 use Rattle.run_model.specs.Logs.{branch}
-use Rattle.run_model.specs.Past.{begun_count}
+use Rattle.run_model.specs.Past.{begun_count, now}
 use Rattle.run_model.specs.States.{end_at, works}
 use Rattle.node_model.specs.AnyTime.{close_at, ends_with}
 use Rattle.node_model.specs.Ends.{EndName}
@@ -23,21 +23,21 @@ use Rattle.node_model.specs.Look.{Look, Made, entry_of}
 use Rattle.node_model.specs.SetUp.{SetUp}
 use Rattle.node_model.specs.State.{State}
 use Rattle.node_model.specs.Step.{step}
-use Rattle.driver_model.specs.Lines.{Agendum, BlockLine, Line, Runs, Crashes, Closes, Fails, Have, SetPart, Add, File, Set, Raw, Merge, Compact, Begin, Turns, Settle, Close, Crash, Wait, Fail, Par}
+use Rattle.driver_model.specs.Lines.{Agendum, BlockLine, Line, Runs, Crashes, Closes, Fails, Have, SetPart, Add, File, Set, Raw, Merge, Compact, Begin, Turns, Settle, Close, Crash, Wait, Fail, Par, Shows, waited_by}
 use Rattle.driver_model.specs.Lines
 use Rattle.driver_model.specs.Driver.{Driver, Given, adds, drops_part, fails_at, notes, puts_part, set_up_of, state_at, without_old_flights}
-use Rattle.driver_model.specs.ScriptSteps.{begins, begins_part, calling, closes, closes_each, closes_end, compacts, compacts_files, crashes, enters, faults, fills_up, gains, has, is_busy, is_nil, logs, logs_some, merges, merges_files, news, sends, sets, sets_part, setting_line, shrinks, unknown, unless_busy, waits, will_fail, writes}
+use Rattle.driver_model.specs.ScriptSteps.{begins, begins_part, unless_fails, closes, closes_each, closes_end, compacts, compacts_files, crashes, enters, faults, fills_up, gains, has, is_busy, is_nil, logs, logs_some, merges, merges_files, news, sends, sets, sets_part, setting_line, shrinks, unknown, unless_busy, waits, will_fail, writes}
 use Rattle.driver_model.specs.Turning.{bytes_taken, look_for, looks, makes, plain_look, turn}
-use Rattle.driver_model.specs.Rounds.{Agenda, Blocked, Going, agenda, block_round, block_rounds, blocks, came_to, goes_round, is_over, is_settled, may_begin, most_rounds, numbers, round, rounds, settles, takes, takes_all, takes_each, turns_of, with_round}
+use Rattle.driver_model.specs.Rounds.{Agenda, InBlock, AfterRounds, agenda, block_round, block_rounds, blocks, came_to, goes_round, is_over, is_settled, may_begin, most_rounds, numbers, round, rounds, settles, takes, takes_all, takes_each, turns_of, with_round}
 use Rattle.driver_model.specs.Driving.{does, turns, with_mark}
 use Rattle.driver_model.specs.Sound.{OnlyAdds}
 use Rattle.driver_model.proofs.Settles.{store_past}
 
 -- ---- of pasts, which have the newest entry first
 
--- the one past is the other with entries in front
+-- the one past is the other with entries in front, and no later
 abbrev Grew : List Entry → List Entry → Type 0
-Grew past after = (more : List Entry) × (after ≡ more ++ past)
+Grew past after = (more : List Entry) × (after ≡ more ++ past) × (now after ≡ now past)
 
 -- so is that of a driver
 abbrev Adds : Driver → Driver → Type 0
@@ -47,25 +47,25 @@ pub only_adds : (d after : Driver) → Adds d after → OnlyAdds d after
 only_adds d after x = (reverse x.0, ap reverse x.1 ∙ reverse-append x.0 d.past)
 
 stays : (past after : List Entry) → after ≡ past → Grew past after
-stays past after e = ([], e)
+stays past after e = ([], e, ap now e)
 
-one : (past : List Entry) (e : Entry) → Grew past (e ∷ past)
-one past e = (e ∷ [], refl)
+one : (past : List Entry) (e : Entry) → e.time ≡ now past → Grew past (e ∷ past)
+one past e t = (e ∷ [], refl, t)
 
 then_grew : (a b c : List Entry) → Grew a b → Grew b c → Grew a c
-then_grew a b c x y = (y.0 ++ x.0, y.1 ∙ ap (λ past. y.0 ++ past) x.1 ∙ sym (append_assoc y.0 x.0 a))
+then_grew a b c x y = (y.0 ++ x.0, y.1 ∙ ap (λ past. y.0 ++ past) x.1 ∙ sym (append_assoc y.0 x.0 a), y.2 ∙ x.2)
 
 -- ---- store calls and lines
 
-calling_adds : (d done : Driver) (r : ℕ) (call : Call) → Adds d done → Adds d (calling r call d done)
+calling_adds : (d done : Driver) (r : ℕ) (call : Call) → Adds d done → Adds d (unless_fails r call d done)
 calling_adds d done r call x = go (fails_at d r call)
   where
     go : (b : Bool) → Adds d (if b then faults r call d else done)
-    go true = one d.past _
+    go true = one d.past _ refl
     go false = x
 
 logs_adds : (r : ℕ) (file : LogFile) (lines : List (List ℕ)) (d : Driver) → Adds d (logs r file lines d)
-logs_adds r file lines d = calling_adds d (notes r (kinds.Log file) lines d) r calls.PutFile (one d.past _)
+logs_adds r file lines d = calling_adds d (notes r (kinds.Log file) lines d) r calls.PutFile (one d.past _ refl)
 
 some_adds : (r : ℕ) (file : LogFile) (lines : List (List ℕ)) (d : Driver) → Adds d (logs_some r file lines d)
 some_adds r file [] d = stays d.past d.past refl
@@ -87,8 +87,8 @@ merged_adds r (f ∷ files) d = go (merged_adds r files d) (merged_adds r files 
     go : Adds d (merges_files r files d) → Adds written (merges_files r files written) → (b c : Bool)
         → Adds d (if b then merges_files r files d else (if c then faults r calls.PutFile d else merges_files r files written))
     go same more true c = same
-    go same more false true = one d.past _
-    go same more false false = then_grew d.past written.past (merges_files r files written).past (one d.past _) more
+    go same more false true = one d.past _ refl
+    go same more false false = then_grew d.past written.past (merges_files r files written).past (one d.past _ refl) more
 
 pub merges_adds : (r other : ℕ) (d : Driver) → Adds d (merges r other d)
 merges_adds r other d = merged_adds r (branch d.past other) d
@@ -103,8 +103,8 @@ compacted_adds r (f ∷ files) d = go (compacted_adds r files d) (compacted_adds
     go : Adds d (compacts_files r files d) → Adds shorter (compacts_files r files shorter) → (b c : Bool)
         → Adds d (if b then compacts_files r files d else (if c then faults r calls.PutFile d else compacts_files r files shorter))
     go same more true c = same
-    go same more false true = one d.past _
-    go same more false false = then_grew d.past shorter.past (compacts_files r files shorter).past (one d.past _) more
+    go same more false true = one d.past _ refl
+    go same more false false = then_grew d.past shorter.past (compacts_files r files shorter).past (one d.past _ refl) more
 
 pub compacts_adds : (r : ℕ) (d : Driver) → Adds d (compacts r d)
 compacts_adds r d = compacted_adds r (branch d.past r) d
@@ -112,7 +112,7 @@ compacts_adds r d = compacted_adds r (branch d.past r) d
 -- ---- contents
 
 gains_adds : (g : Given) (r : ℕ) (key bytes : List ℕ) (d : Driver) → Adds d (gains g r key bytes d)
-gains_adds g r key bytes d = then_grew d.past _ (gains g r key bytes d).past (one d.past _) (logs_adds r _ _ _)
+gains_adds g r key bytes d = then_grew d.past _ (gains g r key bytes d).past (one d.past _ refl) (logs_adds r _ _ _)
 
 fills_adds : (g : Given) (r : ℕ) (key bytes : List ℕ) (d : Driver) → Adds d (fills_up g r key bytes d)
 fills_adds g r key bytes d = go (fails_at d r calls.Append)
@@ -120,14 +120,14 @@ fills_adds g r key bytes d = go (fails_at d r calls.Append)
     put : Driver
     put = puts_part r key bytes d
 
-    go : (b : Bool) → Adds d (if b then faults r calls.Append d else calling r calls.Commit (puts_part r key bytes d) (gains g r key bytes (puts_part r key bytes d)))
-    go true = one d.past _
+    go : (b : Bool) → Adds d (if b then faults r calls.Append d else unless_fails r calls.Commit (puts_part r key bytes d) (gains g r key bytes (puts_part r key bytes d)))
+    go true = one d.past _ refl
     go false = calling_adds put (gains g r key bytes put) r calls.Commit (gains_adds g r key bytes put)
 
 unless_adds : (g : Given) (r : ℕ) (key : List ℕ) (d done : Driver) → Adds d done → Adds d (unless_busy g r key d done)
-unless_adds g r key d done x = calling_adds d (if is_busy g d r key then d else calling r calls.DropPart d done) r calls.Has (go (is_busy g d r key))
+unless_adds g r key d done x = calling_adds d (if is_busy g d r key then d else unless_fails r calls.DropPart d done) r calls.Has (go (is_busy g d r key))
   where
-    go : (b : Bool) → Adds d (if b then d else calling r calls.DropPart d done)
+    go : (b : Bool) → Adds d (if b then d else unless_fails r calls.DropPart d done)
     go true = stays d.past d.past refl
     go false = calling_adds d done r calls.DropPart x
 
@@ -144,14 +144,14 @@ pub begins_adds : (r : ℕ) (job : Job) (d : Driver) → Adds d (begins r job d)
 begins_adds r job d = go (nat_lt (length (works d.past r)) 4)
   where
     go : (b : Bool) → Adds d (if b then notes r (kinds.Begin (begun_count d.past r + 1) job) [] d else d)
-    go true = one d.past _
+    go true = one d.past _ refl
     go false = stays d.past d.past refl
 
 close_adds : (g : Given) (r : ℕ) (a : EndName) (d : Driver) → Adds d (closes_end g r a d)
 close_adds g r a d = go (end_at d.past r a).opened
   where
     go : (b : Bool) → Adds d (if b then sends g r (kinds.Close a.peer a.slot a.client) (close_at (set_up_of g d r) (state_at g d r) a) d else d)
-    go true = one d.past _
+    go true = one d.past _ refl
     go false = stays d.past d.past refl
 
 each_adds : (g : Given) (r : ℕ) (ends : List EndName) (d : Driver) → Adds d (closes_each g r ends d)
@@ -162,10 +162,10 @@ pub closes_adds : (g : Given) (r other : ℕ) (d : Driver) → Adds d (closes g 
 closes_adds g r other d = each_adds g r (ends_with other true ++ ends_with other false) d
 
 pub crashes_adds : (g : Given) (r clock : ℕ) (d : Driver) → Adds d (crashes g r clock d)
-crashes_adds g r clock d = one d.past _
+crashes_adds g r clock d = one d.past _ refl
 
-pub waits_adds : (milliseconds : ℕ) (d : Driver) → Adds d (waits milliseconds d)
-waits_adds milliseconds d = one d.past _
+pub waits_adds : (milliseconds : ℕ) (d : Driver) → OnlyAdds d (waits milliseconds d)
+waits_adds milliseconds d = (take 1 (waits milliseconds d).past, reverse-append (take 1 (waits milliseconds d).past) d.past)
 
 pub enters_adds : (path key : List ℕ) (d : Driver) → Adds d (enters path key d)
 enters_adds path key d = stays d.past d.past refl
@@ -178,13 +178,13 @@ mark_adds d = stays d.past d.past refl
 
 -- ---- turns, and rounds of them
 
-makes_adds : (st : State) (r : ℕ) (k : Look) (o : Option Made) (d : Driver) → Adds d (makes st r k o d)
-makes_adds st r k None d = stays d.past d.past refl
-makes_adds st r k (Some m) d = (entry_of r k m ∷ [], store_past st r m (bytes_taken r m.taken d) m.kind (adds st r (entry_of r k m) d))
+makes_adds : (st : State) (r : ℕ) (k : Look) (o : Option Made) (d : Driver) → k.time ≡ now d.past → Adds d (makes st r k o d)
+makes_adds st r k None d t = stays d.past d.past refl
+makes_adds st r k (Some m) d t = let is = store_past st r m (bytes_taken r m.taken d) m.kind (adds st r (entry_of r k m) d) in (entry_of r k m ∷ [], is, ap now is ∙ t)
 
 looks_adds : (g : Given) (r : ℕ) (s : SetUp) (st : State) (o : Option Made) (d : Driver) → Adds d (looks g r s st o d)
 looks_adds g r s st None d = stays d.past d.past refl
-looks_adds g r s st (Some m) d = makes_adds st r (look_for g d r s st m) (step s st (look_for g d r s st m)) d
+looks_adds g r s st (Some m) d = makes_adds st r (look_for g d r s st m) (step s st (look_for g d r s st m)) d refl
 
 pub turn_adds : (g : Given) (r : ℕ) (d : Driver) → Adds d (turn g r d)
 turn_adds g r d =
@@ -202,14 +202,14 @@ turns_of_adds g (r ∷ rs) d = then_grew d.past (turn g r d).past (turns_of g rs
 pub round_adds : (g : Given) (d : Driver) → Adds d (round g d)
 round_adds g d = turns_of_adds g (numbers g) d
 
-goes_adds : (g : Given) (x : Going) → Adds x.driver (goes_round g x).driver
+goes_adds : (g : Given) (x : AfterRounds) → Adds x.driver (goes_round g x).driver
 goes_adds g x = go (is_settled x)
   where
     go : (b : Bool) → Adds x.driver (if b then x else came_to x (round g x.driver)).driver
     go true = stays x.driver.past x.driver.past refl
     go false = round_adds g x.driver
 
-rounds_adds : (g : Given) (n : ℕ) (x : Going) → Adds x.driver (rounds g n x).driver
+rounds_adds : (g : Given) (n : ℕ) (x : AfterRounds) → Adds x.driver (rounds g n x).driver
 rounds_adds g zero x = goes_adds g x
 rounds_adds g (suc n) x = go (then_grew x.driver.past (rounds g n x).driver.past (rounds g n (rounds g n x)).driver.past (rounds_adds g n x) (rounds_adds g n (rounds g n x))) (is_settled x)
   where
@@ -238,14 +238,14 @@ agendas_adds : (g : Given) (ags : List Agenda) (d : Driver) → Adds d (takes_ea
 agendas_adds g [] d = stays d.past d.past refl
 agendas_adds g (a ∷ ags) d = then_grew d.past (takes g a d).driver.past (takes_each g ags (takes g a d).driver).driver.past (takes_adds g a.repo a.lines a.jobs d) (agendas_adds g ags (takes g a d).driver)
 
-block_adds : (g : Given) (x : Blocked) → Adds x.driver (block_round g x).driver
+block_adds : (g : Given) (x : InBlock) → Adds x.driver (block_round g x).driver
 block_adds g x = go (is_over x)
   where
     go : (b : Bool) → Adds x.driver (if b then x else with_round g x (takes_each g x.left x.driver)).driver
     go true = stays x.driver.past x.driver.past refl
     go false = then_grew x.driver.past (takes_each g x.left x.driver).driver.past (round g (takes_each g x.left x.driver).driver).past (agendas_adds g x.left x.driver) (round_adds g (takes_each g x.left x.driver).driver)
 
-block_rounds_adds : (g : Given) (n : ℕ) (x : Blocked) → Adds x.driver (block_rounds g n x).driver
+block_rounds_adds : (g : Given) (n : ℕ) (x : InBlock) → Adds x.driver (block_rounds g n x).driver
 block_rounds_adds g zero x = block_adds g x
 block_rounds_adds g (suc n) x = go (then_grew x.driver.past (block_rounds g n x).driver.past (block_rounds g n (block_rounds g n x)).driver.past (block_rounds_adds g n x) (block_rounds_adds g n (block_rounds g n x))) (is_over x)
   where
@@ -255,7 +255,7 @@ block_rounds_adds g (suc n) x = go (then_grew x.driver.past (block_rounds g n x)
 
 pub blocks_adds : (g : Given) (xs : List Agendum) (d : Driver) → Adds d (blocks g xs d)
 blocks_adds g xs d =
-    let b : Blocked = record { driver = d; left = map_agendas; idle = 0; took = true } in
+    let b : InBlock = record { driver = d; left = map_agendas; idle = 0; took = true } in
     then_grew d.past (block_rounds g most_rounds b).driver.past (settles g (block_rounds g most_rounds b).driver).past (block_rounds_adds g most_rounds b) (settles_adds g (block_rounds g most_rounds b).driver)
   where
     map_agendas : List Agenda
@@ -263,21 +263,26 @@ blocks_adds g xs d =
 
 -- ---- lines
 
-pub line_adds : (g : Given) (line : Line) (d : Driver) → Adds d (does g line d)
-line_adds g (Have r key bytes) d = has_adds g r key bytes d
-line_adds g (SetPart r key bytes) d = part_adds g r key bytes d
-line_adds g (Add r path key bytes) d = has_adds g r key bytes (enters path key d)
-line_adds g (File path key) d = enters_adds path key d
-line_adds g (Set r kind topic value) d = sets_adds g r kind topic value d
-line_adds g (Raw r file line) d = writes_adds r file line d
-line_adds g (Merge r other) d = merges_adds r other d
-line_adds g (Compact r) d = compacts_adds r d
-line_adds g (Begin r job) d = begins_adds r job d
-line_adds g (Lines.Run r job) d = then_grew d.past (begins r job d).past (settles g (begins r job d)).past (begins_adds r job d) (settles_adds g (begins r job d))
-line_adds g (Turns r n) d = turns_adds g r n d
-line_adds g Settle d = settles_adds g d
-line_adds g (Close r other) d = closes_adds g r other d
-line_adds g (Crash r clock) d = crashes_adds g r clock d
-line_adds g (Wait milliseconds) d = waits_adds milliseconds d
-line_adds g (Fail r call) d = fail_adds r call d
-line_adds g (Par lines) d = blocks_adds g lines d
+-- what a line adds comes at the time that it is, but for a wait
+lasting : (d after : Driver) → Adds d after → OnlyAdds d after × (now after.past ≡ now d.past + 0)
+lasting d after x = let time = x.2 in (only_adds d after x, omega (arith, time))
+
+pub line_adds : (g : Given) (line : Line) (d : Driver) → OnlyAdds d (does g line d) × (now (does g line d).past ≡ now d.past + waited_by line)
+line_adds g (Have r key bytes) d = lasting d (does g (Have r key bytes) d) (has_adds g r key bytes d)
+line_adds g (SetPart r key bytes) d = lasting d (does g (SetPart r key bytes) d) (part_adds g r key bytes d)
+line_adds g (Add r path key bytes) d = lasting d (does g (Add r path key bytes) d) (has_adds g r key bytes (enters path key d))
+line_adds g (File path key) d = lasting d (does g (File path key) d) (enters_adds path key d)
+line_adds g (Set r kind topic value) d = lasting d (does g (Set r kind topic value) d) (sets_adds g r kind topic value d)
+line_adds g (Raw r file line) d = lasting d (does g (Raw r file line) d) (writes_adds r file line d)
+line_adds g (Merge r other) d = lasting d (does g (Merge r other) d) (merges_adds r other d)
+line_adds g (Compact r) d = lasting d (does g (Compact r) d) (compacts_adds r d)
+line_adds g (Begin r job) d = lasting d (does g (Begin r job) d) (begins_adds r job d)
+line_adds g (Lines.Run r job) d = lasting d (does g (Lines.Run r job) d) (then_grew d.past (begins r job d).past (settles g (begins r job d)).past (begins_adds r job d) (settles_adds g (begins r job d)))
+line_adds g (Turns r n) d = lasting d (does g (Turns r n) d) (turns_adds g r n d)
+line_adds g Settle d = lasting d (does g Settle d) (settles_adds g d)
+line_adds g (Close r other) d = lasting d (does g (Close r other) d) (closes_adds g r other d)
+line_adds g (Crash r clock) d = lasting d (does g (Crash r clock) d) (crashes_adds g r clock d)
+line_adds g (Wait milliseconds) d = (waits_adds milliseconds d, refl)
+line_adds g (Fail r call) d = lasting d (does g (Fail r call) d) (fail_adds r call d)
+line_adds g (Par lines) d = lasting d (does g (Par lines) d) (blocks_adds g lines d)
+line_adds g Shows d = lasting d (does g Shows d) (stays d.past d.past refl)

@@ -15,13 +15,13 @@ use Rattle.annex_key.specs.KeyText.{IsKeyText}
 use Rattle.run_model.specs.Past.{begun_count, present}
 use Rattle.run_data.specs.Repos.{fits_size}
 use Rattle.node_model.specs.SessionStep.{is_filled}
-use Rattle.driver_model.specs.Lines.{Agendum, BlockLine, Line, Runs, Crashes, Closes, Fails, Have, SetPart, Add, File, Set, Raw, Merge, Compact, Begin, Turns, Settle, Close, Crash, Wait, Fail, Par}
+use Rattle.driver_model.specs.Lines.{Agendum, BlockLine, Line, Runs, Crashes, Closes, Fails, Have, SetPart, Add, File, Set, Raw, Merge, Compact, Begin, Turns, Settle, Close, Crash, Wait, Fail, Par, Shows}
 use Rattle.driver_model.specs.Lines
 use Rattle.driver_model.specs.Driver.{Driver, Given, at_first, commits, drops_part, fails_at, notes, puts_part, set_up_of, state_at}
-use Rattle.driver_model.specs.ScriptSteps.{begins, begins_part, calling, crashes, closes, enters, faults, fills_up, gains, has, is_busy, sets_part, setting_line, unless_busy, will_fail}
+use Rattle.driver_model.specs.ScriptSteps.{begins, begins_part, unless_fails, crashes, closes, enters, faults, fills_up, gains, has, is_busy, sets_part, setting_line, unless_busy, will_fail}
 use Rattle.driver_model.specs.Turning.{turn}
-use Rattle.driver_model.specs.Rounds.{Agenda, Blocked, Going, Taken, agenda, block_round, block_rounds, blocks, came_to, goes_round, is_over, is_settled, lines_for, may_begin, most_rounds, numbers, round, rounds, settles, takes, takes_all, takes_each, turns_of, with_round}
-use Rattle.driver_model.specs.Driving.{does, driven, drives, with_mark, run_of, run_with, turns}
+use Rattle.driver_model.specs.Rounds.{Agenda, InBlock, AfterRounds, WithAgenda, agenda, block_round, block_rounds, blocks, came_to, goes_round, is_over, is_settled, lines_for, may_begin, most_rounds, numbers, round, rounds, settles, takes, takes_all, takes_each, turns_of, with_round}
+use Rattle.driver_model.specs.Driving.{does, driver_after, drives, with_mark, run_of, run_with, turns}
 use Rattle.driver_model.specs.Scripts.{Fits, IsAgendum, IsBlockLine, IsOne}
 use Rattle.driver_model.specs.Sound.{IsSound}
 use Rattle.driver_model.proofs.EndsAlike.{ends_alike}
@@ -41,9 +41,9 @@ or_false false b e = (refl, e)
 
 module _ (laws : Laws) (g : Given) (r : ℕ) (known : r < length g.repos) where
   keeps_busy : (d done : Driver) (key : List ℕ) → Keeps g d → (is_busy g d r key ≡ false → Keeps g done) → Keeps g (unless_busy g r key d done)
-  keeps_busy d done key k more = keeps_calling laws g d r calls.Has (if is_busy g d r key then d else calling r calls.DropPart d done) known refl k (λ i. go (is_busy g d r key) refl)
+  keeps_busy d done key k more = keeps_calling laws g d r calls.Has (if is_busy g d r key then d else unless_fails r calls.DropPart d done) known refl k (λ i. go (is_busy g d r key) refl)
     where
-      go : (b : Bool) → is_busy g d r key ≡ b → Keeps g (if b then d else calling r calls.DropPart d done)
+      go : (b : Bool) → is_busy g d r key ≡ b → Keeps g (if b then d else unless_fails r calls.DropPart d done)
       go true i = k
       go false i = keeps_calling laws g d r calls.DropPart done known refl k (λ j. more i)
 
@@ -56,7 +56,7 @@ module _ (laws : Laws) (g : Given) (r : ℕ) (known : r < length g.repos) where
   keeps_fills : (d : Driver) (key bytes : List ℕ) → IsKeyText key → fits_size (size_part key) (length bytes) ≡ true → is_busy g d r key ≡ false → Keeps g d → Keeps g (fills_up g r key bytes d)
   keeps_fills d key bytes text fits free k = go (fails_at d r calls.Append)
     where
-      go : (b : Bool) → Keeps g (if b then faults r calls.Append d else calling r calls.Commit (puts_part r key bytes d) (gains g r key bytes (puts_part r key bytes d)))
+      go : (b : Bool) → Keeps g (if b then faults r calls.Append d else unless_fails r calls.Commit (puts_part r key bytes d) (gains g r key bytes (puts_part r key bytes d)))
       go true = keeps_faults laws g d r calls.Append known refl k
       go false = keeps_calling laws g (puts_part r key bytes d) r calls.Commit (gains g r key bytes (puts_part r key bytes d)) known refl (keeps_puts g d r key bytes k)
           (λ i. keeps_gains (puts_part r key bytes d) key bytes text fits free (keeps_puts g d r key bytes k))
@@ -85,14 +85,14 @@ module _ (laws : Laws) (g : Given) where
   keeps_round : (d : Driver) → Keeps g d → Keeps g (round g d)
   keeps_round d k = keeps_turns_of (numbers g) (below_len 0 (length g.repos) (length g.repos) (omega arith)) d k
 
-  keeps_goes : (x : Going) → Keeps g x.driver → Keeps g (goes_round g x).driver
+  keeps_goes : (x : AfterRounds) → Keeps g x.driver → Keeps g (goes_round g x).driver
   keeps_goes x k = go (is_settled x)
     where
       go : (b : Bool) → Keeps g (if b then x else came_to x (round g x.driver)).driver
       go true = k
       go false = keeps_round x.driver k
 
-  keeps_rounds : (n : ℕ) (x : Going) → Keeps g x.driver → Keeps g (rounds g n x).driver
+  keeps_rounds : (n : ℕ) (x : AfterRounds) → Keeps g x.driver → Keeps g (rounds g n x).driver
   keeps_rounds zero x k = keeps_goes x k
   keeps_rounds (suc n) x k = go (keeps_rounds n (rounds g n x) (keeps_rounds n x k)) (is_settled x)
     where
@@ -113,7 +113,7 @@ module _ (laws : Laws) (g : Given) where
   abbrev IsAgenda : Agenda → Type 0
   IsAgenda a = (a.repo < length g.repos) × Each (IsBlockLine g a.repo) a.lines
 
-  abbrev KeepsTaken : Taken → Type 0
+  abbrev KeepsTaken : WithAgenda → Type 0
   KeepsTaken x = Keeps g x.driver × IsAgenda x.left
 
   keeps_takes : (r : ℕ) → r < length g.repos → (ls : List BlockLine) (jobs : List ℕ) (d : Driver) → Each (IsBlockLine g r) ls → Keeps g d → KeepsTaken (takes_all g r ls jobs d)
@@ -135,17 +135,17 @@ module _ (laws : Laws) (g : Given) where
       let rest = keeps_each ags (takes g a d).driver all.1 one.0 in
       (rest.0, (one.1, rest.1))
 
-  abbrev KeepsBlocked : Blocked → Type 0
+  abbrev KeepsBlocked : InBlock → Type 0
   KeepsBlocked x = Keeps g x.driver × Each IsAgenda x.left
 
-  keeps_block_round : (x : Blocked) → KeepsBlocked x → KeepsBlocked (block_round g x)
+  keeps_block_round : (x : InBlock) → KeepsBlocked x → KeepsBlocked (block_round g x)
   keeps_block_round x k = go (is_over x)
     where
       go : (b : Bool) → KeepsBlocked (if b then x else with_round g x (takes_each g x.left x.driver))
       go true = k
       go false = let y = keeps_each x.left x.driver k.1 k.0 in (keeps_round (takes_each g x.left x.driver).driver y.0, y.1)
 
-  keeps_block_rounds : (n : ℕ) (x : Blocked) → KeepsBlocked x → KeepsBlocked (block_rounds g n x)
+  keeps_block_rounds : (n : ℕ) (x : InBlock) → KeepsBlocked x → KeepsBlocked (block_rounds g n x)
   keeps_block_rounds zero x k = keeps_block_round x k
   keeps_block_rounds (suc n) x k = go (keeps_block_rounds n (block_rounds g n x) (keeps_block_rounds n x k)) (is_over x)
     where
@@ -167,7 +167,7 @@ module _ (laws : Laws) (g : Given) where
 
   keeps_blocks : (xs : List Agendum) → Each (IsAgendum g) xs → (d : Driver) → Keeps g d → Keeps g (blocks g xs d)
   keeps_blocks xs all d k =
-      let b : Blocked = record { driver = d; left = map (agenda xs) (numbers g); idle = 0; took = true } in
+      let b : InBlock = record { driver = d; left = map (agenda xs) (numbers g); idle = 0; took = true } in
       keeps_settles (block_rounds g most_rounds b).driver (keeps_block_rounds most_rounds b (k, agendas xs all (numbers g) (below_len 0 (length g.repos) (length g.repos) (omega arith)))).0
 
   -- ---- lines
@@ -190,17 +190,18 @@ module _ (laws : Laws) (g : Given) where
   keeps_line keys (Wait milliseconds) d x k = keeps_waits laws g d milliseconds k
   keeps_line keys (Fail r call) d x k = keeps_will_fail g d r call k
   keeps_line keys (Par lines) d x k = keeps_blocks lines x d k
+  keeps_line keys Shows d x k = k
 
   pub keeps_marked : (d : Driver) → Keeps g d → Keeps g (with_mark d)
-  keeps_marked d k fits = let h = k fits in record { run = laws.command (run_with g d) (with_mark d).marks h.run; flies = h.flies; order = h.order; down = h.down; parts = h.parts }
+  keeps_marked d k fits = let h = k fits in record { run = laws.command (run_with g d) (with_mark d).marks h.run; flies = h.flies; order = h.order; down = h.down; apart = h.apart; parts = h.parts }
 
   keeps_drives : OwedKeys → (lines : List Line) (d : Driver) → Each (IsOne g) lines → Keeps g d → Keeps g (drives g lines d)
   keeps_drives keys [] d all k = k
   keeps_drives keys (line ∷ lines) d all k = keeps_drives keys lines (with_mark (does g line d)) all.1 (keeps_marked (does g line d) (keeps_line keys line d all.0 k))
 
   pub first_holds : Each IsSetUp g.repos → IsSound g at_first
-  first_holds repos = record { run = laws.first (run_with g at_first) repos refl; flies = λ r a n. inr (record { inside = omega arith; same = refl }); order = λ r a n. order_begins r a n; down = tt; parts = tt }
+  first_holds repos = record { run = laws.first (run_with g at_first) repos refl; flies = λ r a n. inr (record { inside = omega arith; same = refl }); order = λ r a n. order_begins r a n; down = tt; apart = tt; parts = tt }
 
 -- what the driver makes of a script within bounds is a run
-pub driver_is_run : Laws → OwedKeys → (g : Given) (lines : List Line) → Each IsSetUp g.repos → Each (IsOne g) lines → Fits (driven g lines) → IsRun (run_of g lines)
+pub driver_is_run : Laws → OwedKeys → (g : Given) (lines : List Line) → Each IsSetUp g.repos → Each (IsOne g) lines → Fits (driver_after g lines) → IsRun (run_of g lines)
 driver_is_run laws keys g lines repos all fits = (keeps_drives laws g keys lines at_first all (λ f. first_holds laws g repos) fits).run

@@ -53,7 +53,7 @@ at_one b a c d bodies as' = go (same_end b a) refl
     go false is = subst (Numbered d) (sym (sent_other b a c bodies is)) tt
 
 -- no two of these are the same
-abbrev Apart : List EndName → Type 0
+abbrev pub Apart : List EndName → Type 0
 Apart [] = Unit {0}
 Apart (b ∷ bs) = Each (λ z. same_end z b ≡ false) bs × Apart bs
 
@@ -61,7 +61,7 @@ module _ (ends : EndName → End) (says : EndName → List FrameText) where
   abbrev out : EndName → List FrameView
   out b = frames b (ends b) (says b)
 
-  none_at : (a : EndName) (bs : List EndName) → Each (λ z. same_end z a ≡ false) bs → sent_at a (flat_map out bs) ≡ []
+  pub none_at : (a : EndName) (bs : List EndName) → Each (λ z. same_end z a ≡ false) bs → sent_at a (flat_map out bs) ≡ []
   none_at a [] n = refl
   none_at a (b ∷ bs) n = filter-append (sends_at a) (out b) (flat_map out bs) ∙ rw (sent_other b a (ends b) (says b) n.0, none_at a bs n.1) refl
 
@@ -98,14 +98,14 @@ filter_rising q (x ∷ xs) r = go (filter_rising q xs r.1) (q x)
     go more true = (Each-filter (λ y. x < y) q xs r.0, more)
     go more false = more
 
-others_rising : (s : SetUp) → Rising (others s)
+pub others_rising : (s : SetUp) → Rising (others s)
 others_rising s = filter_rising (λ x. not (x == s.number)) (range_with_len 0 (length s.repos)) (range_rising 0 (length s.repos))
 
 above_other : (x y : ℕ) → x < y → (y == x) ≡ false
 above_other x y i = grind (arith, nat_tests)
 
 -- a job's ends
-jobs_apart : (w : Work) (xs : List ℕ) → Rising xs → Apart (map (job_end w) xs)
+pub jobs_apart : (w : Work) (xs : List ℕ) → Rising xs → Apart (map (job_end w) xs)
 jobs_apart w [] r = tt
 jobs_apart w (x ∷ xs) r = (each xs r.0, jobs_apart w xs r.1)
   where
@@ -166,7 +166,7 @@ ends_apart : (xs : List ℕ) → Rising xs → Apart (flat_map (λ x. map (at x)
 ends_apart [] r = tt
 ends_apart (x ∷ xs) r = apart_append (map (at x) codes) (flat_map (λ y. map (at y) codes) xs) (codes_ends x codes codes_apart) (ends_apart xs r.1) (peer_other x codes xs r.0)
 
-all_apart : (s : SetUp) → Apart (all_ends s)
+pub all_apart : (s : SetUp) → Apart (all_ends s)
 all_apart s = ends_apart (others s) (others_rising s)
 
 -- ---- what a repository sends

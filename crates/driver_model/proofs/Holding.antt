@@ -1,10 +1,11 @@
 -- What holds of the driver as it goes on: its entries are a run, and the frames on their way are those that were sent and not taken.
-use Rattle.std.proofs.Common.{◌≡◌, ℕ, ◌+◌, Bool, true, false, List, [], ◌∷◌, ◌++◌, Option, Some, None, inl, inr, refl, sym, ap, ◌∙◌, subst, arith}
+use Rattle.std.proofs.Common.{◌≡◌, ◌≢◌, ℕ, ◌+◌, Bool, true, false, List, [], ◌∷◌, ◌++◌, Option, Some, None, inl, inr, refl, sym, ap, ◌∙◌, subst, arith}
 use Rattle.std.specs.Prelude.{cond, ◌==◌, length, map, reverse}
 use Rattle.std.proofs.lemmas.Bool.Decides.{nat_tests}
 use Rattle.std.proofs.lemmas.List.{length-reverse, reverse-append, reverse-reverse}
 use Rattle.annex_base.specs.Lists.{Each}
 use Rattle.annex_base.specs.declared.kinds.Word.{Word}
+use Rattle.annex_base.proofs.Conditions.{eqb_refl}
 use Rattle.annex_base.proofs.Lists.{Each-append, Each-map, Each-middle}
 use Rattle.run_data.specs.declared.entry.Entry.{Entry}
 use Rattle.run_data.specs.declared.entry.EntryKind.{EntryKind}
@@ -13,7 +14,7 @@ use Rattle.run_data.specs.declared.entry.FrameView.{FrameView}
 use Rattle.run_data.specs.declared.job.Outcome.{Outcome}
 use Rattle.run_data.specs.declared.run.Run.{Run}
 use Rattle.run_data.specs.declared.run.TreeMark.{TreeMark}
-use Rattle.run_model.specs.Past.{is_of, now}
+use Rattle.run_model.specs.Past.{Occurs, is_of, now}
 use Rattle.node_model.specs.Rows.{option_is}
 use Rattle.node_model.specs.SetUp.{SetUp}
 use Rattle.node_model.specs.Ends.{EndName, is_opening}
@@ -22,7 +23,7 @@ use Rattle.run_model.specs.Run.{ComesAfter, IsRun, MayBe, OwnPart, RunPast, RunS
 use Rattle.run_model.specs.Words.{word_told}
 use Rattle.driver_model.specs.Driver.{Driver, Flight, Given, adds, but_first, but_taken, flight, is_at, newest_count, set_up_of}
 use Rattle.driver_model.specs.Scripts.{Fit, Fits}
-use Rattle.driver_model.specs.Sound.{ComesDown, IsSound}
+use Rattle.driver_model.specs.Sound.{ComesDown, GoesToOther, IsSound}
 use Rattle.driver_model.specs.Ways.{InOrder}
 use Rattle.driver_model.proofs.EndLemmas.{own_down}
 use Rattle.driver_model.proofs.FrameNumbers.{TakesWell}
@@ -135,13 +136,24 @@ module _ (laws : Laws) (g : Given) (d : Driver) (h : IsSound g d) (r : ℕ) (e :
           same_number : (a b : ℕ) → (a == b) ≡ true → a ≡ b
           same_number a b e = grind (arith, nat_tests)
 
+  run_now : Fit d.past e → IsRun (run_on g d.tree d.marks (e ∷ d.past))
+  run_now fit = entry_on laws g d.tree d.marks d.past e h.run (entry_step fit)
+
+  -- it sends to others alone
+  sends_out : Fit d.past e → Each (λ f. f.peer ≢ r) e.sent
+  sends_out fit = laws.others (run_on g d.tree d.marks (e ∷ d.past)) e d.past r (run_now fit)
+      (subst (λ (z : List Entry). Occurs z e d.past) (sym (reverse-reverse (e ∷ d.past))) (inl (refl, refl)))
+      (ap (λ o. option_is o r) x.repo_is ∙ eqb_refl r)
+
   pub adds_holds : (st : State) → Fit d.past e → IsSound g (adds st r e d)
   adds_holds st fit = record {
-    run = entry_on laws g d.tree d.marks d.past e h.run (entry_step fit);
+    run = run_now fit;
     flies = λ q a n. flies_adds laws.finds (set_up_of g d r) d.past x.words e x.own x.repo_is d.flights x.first q a n d st (h.flies q a n);
     order = order_adds;
     down = Each-append ComesDown (but_taken r e.taken d.flights) (map (flight d st r) e.sent) (left_each ComesDown r e.taken d.flights h.down)
         (Each-map ComesDown (flight d st r) e.sent (own_down laws.finds (set_up_of g d r) d.past x.words e x.own));
+    apart = Each-append GoesToOther (but_taken r e.taken d.flights) (map (flight d st r) e.sent) (left_each GoesToOther r e.taken d.flights h.apart)
+        (Each-map GoesToOther (flight d st r) e.sent (sends_out fit));
     parts = h.parts;
   }
 

@@ -23,7 +23,7 @@ use Rattle.run_model.specs.Run.{OwnPart}
 use Rattle.driver_model.proofs.EndLemmas.{end_own, may_epoch, out_sender-is, out_taker-is, own_takes, sends_all, takes_end}
 use Rattle.driver_model.proofs.Premises.{StepsFind}
 use Rattle.driver_model.specs.Driver.{Driver, Flight, but_first, but_taken, end_to, flight, frames_to, is_at, is_old, old_at}
-use Rattle.driver_model.specs.Ways.{Flies, InOrder, Live, Over, Told, flying_on, is_flight, other_end, told, told_sent, views_sent, way_out}
+use Rattle.driver_model.specs.Ways.{Flies, InOrder, Live, Over, NumberedBody, bodies_flying, is_flight, other_end, numbered_body, bodies_sent, views_sent, way_out}
 use Rattle.driver_model.proofs.WayNumbers.{follow_at, sent_more, sent_same_as}
 
 -- ---- ends that are past an epoch
@@ -183,7 +183,7 @@ flies_cleared past st p xs r a n ends (inr l) = go (over_or c n)
 
     go : Over (end_at past a.peer (other_end r a)) n ⊎ (old_by (end_at past a.peer (other_end r a)) n ≡ false) → Flies past (filter (λ x. not (old_at st p x)) xs) r a n
     go (inl o) = inl o
-    go (inr young) = inr (record { inside = l.inside; same = ap (map (λ x. told x.frame)) (filter_within (is_flight r a n) (λ x. not (old_at st p x)) xs keeps) ∙ l.same })
+    go (inr young) = inr (record { inside = l.inside; same = ap (map (λ x. numbered_body x.frame)) (filter_within (is_flight r a n) (λ x. not (old_at st p x)) xs keeps) ∙ l.same })
       where
         keeps : (x : Flight) → is_flight r a n x ≡ true → not (old_at st p x) ≡ true
         keeps x e = at (x.to == p) refl
@@ -261,20 +261,20 @@ module _ (p : ℕ) (f : FrameView) (xs : List Flight) (y : IsFirst p f xs) (r : 
           let at : is_at p f z ≡ true = at_same p f z (here.0 ∙ sym there.0 ∙ to_is) (here.1 ∙ sym there.1 ∙ ap end_to y.frame_is) in
           absurd (let no' : true ≡ false = sym at ∙ none.0 in cc)
 
-  split_on : flying_on r a n xs ≡ flying_on r a n y.front ++ flying_on r a n (y.x ∷ y.back)
-  split_on = ap (flying_on r a n) y.split ∙ ap (map (λ x. told x.frame)) (filter-append (is_flight r a n) y.front (y.x ∷ y.back))
-      ∙ map_append (λ x. told x.frame) (filter (is_flight r a n) y.front) (filter (is_flight r a n) (y.x ∷ y.back))
+  split_on : bodies_flying r a n xs ≡ bodies_flying r a n y.front ++ bodies_flying r a n (y.x ∷ y.back)
+  split_on = ap (bodies_flying r a n) y.split ∙ ap (map (λ x. numbered_body x.frame)) (filter-append (is_flight r a n) y.front (y.x ∷ y.back))
+      ∙ map_append (λ x. numbered_body x.frame) (filter (is_flight r a n) y.front) (filter (is_flight r a n) (y.x ∷ y.back))
 
-  left_on : flying_on r a n (but_taken p (Some f) xs) ≡ flying_on r a n y.front ++ flying_on r a n y.back
-  left_on = ap (λ zs. flying_on r a n (but_first (is_at p f) zs)) y.split ∙ ap (flying_on r a n) (but_split (is_at p f) y.front y.back y.x y.none y.it)
-      ∙ ap (map (λ x. told x.frame)) (filter-append (is_flight r a n) y.front y.back) ∙ map_append (λ x. told x.frame) (filter (is_flight r a n) y.front) (filter (is_flight r a n) y.back)
+  left_on : bodies_flying r a n (but_taken p (Some f) xs) ≡ bodies_flying r a n y.front ++ bodies_flying r a n y.back
+  left_on = ap (λ zs. bodies_flying r a n (but_first (is_at p f) zs)) y.split ∙ ap (bodies_flying r a n) (but_split (is_at p f) y.front y.back y.x y.none y.it)
+      ∙ ap (map (λ x. numbered_body x.frame)) (filter-append (is_flight r a n) y.front y.back) ∙ map_append (λ x. numbered_body x.frame) (filter (is_flight r a n) y.front) (filter (is_flight r a n) y.back)
 
-  pub taken_first : is_flight r a n y.x ≡ true → (flying_on r a n xs ≡ told f ∷ flying_on r a n y.back) × (flying_on r a n (but_taken p (Some f) xs) ≡ flying_on r a n y.back)
+  pub taken_first : is_flight r a n y.x ≡ true → (bodies_flying r a n xs ≡ numbered_body f ∷ bodies_flying r a n y.back) × (bodies_flying r a n (but_taken p (Some f) xs) ≡ bodies_flying r a n y.back)
   taken_first hit =
-      let none : flying_on r a n y.front ≡ [] = ap (map (λ x. told x.frame)) (none_before hit y.front y.none) in
-      (split_on ∙ rw (none, hit) (ap (λ g. told g ∷ flying_on r a n y.back) y.frame_is), left_on ∙ rw none refl)
+      let none : bodies_flying r a n y.front ≡ [] = ap (map (λ x. numbered_body x.frame)) (none_before hit y.front y.none) in
+      (split_on ∙ rw (none, hit) (ap (λ g. numbered_body g ∷ bodies_flying r a n y.back) y.frame_is), left_on ∙ rw none refl)
 
-  taken_else : is_flight r a n y.x ≡ false → flying_on r a n (but_taken p (Some f) xs) ≡ flying_on r a n xs
+  taken_else : is_flight r a n y.x ≡ false → bodies_flying r a n (but_taken p (Some f) xs) ≡ bodies_flying r a n xs
   taken_else miss = left_on ∙ sym (split_on ∙ rw miss refl)
 
 -- ---- one more entry
@@ -298,39 +298,39 @@ module _ (finds : StepsFind) (s : SetUp) (past : List Entry) (words : ℕ → Op
     of_sender = ap (λ k. is_of k e) (out_sender-is r a n) ∙ ap (λ o. option_is o r) mine
 
     -- what is left of the way, once the frame is taken
-    left : Live past xs r a n → (taken_count (e ∷ past) w ≤ length (told_sent past w)) × (flying_on r a n after_take ≡ drop (taken_count (e ∷ past) w) (told_sent past w))
+    left : Live past xs r a n → (taken_count (e ∷ past) w ≤ length (bodies_sent past w)) × (bodies_flying r a n after_take ≡ drop (taken_count (e ∷ past) w) (bodies_sent past w))
     left l = go e.taken refl
       where
         count : (hit : Bool) → (is_of (taker_of w) e && takes w e.taken) ≡ hit → taken_count (e ∷ past) w ≡ (if hit then taken_count past w + 1 else taken_count past w)
         count hit i = rw i refl
 
-        stays : (is_of (taker_of w) e && takes w e.taken) ≡ false → flying_on r a n after_take ≡ flying_on r a n xs → (taken_count (e ∷ past) w ≤ length (told_sent past w)) × (flying_on r a n after_take ≡ drop (taken_count (e ∷ past) w) (told_sent past w))
-        stays i j = let c = count false i in (subst (λ k. k ≤ length (told_sent past w)) (sym c) l.inside, j ∙ l.same ∙ ap (λ k. drop k (told_sent past w)) (sym c))
+        stays : (is_of (taker_of w) e && takes w e.taken) ≡ false → bodies_flying r a n after_take ≡ bodies_flying r a n xs → (taken_count (e ∷ past) w ≤ length (bodies_sent past w)) × (bodies_flying r a n after_take ≡ drop (taken_count (e ∷ past) w) (bodies_sent past w))
+        stays i j = let c = count false i in (subst (λ k. k ≤ length (bodies_sent past w)) (sym c) l.inside, j ∙ l.same ∙ ap (λ k. drop k (bodies_sent past w)) (sym c))
 
         never : (b : Bool) → (b && false) ≡ false
         never true = refl
         never false = refl
 
-        some : (f : FrameView) (i : e.taken ≡ Some f) (y : IsFirst p f xs) (hit : Bool) → is_flight r a n y.x ≡ hit → (taken_count (e ∷ past) w ≤ length (told_sent past w)) × (flying_on r a n after_take ≡ drop (taken_count (e ∷ past) w) (told_sent past w))
+        some : (f : FrameView) (i : e.taken ≡ Some f) (y : IsFirst p f xs) (hit : Bool) → is_flight r a n y.x ≡ hit → (taken_count (e ∷ past) w ≤ length (bodies_sent past w)) × (bodies_flying r a n after_take ≡ drop (taken_count (e ∷ past) w) (bodies_sent past w))
         some f i y hit h = at hit h
           where
             same : (is_of (taker_of w) e && takes w e.taken) ≡ is_flight r a n y.x
             same = ap (λ b. b && takes w e.taken) of_taker ∙ ap (λ o. (p == a.peer) && takes w o) i ∙ ap (λ k. (p == a.peer) && is_on w k f) (out_sender-is r a n)
                 ∙ ap (λ k. (k == a.peer) && is_on w r f) (sym (to_is p f xs y r a n)) ∙ ap (λ g. (y.x.to == a.peer) && is_on w r g) (sym y.frame_is)
 
-            flew : flying_on r a n after_take ≡ flying_on r a n (but_taken p (Some f) xs)
-            flew = ap (λ o. flying_on r a n (but_taken p o xs)) i
+            flew : bodies_flying r a n after_take ≡ bodies_flying r a n (but_taken p (Some f) xs)
+            flew = ap (λ o. bodies_flying r a n (but_taken p o xs)) i
 
-            at : (hit : Bool) → is_flight r a n y.x ≡ hit → (taken_count (e ∷ past) w ≤ length (told_sent past w)) × (flying_on r a n after_take ≡ drop (taken_count (e ∷ past) w) (told_sent past w))
+            at : (hit : Bool) → is_flight r a n y.x ≡ hit → (taken_count (e ∷ past) w ≤ length (bodies_sent past w)) × (bodies_flying r a n after_take ≡ drop (taken_count (e ∷ past) w) (bodies_sent past w))
             at false h = stays (same ∙ h) (flew ∙ taken_else p f xs y r a n h)
             at true h =
                 let c = count true (same ∙ h) in
                 let two = taken_first p f xs y r a n h in
-                let z = drop_first (taken_count past w) (told_sent past w) (told f) (flying_on r a n y.back) (sym two.0 ∙ l.same) in
-                (subst (λ k. k ≤ length (told_sent past w)) (sym c) z.0, flew ∙ two.1 ∙ z.1 ∙ ap (λ k. drop k (told_sent past w)) (sym c))
+                let z = drop_first (taken_count past w) (bodies_sent past w) (numbered_body f) (bodies_flying r a n y.back) (sym two.0 ∙ l.same) in
+                (subst (λ k. k ≤ length (bodies_sent past w)) (sym c) z.0, flew ∙ two.1 ∙ z.1 ∙ ap (λ k. drop k (bodies_sent past w)) (sym c))
 
-        go : (o : Option FrameView) → e.taken ≡ o → (taken_count (e ∷ past) w ≤ length (told_sent past w)) × (flying_on r a n after_take ≡ drop (taken_count (e ∷ past) w) (told_sent past w))
-        go None i = stays (ap (λ o. is_of (taker_of w) e && takes w o) i ∙ never (is_of (taker_of w) e)) (ap (λ o. flying_on r a n (but_taken p o xs)) i)
+        go : (o : Option FrameView) → e.taken ≡ o → (taken_count (e ∷ past) w ≤ length (bodies_sent past w)) × (bodies_flying r a n after_take ≡ drop (taken_count (e ∷ past) w) (bodies_sent past w))
+        go None i = stays (ap (λ o. is_of (taker_of w) e && takes w o) i ∙ never (is_of (taker_of w) e)) (ap (λ o. bodies_flying r a n (but_taken p o xs)) i)
         go (Some f) i = some f i (first f i) (is_flight r a n (first f i).x) refl
 
     -- what it sends there
@@ -347,35 +347,35 @@ module _ (finds : StepsFind) (s : SetUp) (past : List Entry) (words : ℕ → Op
           swap false true z = refl
           swap false false z = refl
 
-      told_new : (gs : List FrameView) → flying_on r a n (map (flight d st p) gs) ≡ (if p == r then map told (filter (is_on w a.peer) gs) else [])
+      told_new : (gs : List FrameView) → bodies_flying r a n (map (flight d st p) gs) ≡ (if p == r then map numbered_body (filter (is_on w a.peer) gs) else [])
       told_new [] = go (p == r)
         where
-          go : (b : Bool) → Path (List Told) [] (if b then [] else [])
+          go : (b : Bool) → Path (List NumberedBody) [] (if b then [] else [])
           go true = refl
           go false = refl
       told_new (g ∷ gs) = go (told_new gs) (p == r) refl (is_on w a.peer g) refl
         where
-          go : flying_on r a n (map (flight d st p) gs) ≡ (if p == r then map told (filter (is_on w a.peer) gs) else []) → (b : Bool) → (p == r) ≡ b → (c : Bool) → is_on w a.peer g ≡ c
-              → flying_on r a n (map (flight d st p) (g ∷ gs)) ≡ (if p == r then map told (filter (is_on w a.peer) (g ∷ gs)) else [])
-          go more true i true j = let hit : is_flight r a n (flight d st p g) ≡ true = on_new g ∙ rw (i, j) refl in rw (hit, i, j) (ap (λ zs. told g ∷ zs) (more ∙ rw i refl))
+          go : bodies_flying r a n (map (flight d st p) gs) ≡ (if p == r then map numbered_body (filter (is_on w a.peer) gs) else []) → (b : Bool) → (p == r) ≡ b → (c : Bool) → is_on w a.peer g ≡ c
+              → bodies_flying r a n (map (flight d st p) (g ∷ gs)) ≡ (if p == r then map numbered_body (filter (is_on w a.peer) (g ∷ gs)) else [])
+          go more true i true j = let hit : is_flight r a n (flight d st p g) ≡ true = on_new g ∙ rw (i, j) refl in rw (hit, i, j) (ap (λ zs. numbered_body g ∷ zs) (more ∙ rw i refl))
           go more true i false j = let miss : is_flight r a n (flight d st p g) ≡ false = on_new g ∙ rw (i, j) refl in rw (miss, i, j) (more ∙ rw i refl)
           go more false i c j = let miss : is_flight r a n (flight d st p g) ≡ false = on_new g ∙ rw i refl in rw (miss, i) (more ∙ rw i refl)
 
-      sent_new : told_sent (e ∷ past) w ≡ told_sent past w ++ flying_on r a n new
+      sent_new : bodies_sent (e ∷ past) w ≡ bodies_sent past w ++ bodies_flying r a n new
       sent_new = go (p == r) refl
         where
-          go : (b : Bool) → (p == r) ≡ b → told_sent (e ∷ past) w ≡ told_sent past w ++ flying_on r a n new
-          go true i = ap (map told) (sent_more e past w (of_sender ∙ i)) ∙ map_append told (views_sent past w) (on_way w e)
-              ∙ ap (λ zs. told_sent past w ++ zs) (ap (λ k. map told (filter (is_on w k) e.sent)) (out_taker-is r a n) ∙ sym (told_new e.sent ∙ rw i refl))
-          go false i = ap (map told) (sent_same_as e past w (of_sender ∙ i)) ∙ sym (append-nil (told_sent past w)) ∙ ap (λ zs. told_sent past w ++ zs) (sym (told_new e.sent ∙ rw i refl))
+          go : (b : Bool) → (p == r) ≡ b → bodies_sent (e ∷ past) w ≡ bodies_sent past w ++ bodies_flying r a n new
+          go true i = ap (map numbered_body) (sent_more e past w (of_sender ∙ i)) ∙ map_append numbered_body (views_sent past w) (on_way w e)
+              ∙ ap (λ zs. bodies_sent past w ++ zs) (ap (λ k. map numbered_body (filter (is_on w k) e.sent)) (out_taker-is r a n) ∙ sym (told_new e.sent ∙ rw i refl))
+          go false i = ap (map numbered_body) (sent_same_as e past w (of_sender ∙ i)) ∙ sym (append-nil (bodies_sent past w)) ∙ ap (λ zs. bodies_sent past w ++ zs) (sym (told_new e.sent ∙ rw i refl))
 
       live_adds : Live past xs r a n → Live (e ∷ past) (after_take ++ new) r a n
       live_adds l =
           let x = left l in
           record {
-            inside = subst (λ zs. taken_count (e ∷ past) w ≤ length zs) (sym sent_new) (longer (taken_count (e ∷ past) w) (length (told_sent past w)) (length (told_sent past w ++ flying_on r a n new)) x.0 (length_more (told_sent past w) (flying_on r a n new)));
-            same = ap (map (λ x. told x.frame)) (filter-append (is_flight r a n) after_take new) ∙ map_append (λ x. told x.frame) (filter (is_flight r a n) after_take) (filter (is_flight r a n) new)
-                ∙ ap (λ zs. zs ++ flying_on r a n new) x.1 ∙ sym (drop_append (taken_count (e ∷ past) w) (told_sent past w) (flying_on r a n new) x.0) ∙ ap (drop (taken_count (e ∷ past) w)) (sym sent_new);
+            inside = subst (λ zs. taken_count (e ∷ past) w ≤ length zs) (sym sent_new) (longer (taken_count (e ∷ past) w) (length (bodies_sent past w)) (length (bodies_sent past w ++ bodies_flying r a n new)) x.0 (length_more (bodies_sent past w) (bodies_flying r a n new)));
+            same = ap (map (λ x. numbered_body x.frame)) (filter-append (is_flight r a n) after_take new) ∙ map_append (λ x. numbered_body x.frame) (filter (is_flight r a n) after_take) (filter (is_flight r a n) new)
+                ∙ ap (λ zs. zs ++ bodies_flying r a n new) x.1 ∙ sym (drop_append (taken_count (e ∷ past) w) (bodies_sent past w) (bodies_flying r a n new) x.0) ∙ ap (drop (taken_count (e ∷ past) w)) (sym sent_new);
           }
         where
           longer : (i j k : ℕ) → i ≤ j → j ≤ k → i ≤ k
@@ -416,11 +416,11 @@ module _ (finds : StepsFind) (s : SetUp) (past : List Entry) (words : ℕ → Op
       it' l =
           let two = taken_first s.number f xs (first f i) f.peer (record { peer = s.number; slot = f.slot; client = f.up }) f.epoch hit in
           let w = way_of s.number f in
-          let z = drop_first (taken_count past w) (told_sent past w) (told f) (flying_on f.peer (record { peer = s.number; slot = f.slot; client = f.up }) f.epoch (first f i).back) (sym two.0 ∙ l.same) in
-          let g = mapped_at told (views_sent past w) (taken_count past w) (told f) z.2 in
+          let z = drop_first (taken_count past w) (bodies_sent past w) (numbered_body f) (bodies_flying f.peer (record { peer = s.number; slot = f.slot; client = f.up }) f.epoch (first f i).back) (sym two.0 ∙ l.same) in
+          let g = mapped_at numbered_body (views_sent past w) (taken_count past w) (numbered_body f) z.2 in
           let x = mapped_at (λ (x : Flying). x.frame) (frames_sent past w) (taken_count past w) g.0 g.1 in
           let seq : g.0.seq ≡ 0 + taken_count past w + 1 = follow_at 0 (taken_count past w) (views_sent past w) g.0 order.follow g.1 in
-          record { it = x.0; next = x.1; seq_is = sym (ap (λ (t : Told). t.seq) g.2) ∙ seq ∙ ap (λ k. k + 1) (none_more (taken_count past w)); body_is = ap (λ (h : FrameView). h.body) x.2 ∙ ap (λ (t : Told). t.body) g.2 }
+          record { it = x.0; next = x.1; seq_is = sym (ap (λ (t : NumberedBody). t.seq) g.2) ∙ seq ∙ ap (λ k. k + 1) (none_more (taken_count past w)); body_is = ap (λ (h : FrameView). h.body) x.2 ∙ ap (λ (t : NumberedBody). t.body) g.2 }
 
       go : Flies past xs f.peer (record { peer = s.number; slot = f.slot; client = f.up }) f.epoch → MayTake past (way_of s.number f) f
       go (inr l) = it' l

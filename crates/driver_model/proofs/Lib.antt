@@ -22,3 +22,6 @@ pub mod Driven
 pub mod Settles
 pub mod Adding
 pub mod TurnsFound
+pub mod FewFrames
+pub mod SmallNumbers
+pub mod KnownJobs

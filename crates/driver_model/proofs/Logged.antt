@@ -52,6 +52,7 @@ use Rattle.run_model.specs.Run.{ComesAnyTime, IsStep, MayBe, OwnPart, RunPast, R
 use Rattle.run_model.specs.States.{owes, state_of}
 use Rattle.driver_model.specs.Driver.{Driver, Given, fails_at, notes}
 use Rattle.driver_model.specs.ScriptSteps.{compacts, compacts_files, faults, is_nil, lines_of, logs, logs_some, logs_status, merges, merges_files, news, shrinks, unknown, wall_of, writes}
+use Rattle.driver_model.specs.Logged.{LogsWell}
 use Rattle.driver_model.specs.Scripts.{Fits}
 use Rattle.driver_model.proofs.Holding.{Keeps, steps_on}
 use Rattle.driver_model.proofs.Premises.{Laws}
@@ -169,11 +170,6 @@ path_there path lines (f ∷ files) all e = go (path_there path lines files all.
     go more true i e = subst PathWell (sym (same_text path f.0 ((Equal-is (text_cmp path f.0)).0 i))) all.0.0
     go more false i e = more e
 
--- what an entry logs is well
-abbrev pub LogsWell : EntryKind → List (List ℕ) → Type 0
-LogsWell (kinds.Log file) lines = HasPath file × (kind_of file ≢ None) × IsLineSet lines
-LogsWell kind lines = Unit {0}
-
 module _ (laws : Laws) where
   file_well : (file : LogFile) → HasPath file → kind_of file ≢ None → PathWell (file_path file)
   file_well file path known = subst (λ (f : LogFile). HasPath f × (kind_of f ≢ None)) (sym (laws.file_again file path known)) (path, known)
@@ -242,6 +238,11 @@ module _ (laws : Laws) (keys : OwedKeys) (repos : List RepoView) (P : ℕ → �
       go : (o : Option ℕ) → TimeIs (now past) e e.kind o → MayBe (set_ups repos P) past e o → LogsWell e.kind e.lines
       go None t m = wait_log (now past) e e.kind e.lines t
       go (Some r) t m = own_log laws (set_ups repos P r) past (keys repos P past run r) m.0 e m.1
+
+  -- each entry of a run
+  pub all_log : (past : List Entry) → RunPast (set_ups repos P) past → Each (λ (e : Entry). LogsWell e.kind e.lines) past
+  all_log [] run = tt
+  all_log (e ∷ past) run = (entry_log past e run.1 run.0, all_log past run.1)
 
   -- the files of all branches are well
   branches_well : (past : List Entry) → RunPast (set_ups repos P) past → (r : ℕ) → Each FileWell (branch past r)

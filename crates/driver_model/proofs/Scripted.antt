@@ -23,10 +23,10 @@ use Rattle.run_model.specs.States.{end_at, works}
 use Rattle.node_model.specs.AnyTime.{IsPeer, MayCome, all_ends, close_at, closes_all, ends_with, is_scripts}
 use Rattle.run_model.specs.Run.{ComesAfter, IsSmall}
 use Rattle.driver_model.specs.Driver.{Driver, Flight, Given, answers, entry, fails_at, newest_count, notes, set_up_of, state_at}
-use Rattle.driver_model.specs.ScriptSteps.{begins, calling, closes, closes_each, closes_end, crashes, enters, faults, sends, waits, will_fail}
+use Rattle.driver_model.specs.ScriptSteps.{begins, unless_fails, closes, closes_each, closes_end, crashes, enters, faults, sends, waits, will_fail}
 use Rattle.driver_model.specs.Scripts.{IsJob}
-use Rattle.driver_model.specs.Sound.{ComesDown, IsSound}
-use Rattle.driver_model.specs.Ways.{Flies, Over, other_end, told, told_sent, way_out}
+use Rattle.driver_model.specs.Sound.{ComesDown, GoesToOther, IsSound}
+use Rattle.driver_model.specs.Ways.{Flies, Over, other_end, numbered_body, bodies_sent, way_out}
 use Rattle.driver_model.proofs.Premises.{Laws}
 use Rattle.driver_model.proofs.WayNumbers.{order_other, sent_same_as}
 use Rattle.driver_model.proofs.Holding.{Keeps, NewEntry, entry_on, keeps_adds, tree_on}
@@ -63,6 +63,7 @@ keeps_notes laws g d r kind lines known may k fits =
       flies = λ q a n. subst (λ xs. Flies (entry d r kind lines ∷ d.past) xs q a n) (append-nil d.flights) (h.flies q a n);
       order = h.order;
       down = subst (Each ComesDown) (append-nil d.flights) h.down;
+      apart = subst (Each GoesToOther) (append-nil d.flights) h.apart;
       parts = h.parts;
     }
 
@@ -71,7 +72,7 @@ keeps_notes laws g d r kind lines known may k fits =
 pub keeps_faults : Laws → (g : Given) (d : Driver) (r : ℕ) (call : Call) → r < length g.repos → is_scripts call ≡ true → Keeps g d → Keeps g (faults r call d)
 keeps_faults laws g d r call known is k = keeps_notes laws g (answers r call d) r (kinds.Fault call Script) [] known (λ h small. (is, refl, refl)) (keeps_answers g d r call k)
 
-pub keeps_calling : Laws → (g : Given) (d : Driver) (r : ℕ) (call : Call) (done : Driver) → r < length g.repos → is_scripts call ≡ true → Keeps g d → (fails_at d r call ≡ false → Keeps g done) → Keeps g (calling r call d done)
+pub keeps_calling : Laws → (g : Given) (d : Driver) (r : ℕ) (call : Call) (done : Driver) → r < length g.repos → is_scripts call ≡ true → Keeps g d → (fails_at d r call ≡ false → Keeps g done) → Keeps g (unless_fails r call d done)
 keeps_calling laws g d r call done known is k more = go (fails_at d r call) refl
   where
     go : (b : Bool) → fails_at d r call ≡ b → Keeps g (if b then faults r call d else done)
@@ -145,15 +146,15 @@ flies_other past xs e none r a n (inl o) = inl (subst (λ (c : End). Over c n) (
     same : end_at (e ∷ past) a.peer (other_end r a) ≡ end_at past a.peer (other_end r a)
     same = rw (none a.peer) refl
 flies_other past xs e none r a n (inr l) = inr (record {
-  inside = subst (λ k. k ≤ length (told_sent (e ∷ past) (way_out r a n))) (sym count) (subst (λ zs. taken_count past (way_out r a n) ≤ length zs) (sym told_same) l.inside);
-  same = l.same ∙ ap (drop (taken_count past (way_out r a n))) (sym told_same) ∙ ap (λ k. drop k (told_sent (e ∷ past) (way_out r a n))) (sym count);
+  inside = subst (λ k. k ≤ length (bodies_sent (e ∷ past) (way_out r a n))) (sym count) (subst (λ zs. taken_count past (way_out r a n) ≤ length zs) (sym told_same) l.inside);
+  same = l.same ∙ ap (drop (taken_count past (way_out r a n))) (sym told_same) ∙ ap (λ k. drop k (bodies_sent (e ∷ past) (way_out r a n))) (sym count);
 })
   where
     count : taken_count (e ∷ past) (way_out r a n) ≡ taken_count past (way_out r a n)
     count = rw (none (taker_of (way_out r a n))) refl
 
-    told_same : told_sent (e ∷ past) (way_out r a n) ≡ told_sent past (way_out r a n)
-    told_same = ap (map told) (sent_same_as e past (way_out r a n) (none (sender_of (way_out r a n))))
+    told_same : bodies_sent (e ∷ past) (way_out r a n) ≡ bodies_sent past (way_out r a n)
+    told_same = ap (map numbered_body) (sent_same_as e past (way_out r a n) (none (sender_of (way_out r a n))))
 
 pub keeps_waits : Laws → (g : Given) (d : Driver) (milliseconds : ℕ) → Keeps g d → Keeps g (waits milliseconds d)
 keeps_waits laws g d ms k fits =
@@ -165,6 +166,7 @@ keeps_waits laws g d ms k fits =
       flies = λ r a n. flies_other d.past d.flights e (λ q. refl) r a n (h.flies r a n);
       order = λ r a n. order_other r a n d.past e refl (h.order r a n);
       down = h.down;
+      apart = h.apart;
       parts = h.parts;
     }
   where
@@ -178,7 +180,7 @@ keeps_waits laws g d ms k fits =
 pub keeps_enters : Laws → (g : Given) (d : Driver) (path key : List ℕ) → Keeps g d → Keeps g (enters path key d)
 keeps_enters laws g d path key k fits =
     let h = k fits in
-    record { run = tree_on laws g d.tree d.marks d.past (record { place = length d.past; path = path; key = key }) refl h.run; flies = h.flies; order = h.order; down = h.down; parts = h.parts }
+    record { run = tree_on laws g d.tree d.marks d.past (record { place = length d.past; path = path; key = key }) refl h.run; flies = h.flies; order = h.order; down = h.down; apart = h.apart; parts = h.parts }
 
 pub keeps_will_fail : (g : Given) (d : Driver) (r : ℕ) (call : Call) → Keeps g d → Keeps g (will_fail r call d)
-keeps_will_fail g d r call k fits = let h = k fits in record { run = h.run; flies = h.flies; order = h.order; down = h.down; parts = h.parts }
+keeps_will_fail g d r call k fits = let h = k fits in record { run = h.run; flies = h.flies; order = h.order; down = h.down; apart = h.apart; parts = h.parts }

@@ -17,7 +17,7 @@ use Rattle.node_model.specs.Step.{step}
 use Rattle.annex_base.proofs.Lists.{find_member}
 use Rattle.driver_model.specs.Driver.{Driver, Given, without_old_flights, drops_part, fails_at, set_up_of, state_at}
 use Rattle.driver_model.specs.Turning.{all_calls, asked_key, bytes_taken, calm_look, fails_in, is_failure, is_valid, look_for, looks, makes, makes_fault, meets, plain_look, store_after, takes_frame, takes_into, turn}
-use Rattle.driver_model.specs.Rounds.{Going, came_to, goes_round, idle_after, is_idle, is_settled, most_rounds, numbers, round, rounds, turns_of}
+use Rattle.driver_model.specs.Rounds.{AfterRounds, came_to, goes_round, idle_after, is_idle, is_settled, most_rounds, numbers, round, rounds, turns_of}
 use Rattle.driver_model.proofs.EndsAlike.{still_steps}
 use Rattle.driver_model.proofs.Settling.{goes, rounds_are, settled_stays}
 
@@ -118,7 +118,7 @@ idle_none g r d same = go (step s' st' (plain_look s' c)) refl same
 
 -- ---- so many rounds need so many entries
 
-low : (x : Going) → is_settled x ≡ false → x.idle ≤ 1
+low : (x : AfterRounds) → is_settled x ≡ false → x.idle ≤ 1
 low x i = grind (arith, nat_tests)
 
 same_number : (a b : ℕ) → (a == b) ≡ true → a ≡ b
@@ -127,20 +127,20 @@ same_number a b h = grind (arith, nat_tests)
 differs : (a b : ℕ) → (a == b) ≡ false → a ≤ b → a < b
 differs a b h i = grind (arith, nat_tests)
 
-unsettled : (g : Given) (k : ℕ) (x : Going) → is_settled (goes g k x) ≡ false → k + x.idle + 2 * many x.driver ≤ 2 * many (goes g k x).driver + (goes g k x).idle
+unsettled : (g : Given) (k : ℕ) (x : AfterRounds) → is_settled (goes g k x) ≡ false → k + x.idle + 2 * many x.driver ≤ 2 * many (goes g k x).driver + (goes g k x).idle
 unsettled g zero x i = omega arith
 unsettled g (suc k) x i = go (unsettled g k) (is_settled x) refl
   where
-    go : ((y : Going) → is_settled (goes g k y) ≡ false → k + y.idle + 2 * many y.driver ≤ 2 * many (goes g k y).driver + (goes g k y).idle)
+    go : ((y : AfterRounds) → is_settled (goes g k y) ≡ false → k + y.idle + 2 * many y.driver ≤ 2 * many (goes g k y).driver + (goes g k y).idle)
         → (b : Bool) → is_settled x ≡ b → suc k + x.idle + 2 * many x.driver ≤ 2 * many (goes g (suc k) x).driver + (goes g (suc k) x).idle
     go more true j = absurd (let no' : true ≡ false = sym (ap is_settled (settled_stays g (suc k) x j) ∙ j) ∙ i in cc)
-    go more false j = subst (λ (y : Going). suc k + x.idle + 2 * many x.driver ≤ 2 * many (goes g k y).driver + (goes g k y).idle) (sym is)
-        (at (is_idle x.driver (round g x.driver)) refl (more (came_to x (round g x.driver)) (subst (λ (y : Going). is_settled (goes g k y) ≡ false) is i)))
+    go more false j = subst (λ (y : AfterRounds). suc k + x.idle + 2 * many x.driver ≤ 2 * many (goes g k y).driver + (goes g k y).idle) (sym is)
+        (at (is_idle x.driver (round g x.driver)) refl (more (came_to x (round g x.driver)) (subst (λ (y : AfterRounds). is_settled (goes g k y) ≡ false) is i)))
       where
         is : goes_round g x ≡ came_to x (round g x.driver)
         is = rw j refl
 
-        e : Going
+        e : AfterRounds
         e = goes g k (came_to x (round g x.driver))
 
         at : (b : Bool) → is_idle x.driver (round g x.driver) ≡ b → k + (idle_after x.driver (round g x.driver) x.idle) + 2 * many (round g x.driver) ≤ 2 * many (goes g k (came_to x (round g x.driver))).driver + (goes g k (came_to x (round g x.driver))).idle
@@ -159,7 +159,7 @@ unsettled g (suc k) x i = go (unsettled g k) (is_settled x) refl
 too_many : (p m n k i : ℕ) → 4194304 ≤ p → n < 2000000 → i ≤ 1 → p + k + 2 * m ≤ 2 * n + i → ⊥
 too_many p m n k i big few l h = omega (arith, big, few, l, h)
 
-bounded : (g : Given) (n : ℕ) (x : Going) → 4194304 ≤ 2 ^ n → length (rounds g n x).driver.past < 2000000 → is_settled (rounds g n x) ≡ true
+bounded : (g : Given) (n : ℕ) (x : AfterRounds) → 4194304 ≤ 2 ^ n → length (rounds g n x).driver.past < 2000000 → is_settled (rounds g n x) ≡ true
 bounded g n x big few = go (is_settled (rounds g n x)) refl
   where
     all : rounds g n x ≡ goes g (2 ^ n) x
@@ -170,9 +170,9 @@ bounded g n x big few = go (is_settled (rounds g n x)) refl
     go false i =
         let j = unsettled g (2 ^ n) x (ap is_settled (sym all) ∙ i) in
         let l = low (rounds g n x) i in
-        let k : 2 ^ n + x.idle + 2 * many x.driver ≤ 2 * many (rounds g n x).driver + (rounds g n x).idle = subst (λ (y : Going). 2 ^ n + x.idle + 2 * many x.driver ≤ 2 * many y.driver + y.idle) (sym all) j in
+        let k : 2 ^ n + x.idle + 2 * many x.driver ≤ 2 * many (rounds g n x).driver + (rounds g n x).idle = subst (λ (y : AfterRounds). 2 ^ n + x.idle + 2 * many x.driver ≤ 2 * many y.driver + y.idle) (sym all) j in
         absurd (too_many (2 ^ n) (many x.driver) (many (rounds g n x).driver) x.idle (rounds g n x).idle big few l k)
 
 -- while there are fewer than two million entries the bound isn't met: the rounds end with two idle ones
-pub bound_not_met : (g : Given) (x : Going) (bound : ℕ) → bound ≡ most_rounds → length (rounds g bound x).driver.past < 2000000 → is_settled (rounds g bound x) ≡ true
+pub bound_not_met : (g : Given) (x : AfterRounds) (bound : ℕ) → bound ≡ most_rounds → length (rounds g bound x).driver.past < 2000000 → is_settled (rounds g bound x) ≡ true
 bound_not_met g x bound e few = bounded g bound x (subst (λ n. 4194304 ≤ 2 ^ n) (sym e) (omega arith)) few

@@ -23,8 +23,8 @@ use Rattle.run_model.specs.Words.{word_told}
 use Rattle.driver_model.proofs.EndLemmas.{takes_end}
 use Rattle.driver_model.proofs.Premises.{Laws}
 use Rattle.driver_model.specs.Scripts.{Fits}
-use Rattle.driver_model.specs.Sound.{ComesDown, IsSound}
-use Rattle.driver_model.specs.Stores.{Stored, bytes_in, is_stored, stored_bytes}
+use Rattle.driver_model.specs.Sound.{ComesDown, GoesToOther, IsSound}
+use Rattle.driver_model.specs.Stores.{StoredBytes, bytes_in, is_stored, stored_bytes}
 use Rattle.driver_model.specs.Driver.{Driver, Given, adds, answers, without_old_flights, commits, drops_part, end_to, fails_at, frames_to, old_at, part_at, puts_part, removes_content, set_up_of, state_at}
 use Rattle.driver_model.specs.Turning.{all_calls, asked_key, bytes_taken, calm_look, fails_in, is_failure, is_valid, is_fault, look_for, looks, makes, makes_fault, meets, part_right, part_size, plain_look, steps, store_after, takes_frame, takes_into, told_words, turn}
 use Rattle.driver_model.proofs.AtHand.{taken_at_hand}
@@ -33,10 +33,10 @@ use Rattle.driver_model.proofs.Holding.{Keeps, NewEntry, keeps_adds}
 
 -- ---- contents and parts
 
-abbrev Small : ℕ → Stored → Type 0
+abbrev Small : ℕ → StoredBytes → Type 0
 Small n x = length x.bytes ≤ n
 
-each_larger : (m n : ℕ) (xs : List Stored) → m ≤ n → Each (Small m) xs → Each (Small n) xs
+each_larger : (m n : ℕ) (xs : List StoredBytes) → m ≤ n → Each (Small m) xs → Each (Small n) xs
 each_larger m n [] i a = tt
 each_larger m n (x ∷ xs) i a = let j = a.0 in (omega (arith, i, j), each_larger m n xs i a.1)
 
@@ -48,16 +48,16 @@ max_second a b = omega arith
 
 module _ (g : Given) (d : Driver) where
   pub keeps_commits : (r : ℕ) (key : List ℕ) → Keeps g d → Keeps g (commits r key d)
-  keeps_commits r key k fits = let h = k fits in record { run = h.run; flies = h.flies; order = h.order; down = h.down; parts = Each-filter (Small d.largest) (λ x. not (is_stored r key x)) d.parts h.parts }
+  keeps_commits r key k fits = let h = k fits in record { run = h.run; flies = h.flies; order = h.order; down = h.down; apart = h.apart; parts = Each-filter (Small d.largest) (λ x. not (is_stored r key x)) d.parts h.parts }
 
   pub keeps_removes : (r : ℕ) (key : List ℕ) → Keeps g d → Keeps g (removes_content r key d)
-  keeps_removes r key k fits = let h = k fits in record { run = h.run; flies = h.flies; order = h.order; down = h.down; parts = h.parts }
+  keeps_removes r key k fits = let h = k fits in record { run = h.run; flies = h.flies; order = h.order; down = h.down; apart = h.apart; parts = h.parts }
 
   pub keeps_drops : (r : ℕ) (key : List ℕ) → Keeps g d → Keeps g (drops_part r key d)
-  keeps_drops r key k fits = let h = k fits in record { run = h.run; flies = h.flies; order = h.order; down = h.down; parts = Each-filter (Small d.largest) (λ x. not (is_stored r key x)) d.parts h.parts }
+  keeps_drops r key k fits = let h = k fits in record { run = h.run; flies = h.flies; order = h.order; down = h.down; apart = h.apart; parts = Each-filter (Small d.largest) (λ x. not (is_stored r key x)) d.parts h.parts }
 
   pub keeps_answers : (r : ℕ) (call : Call) → Keeps g d → Keeps g (answers r call d)
-  keeps_answers r call k fits = let h = k fits in record { run = h.run; flies = h.flies; order = h.order; down = h.down; parts = h.parts }
+  keeps_answers r call k fits = let h = k fits in record { run = h.run; flies = h.flies; order = h.order; down = h.down; apart = h.apart; parts = h.parts }
 
   pub keeps_puts : (r : ℕ) (key bytes : List ℕ) → Keeps g d → Keeps g (puts_part r key bytes d)
   keeps_puts r key bytes k fits =
@@ -69,6 +69,7 @@ module _ (g : Given) (d : Driver) where
         flies = h.flies;
         order = h.order;
         down = h.down;
+        apart = h.apart;
         parts = (max_second d.largest (length bytes), each_larger d.largest (max d.largest (length bytes)) (filter (λ x. not (is_stored r key x)) d.parts) more (Each-filter (Small d.largest) (λ x. not (is_stored r key x)) d.parts h.parts));
       }
 
@@ -80,6 +81,7 @@ module _ (g : Given) (d : Driver) where
         flies = λ q a n. flies_cleared d.past (state_at g d r) r d.flights q a n (λ b. refl) (h.flies q a n);
         order = h.order;
         down = Each-filter ComesDown (λ x. not (old_at (state_at g d r) r x)) d.flights h.down;
+        apart = Each-filter GoesToOther (λ x. not (old_at (state_at g d r) r x)) d.flights h.apart;
         parts = h.parts;
       }
 
@@ -124,7 +126,7 @@ hand_first fs (a ∷ ends) f m = go (hand_first fs ends f) (Member-append_cases 
 
 -- ---- parts are small
 
-part_in : (r : ℕ) (key : List ℕ) (n : ℕ) (xs : List Stored) → Each (Small n) xs → length (stored_bytes xs r key) ≤ n
+part_in : (r : ℕ) (key : List ℕ) (n : ℕ) (xs : List StoredBytes) → Each (Small n) xs → length (stored_bytes xs r key) ≤ n
 part_in r key n [] a = omega arith
 part_in r key n (x ∷ xs) a = go (part_in r key n xs a.1) (is_stored r key x)
   where

@@ -29,7 +29,7 @@ use Rattle.node_model.specs.State.{State}
 use Rattle.node_model.specs.Step.{step}
 use Rattle.node_model.specs.Turns.{awaits, by_partner, goes, goes_on, has_room, is_awaiting, job_step, needs, slot_step, takes_frame, with_partner}
 use Rattle.driver_model.specs.Driver.{Driver, Given, fails_at, set_up_of, state_at}
-use Rattle.driver_model.specs.Finding.{FailsFirst, MakesStep, after_step, calls_before, failed_call, found}
+use Rattle.driver_model.specs.Finding.{FailsFirst, MakesStep, after_step, calls_before, failed_call, driver_at_turn}
 use Rattle.driver_model.specs.Turning.{all_calls, asked_key, calm_look, fails_in, is_fault, looks, makes, makes_fault, meets, part_right, part_size, plain_look, step_key, told_words, turn}
 use Rattle.driver_model.specs.WordsRead.{AgreeWhereRead}
 use Rattle.driver_model.proofs.Alike.{Alike, first_alike, list_alike, other_ready, some_alike}
@@ -208,15 +208,15 @@ look_told g d r s st m = record (calm_look g d r s st m) { fails = failed_call m
 
 -- the step is made at that look
 pub record IsTold (g : Given) (r : ℕ) (d : Driver) (m : Made) : Type 0 where
-  pub steps : step (set_up_of g d r) (state_at g d r) (look_told g (found g r d) r (set_up_of g d r) (state_at g d r) m) ≡ Some m
-  pub fails : FailsFirst (found g r d) r (set_up_of g d r) (state_at g d r) (look_told g (found g r d) r (set_up_of g d r) (state_at g d r) m) (failed_call m.kind)
+  pub steps : step (set_up_of g d r) (state_at g d r) (look_told g (driver_at_turn g r d) r (set_up_of g d r) (state_at g d r) m) ≡ Some m
+  pub fails : FailsFirst (driver_at_turn g r d) r (set_up_of g d r) (state_at g d r) (look_told g (driver_at_turn g r d) r (set_up_of g d r) (state_at g d r) m) (failed_call m.kind)
 
 -- what the turn wants of the step that a plain look finds, where this is made
 pub record IsPlain (g : Given) (r : ℕ) (d : Driver) (m m0 : Made) : Type 0 where
-  pub plain : step (set_up_of g d r) (state_at g d r) (plain_look (set_up_of g d r) (found g r d)) ≡ Some m0
-  pub faults : (call : Call) → makes_fault (step (set_up_of g d r) (state_at g d r) (record (calm_look g (found g r d) r (set_up_of g d r) (state_at g d r) m0) { fails = Some call }))
-      ≡ meets (set_up_of g d r) (state_at g d r) (look_told g (found g r d) r (set_up_of g d r) (state_at g d r) m) call
-  pub makes_it : step (set_up_of g d r) (state_at g d r) (record (calm_look g (found g r d) r (set_up_of g d r) (state_at g d r) m0) { fails = failed_call m.kind }) ≡ Some m
+  pub plain : step (set_up_of g d r) (state_at g d r) (plain_look (set_up_of g d r) (driver_at_turn g r d)) ≡ Some m0
+  pub faults : (call : Call) → makes_fault (step (set_up_of g d r) (state_at g d r) (record (calm_look g (driver_at_turn g r d) r (set_up_of g d r) (state_at g d r) m0) { fails = Some call }))
+      ≡ meets (set_up_of g d r) (state_at g d r) (look_told g (driver_at_turn g r d) r (set_up_of g d r) (state_at g d r) m) call
+  pub makes_it : step (set_up_of g d r) (state_at g d r) (record (calm_look g (driver_at_turn g r d) r (set_up_of g d r) (state_at g d r) m0) { fails = failed_call m.kind }) ≡ Some m
 
 is_failed : (kind : EntryKind) (call : Call) → failed_call kind ≡ Some call → is_fault kind ≡ true
 is_failed (Fault c by) call e = refl
@@ -237,7 +237,7 @@ module _ (g : Given) (r : ℕ) (d : Driver) (m : Made) (x : IsTold g r d m) wher
   st = state_at g d r
 
   abbrev c : Driver
-  c = found g r d
+  c = driver_at_turn g r d
 
   abbrev told : Look
   told = look_told g c r s st m
@@ -338,7 +338,7 @@ look_path k l time count hand room fails part right i =
 
 module _ (g : Given) (r : ℕ) (d : Driver) (m : Made) (x : MakesStep g r d m) where
   abbrev own : Look
-  own = look_told g (found g r d) r (set_up_of g d r) (state_at g d r) m
+  own = look_told g (driver_at_turn g r d) r (set_up_of g d r) (state_at g d r) m
 
   -- the driver's own look, but with the words that were found
   abbrev near : Look
@@ -361,8 +361,8 @@ module _ (g : Given) (r : ℕ) (d : Driver) (m : Made) (x : MakesStep g r d m) w
     steps = sym (words_aside (set_up_of g d r) (state_at g d r) near own.words (λ m' i. subst (λ (z : Made). AgreeWhereRead (set_up_of g d r) (state_at g d r) z x.look.words own.words) (made_same m' i) x.is_look.words_are)) ∙ near_steps;
     fails = record {
       waits = x.fails.waits;
-      before = Each-weaker (λ call. fails_at (found g r d) r call ≡ true → meets (set_up_of g d r) (state_at g d r) x.look call ≡ false)
-          (λ call. fails_at (found g r d) r call ≡ true → meets (set_up_of g d r) (state_at g d r) own call ≡ false)
+      before = Each-weaker (λ call. fails_at (driver_at_turn g r d) r call ≡ true → meets (set_up_of g d r) (state_at g d r) x.look call ≡ false)
+          (λ call. fails_at (driver_at_turn g r d) r call ≡ true → meets (set_up_of g d r) (state_at g d r) own call ≡ false)
           (λ call h waits. sym (met_same call) ∙ h waits) (calls_before (failed_call m.kind) all_calls) x.fails.before;
     };
   }
@@ -374,5 +374,5 @@ module _ (g : Given) (r : ℕ) (d : Driver) (m : Made) (x : MakesStep g r d m) w
   turn_found = turn_told g r d m is_told
 
 -- where no step is ready
-pub turn_idle : (g : Given) (r : ℕ) (d : Driver) → step (set_up_of g d r) (state_at g d r) (plain_look (set_up_of g d r) (found g r d)) ≡ None → turn g r d ≡ found g r d
-turn_idle g r d e = ap (λ (o : Option Made). looks g r (set_up_of g d r) (state_at g d r) o (found g r d)) e
+pub turn_idle : (g : Given) (r : ℕ) (d : Driver) → step (set_up_of g d r) (state_at g d r) (plain_look (set_up_of g d r) (driver_at_turn g r d)) ≡ None → turn g r d ≡ driver_at_turn g r d
+turn_idle g r d e = ap (λ (o : Option Made). looks g r (set_up_of g d r) (state_at g d r) o (driver_at_turn g r d)) e

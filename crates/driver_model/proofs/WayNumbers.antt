@@ -14,7 +14,7 @@ use Rattle.node_model.specs.SetUp.{SetUp}
 use Rattle.node_model.specs.Ends.{End, EndName, end_sends, end_takes, end_took, is_opening, may_take, sent_at, taken_at, takes_at}
 use Rattle.run_model.specs.States.{end_at}
 use Rattle.run_model.specs.Run.{OwnPart}
-use Rattle.driver_model.specs.Ways.{Counted, Follow, InOrder, views_sent, way_out}
+use Rattle.driver_model.specs.Ways.{HasCounted, Follow, InOrder, views_sent, way_out}
 use Rattle.driver_model.proofs.EndLemmas.{end_own, on_out, out_sender-is, own_takes, sends_all, takes_end}
 use Rattle.driver_model.proofs.Premises.{StepsFind}
 use Rattle.driver_model.proofs.FrameNumbers.{Numbered, TakesWell, numbered, took_like}
@@ -33,7 +33,7 @@ follow_at k (suc i) (x ∷ gs) g a e = let j = follow_at (k + 1) i gs g a.1 e in
 
 -- ---- one frame is sent
 
-same_epoch : (c : End) (body : FrameText) (n len : ℕ) → Counted c n len → (end_sends c body).epoch ≡ n → ((end_sends c body).sent ≡ len + 1) × Counted (end_sends c body) n (len + 1)
+same_epoch : (c : End) (body : FrameText) (n len : ℕ) → HasCounted c n len → (end_sends c body).epoch ≡ n → ((end_sends c body).sent ≡ len + 1) × HasCounted (end_sends c body) n (len + 1)
 same_epoch c Opening n len x e =
     let z : len ≡ 0 = x.not_yet (omega (arith, e)) in
     (omega (arith, z), record { not_yet = λ i. omega (arith, i, e); at_it = λ i. omega (arith, z) })
@@ -41,7 +41,7 @@ same_epoch c Closing n len x e = let z : len ≡ c.sent = x.at_it e in (omega (a
 same_epoch c (Bytes k) n len x e = let z : len ≡ c.sent = x.at_it e in (omega (arith, z), record { not_yet = λ i. omega (arith, i, e); at_it = λ i. omega (arith, z) })
 same_epoch c (Line text) n len x e = let z : len ≡ c.sent = x.at_it e in (omega (arith, z), record { not_yet = λ i. omega (arith, i, e); at_it = λ i. omega (arith, z) })
 
-other_epoch : (c : End) (body : FrameText) (n len : ℕ) → Counted c n len → ((end_sends c body).epoch ≡ n → ⊥) → Counted (end_sends c body) n len
+other_epoch : (c : End) (body : FrameText) (n len : ℕ) → HasCounted c n len → ((end_sends c body).epoch ≡ n → ⊥) → HasCounted (end_sends c body) n len
 other_epoch c Opening n len x other = record { not_yet = λ i. x.not_yet (omega (arith, i)); at_it = λ i. absurd (other i) }
 other_epoch c Closing n len x other = record { not_yet = λ i. x.not_yet i; at_it = λ i. absurd (other i) }
 other_epoch c (Bytes k) n len x other = record { not_yet = λ i. x.not_yet i; at_it = λ i. absurd (other i) }
@@ -57,28 +57,28 @@ abbrev of_epoch : ℕ → List FrameView → List FrameView
 of_epoch n fs = filter (λ g. g.epoch == n) fs
 
 -- all frames of an entry
-all_follow : (c : End) (fs : List FrameView) (n len : ℕ) → Numbered c fs → Counted c n len → Follow len (of_epoch n fs) × Counted (sends_all c fs) n (len + length (of_epoch n fs))
-all_follow c [] n len a x = (tt, subst (Counted c n) (omega arith) x)
+all_follow : (c : End) (fs : List FrameView) (n len : ℕ) → Numbered c fs → HasCounted c n len → Follow len (of_epoch n fs) × HasCounted (sends_all c fs) n (len + length (of_epoch n fs))
+all_follow c [] n len a x = (tt, subst (HasCounted c n) (omega arith) x)
 all_follow c (f ∷ fs) n len a x = go (all_follow (end_sends c f.body) fs n) (f.epoch == n) refl
   where
     d : End
     d = end_sends c f.body
 
-    go : ((k : ℕ) → Numbered (end_sends c f.body) fs → Counted (end_sends c f.body) n k → Follow k (of_epoch n fs) × Counted (sends_all (end_sends c f.body) fs) n (k + length (of_epoch n fs)))
-        → (b : Bool) → (f.epoch == n) ≡ b → Follow len (cond b (f ∷ of_epoch n fs) (of_epoch n fs)) × Counted (sends_all (end_sends c f.body) fs) n (len + length (cond b (f ∷ of_epoch n fs) (of_epoch n fs)))
+    go : ((k : ℕ) → Numbered (end_sends c f.body) fs → HasCounted (end_sends c f.body) n k → Follow k (of_epoch n fs) × HasCounted (sends_all (end_sends c f.body) fs) n (k + length (of_epoch n fs)))
+        → (b : Bool) → (f.epoch == n) ≡ b → Follow len (cond b (f ∷ of_epoch n fs) (of_epoch n fs)) × HasCounted (sends_all (end_sends c f.body) fs) n (len + length (cond b (f ∷ of_epoch n fs) (of_epoch n fs)))
     go more true is =
         let at : (end_sends c f.body).epoch ≡ n = sym a.0 ∙ same_number f.epoch n is in
         let one = same_epoch c f.body n len x at in
         let rest = more (len + 1) a.2 one.1 in
-        ((a.1 ∙ one.0, rest.0), subst (Counted (sends_all (end_sends c f.body) fs) n) (omega arith) rest.1)
+        ((a.1 ∙ one.0, rest.0), subst (HasCounted (sends_all (end_sends c f.body) fs) n) (omega arith) rest.1)
     go more false is = more len a.2 (other_epoch c f.body n len x (λ e. other_number f.epoch n is (a.0 ∙ e)))
 
 -- ---- one frame is taken
 
-counted_takes : (c : End) (f : FrameView) (n len : ℕ) → may_take c f ≡ true → Counted c n len → Counted (end_takes c f.epoch f.body) n len
+counted_takes : (c : End) (f : FrameView) (n len : ℕ) → may_take c f ≡ true → HasCounted c n len → HasCounted (end_takes c f.epoch f.body) n len
 counted_takes c f n len may x = go (is_opening f.body) refl
   where
-    opens : (body : FrameText) → is_opening body ≡ true → (if is_opening body then not c.opened && nat_lt c.epoch f.epoch else c.opened && (f.epoch == c.epoch)) ≡ true → Counted (end_takes c f.epoch body) n len
+    opens : (body : FrameText) → is_opening body ≡ true → (if is_opening body then not c.opened && nat_lt c.epoch f.epoch else c.opened && (f.epoch == c.epoch)) ≡ true → HasCounted (end_takes c f.epoch body) n len
     opens Opening i m =
         let l : nat_lt c.epoch f.epoch ≡ true = (and_parts (not c.opened) (nat_lt c.epoch f.epoch) m).1 in
         let later : c.epoch < f.epoch = grind (arith, nat_tests) in
@@ -87,7 +87,7 @@ counted_takes c f n len may x = go (is_opening f.body) refl
     opens (Bytes k) i m = absurd (cc)
     opens (Line text) i m = absurd (cc)
 
-    go : (b : Bool) → is_opening f.body ≡ b → Counted (end_takes c f.epoch f.body) n len
+    go : (b : Bool) → is_opening f.body ≡ b → HasCounted (end_takes c f.epoch f.body) n len
     go true i = opens f.body i may
     go false i = let y = took_like c f i in record { not_yet = λ j. x.not_yet (subst (λ k. k < n) (sym y.0) j); at_it = λ j. x.at_it (y.0 ∙ j) ∙ y.1 }
 
@@ -117,7 +117,7 @@ order_begins r a n = record { counted = record { not_yet = λ i. refl; at_it = �
 
 pub order_other : (r : ℕ) (a : EndName) (n : ℕ) (past : List Entry) (e : Entry) → is_of r e ≡ false → InOrder past r a n → InOrder (e ∷ past) r a n
 order_other r a n past e is x = record {
-  counted = subst (λ gs. Counted (end_at (e ∷ past) r a) n (length gs)) (sym same) (subst (λ (c : End). Counted c n (length (views_sent past (way_out r a n)))) (sym end_same) x.counted);
+  counted = subst (λ gs. HasCounted (end_at (e ∷ past) r a) n (length gs)) (sym same) (subst (λ (c : End). HasCounted c n (length (views_sent past (way_out r a n)))) (sym end_same) x.counted);
   follow = subst (Follow 0) (sym same) x.follow;
 }
   where
@@ -130,7 +130,7 @@ order_other r a n past e is x = record {
 pub order_own : StepsFind → (s : SetUp) (a : EndName) (n : ℕ) (past : List Entry) (words : ℕ → Option Word) (e : Entry) → is_of s.number e ≡ true → OwnPart s past words e → TakesWell e.taken
     → InOrder past s.number a n → InOrder (e ∷ past) s.number a n
 order_own finds s a n past words e is own well x = record {
-  counted = subst (λ (c : End). Counted c n (length (views_sent (e ∷ past) w))) (sym (end_own s.number past a e is)) (subst (Counted (sends_all mid (sent_at a e.sent)) n) (sym count) (all_follow mid (sent_at a e.sent) n len num took).1);
+  counted = subst (λ (c : End). HasCounted c n (length (views_sent (e ∷ past) w))) (sym (end_own s.number past a e is)) (subst (HasCounted (sends_all mid (sent_at a e.sent)) n) (sym count) (all_follow mid (sent_at a e.sent) n len num took).1);
   follow = subst (Follow 0) (sym more) (follow_append 0 (views_sent past w) (of_epoch n (sent_at a e.sent)) x.follow (from_none len (of_epoch n (sent_at a e.sent)) (all_follow mid (sent_at a e.sent) n len num took).0));
 }
   where
@@ -155,14 +155,14 @@ order_own finds s a n past words e is own well x = record {
     count : length (views_sent (e ∷ past) (way_out s.number a n)) ≡ length (views_sent past (way_out s.number a n)) + length (of_epoch n (sent_at a e.sent))
     count = ap length more ∙ length_append (views_sent past (way_out s.number a n)) (of_epoch n (sent_at a e.sent))
 
-    took : Counted (end_took (end_at past s.number a) (taken_at a e.taken)) n (length (views_sent past (way_out s.number a n)))
+    took : HasCounted (end_took (end_at past s.number a) (taken_at a e.taken)) n (length (views_sent past (way_out s.number a n)))
     took = go e.taken refl
       where
-        at : (f : FrameView) → e.taken ≡ Some f → (b : Bool) → takes_at a f ≡ b → Counted (end_took (end_at past s.number a) (if b then Some f else None)) n (length (views_sent past (way_out s.number a n)))
+        at : (f : FrameView) → e.taken ≡ Some f → (b : Bool) → takes_at a f ≡ b → HasCounted (end_took (end_at past s.number a) (if b then Some f else None)) n (length (views_sent past (way_out s.number a n)))
         at f i false t = x.counted
         at f i true t = counted_takes (end_at past s.number a) f n (length (views_sent past (way_out s.number a n)))
             (ap (λ (z : EndName). may_take (end_at past s.number z) f) (sym (takes_end a f t)) ∙ own_takes finds s past words e f own i) x.counted
 
-        go : (o : Option FrameView) → e.taken ≡ o → Counted (end_took (end_at past s.number a) (taken_at a e.taken)) n (length (views_sent past (way_out s.number a n)))
-        go None i = subst (λ (o : Option FrameView). Counted (end_took (end_at past s.number a) (taken_at a o)) n (length (views_sent past (way_out s.number a n)))) (sym i) x.counted
-        go (Some f) i = subst (λ (o : Option FrameView). Counted (end_took (end_at past s.number a) (taken_at a o)) n (length (views_sent past (way_out s.number a n)))) (sym i) (at f i (takes_at a f) refl)
+        go : (o : Option FrameView) → e.taken ≡ o → HasCounted (end_took (end_at past s.number a) (taken_at a e.taken)) n (length (views_sent past (way_out s.number a n)))
+        go None i = subst (λ (o : Option FrameView). HasCounted (end_took (end_at past s.number a) (taken_at a o)) n (length (views_sent past (way_out s.number a n)))) (sym i) x.counted
+        go (Some f) i = subst (λ (o : Option FrameView). HasCounted (end_took (end_at past s.number a) (taken_at a o)) n (length (views_sent past (way_out s.number a n)))) (sym i) (at f i (takes_at a f) refl)

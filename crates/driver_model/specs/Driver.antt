@@ -19,7 +19,7 @@ use Rattle.annex_base.specs.Calls.{same_call}
 use Rattle.node_model.specs.State.{State}
 use Rattle.run_model.specs.States.{state_of}
 use Rattle.run_model.specs.Run.{paths_at}
-use Rattle.driver_model.specs.Stores.{Stored, stored_bytes, with_bytes, without}
+use Rattle.driver_model.specs.Stores.{StoredBytes, stored_bytes, with_bytes, without}
 
 -- what a script is driven on: its repositories, and whether bytes match a key
 pub record Given : Type 0 where
@@ -27,7 +27,7 @@ pub record Given : Type 0 where
   pub matches : List ℕ → List ℕ → Bool
 
 -- a `fail` line that waits
-pub record Failing : Type 0 where
+pub record FailLine : Type 0 where
   pub repo : ℕ
   pub call : Call
 
@@ -41,9 +41,9 @@ pub record Flight : Type 0 where
 pub record Driver : Type 0 where
   pub past : List Entry
   pub flights : List Flight
-  pub fails : List Failing
-  pub contents : List Stored
-  pub parts : List Stored
+  pub fails : List FailLine
+  pub contents : List StoredBytes
+  pub parts : List StoredBytes
   pub largest : ℕ  -- the size of the greatest part so far
   pub tree : List TreeMark
   pub marks : List ℕ
@@ -164,7 +164,7 @@ notes r kind lines d = record d { past = entry d r kind lines ∷ d.past }
 
 -- ---- store calls that fail
 
-abbrev pub is_failing : ℕ → Call → Failing → Bool
+abbrev pub is_failing : ℕ → Call → FailLine → Bool
 is_failing r call x = (x.repo == r) && same_call x.call call
 
 -- a `fail` line waits for the call

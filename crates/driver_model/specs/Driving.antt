@@ -1,7 +1,7 @@
 -- The sequential driver (the project's own): the run that it makes of a script, line by line.
 use Rattle.std.specs.Prelude.{ℕ, zero, suc, List, [], ◌∷◌, ◌++◌, length, reverse}
 use Rattle.run_data.specs.declared.run.Run.{Run}
-use Rattle.driver_model.specs.Lines.{Line, Have, SetPart, Add, File, Set, Raw, Merge, Compact, Begin, Turns, Settle, Close, Crash, Wait, Fail, Par}
+use Rattle.driver_model.specs.Lines.{Line, Have, SetPart, Add, File, Set, Raw, Merge, Compact, Begin, Turns, Settle, Close, Crash, Wait, Fail, Par, Shows}
 use Rattle.driver_model.specs.Lines
 use Rattle.driver_model.specs.Driver.{Driver, Given, at_first}
 use Rattle.driver_model.specs.ScriptSteps.{begins, closes, compacts, crashes, enters, has, merges, sets, sets_part, waits, will_fail, writes}
@@ -31,6 +31,7 @@ does g (Crash r clock) d = crashes g r clock d
 does g (Wait milliseconds) d = waits milliseconds d
 does g (Fail r call) d = will_fail r call d
 does g (Par lines) d = blocks g lines d
+does g Shows d = d
 
 -- the line is done
 abbrev pub with_mark : Driver → Driver
@@ -41,12 +42,12 @@ abbrev pub drives : Given → List Line → Driver → Driver
 drives g [] d = d
 drives g (line ∷ lines) d = drives g lines (with_mark (does g line d))
 
-abbrev pub driven : Given → List Line → Driver
-driven g lines = drives g lines at_first
+abbrev pub driver_after : Given → List Line → Driver
+driver_after g lines = drives g lines at_first
 
 abbrev pub run_with : Given → Driver → Run
 run_with g d = record { repos = g.repos; entries = reverse d.past; tree = d.tree; marks = d.marks }
 
 -- the run of a script
 abbrev pub run_of : Given → List Line → Run
-run_of g lines = run_with g (driven g lines)
+run_of g lines = run_with g (driver_after g lines)

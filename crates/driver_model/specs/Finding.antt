@@ -16,8 +16,8 @@ use Rattle.driver_model.specs.Turning.{all_calls, asked_key, at_hand, bytes_take
 use Rattle.driver_model.specs.WordsRead.{AgreeWhereRead}
 
 -- the driver as a turn of r finds it
-abbrev pub found : Given → ℕ → Driver → Driver
-found g r d = without_old_flights (state_at g d r) r d
+abbrev pub driver_at_turn : Given → ℕ → Driver → Driver
+driver_at_turn g r d = without_old_flights (state_at g d r) r d
 
 -- the store call that an entry of this kind tells as failed
 abbrev pub failed_call : EntryKind → Option Call
@@ -51,12 +51,12 @@ pub record FailsFirst (d : Driver) (r : ℕ) (s : SetUp) (st : State) (k : Look)
 -- r makes this step at the driver's look for it, and the call that fails in it is the first that is to fail
 pub record MakesStep (g : Given) (r : ℕ) (d : Driver) (m : Made) : Type 0 where
   pub look : Look
-  pub is_look : IsLookFor g (found g r d) r (set_up_of g d r) (state_at g d r) m look
+  pub is_look : IsLookFor g (driver_at_turn g r d) r (set_up_of g d r) (state_at g d r) m look
   pub steps : step (set_up_of g d r) (state_at g d r) look ≡ Some m
-  pub fails : FailsFirst (found g r d) r (set_up_of g d r) (state_at g d r) look (failed_call m.kind)
+  pub fails : FailsFirst (driver_at_turn g r d) r (set_up_of g d r) (state_at g d r) look (failed_call m.kind)
 
 -- the driver after this step of r: its entry stands, its frames are taken and sent, and the store is as it leaves it
 abbrev pub after_step : Given → ℕ → Driver → Made → Driver
 after_step g r d m =
-    store_after (state_at g d r) r m (bytes_taken r m.taken (found g r d)) m.kind
-    (adds (state_at g d r) r (entry_of r (plain_look (set_up_of g d r) (found g r d)) m) (found g r d))
+    store_after (state_at g d r) r m (bytes_taken r m.taken (driver_at_turn g r d)) m.kind
+    (adds (state_at g d r) r (entry_of r (plain_look (set_up_of g d r) (driver_at_turn g r d)) m) (driver_at_turn g r d))

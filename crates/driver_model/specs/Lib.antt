@@ -7,6 +7,7 @@ pub mod Turning
 pub mod Rounds
 pub mod Driving
 pub mod Scripts
+pub mod Logged
 pub mod Ways
 pub mod Sound
 pub mod WordsRead

@@ -1,5 +1,4 @@
--- The lines of a script (the project's own), but for those that declare repositories, show something or sync, `damage`, and the
--- numbers of copies by path.
+-- The lines of a script (the project's own), but for those that sync, `damage`, and the numbers of copies by path.
 use Rattle.std.specs.Prelude.{ℕ, List}
 use Rattle.annex_base.specs.declared.kinds.Call.{Call}
 use Rattle.log_lines.specs.declared.entry.LogKind.{LogKind}
@@ -20,7 +19,8 @@ pub record Agendum : Type 0 where
   pub repo : ℕ
   pub line : BlockLine
 
--- The first number is the repository. A settings line says what it sets of which topic; a `log` line has its raw line.
+-- The first number is the repository. A settings line says what it sets of which topic; a `log` line has its raw line. A line that
+-- declares a repository or shows something does nothing.
 pub data Line : Type 0 where
   Have : (r : ℕ) (key bytes : List ℕ) → Line
   SetPart : (r : ℕ) (key bytes : List ℕ) → Line
@@ -39,3 +39,9 @@ pub data Line : Type 0 where
   Wait : (milliseconds : ℕ) → Line
   Fail : (r : ℕ) → Call → Line
   Par : List Agendum → Line
+  Shows : Line
+
+-- the milliseconds that the line waits
+abbrev pub waited_by : Line → ℕ
+waited_by (Wait milliseconds) = milliseconds
+waited_by line = 0

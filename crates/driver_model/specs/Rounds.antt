@@ -24,24 +24,24 @@ abbrev pub is_idle : Driver → Driver → Bool
 is_idle before after = length before.past == length after.past
 
 -- the driver, and how many rounds after each other were idle
-pub record Going : Type 0 where
+pub record AfterRounds : Type 0 where
   pub driver : Driver
   pub idle : ℕ
 
-abbrev pub is_settled : Going → Bool
+abbrev pub is_settled : AfterRounds → Bool
 is_settled x = nat_le 2 x.idle
 
 abbrev pub idle_after : Driver → Driver → ℕ → ℕ
 idle_after before after idle = if is_idle before after then idle + 1 else 0
 
-abbrev pub came_to : Going → Driver → Going
+abbrev pub came_to : AfterRounds → Driver → AfterRounds
 came_to x d = record { driver = d; idle = idle_after x.driver d x.idle }
 
-abbrev pub goes_round : Given → Going → Going
+abbrev pub goes_round : Given → AfterRounds → AfterRounds
 goes_round g x = if is_settled x then x else came_to x (round g x.driver)
 
 -- rounds until two after each other are idle, at most two to this power
-abbrev pub rounds : Given → ℕ → Going → Going
+abbrev pub rounds : Given → ℕ → AfterRounds → AfterRounds
 rounds g zero x = goes_round g x
 rounds g (suc n) x = if is_settled x then x else rounds g n (rounds g n x)
 
@@ -76,12 +76,12 @@ abbrev pub may_begin : Driver → ℕ → List ℕ → Bool
 may_begin d r jobs = not (some_runs d r jobs) && nat_lt (length (works d.past r)) 4
 
 -- the driver, and what is left of an agenda
-pub record Taken : Type 0 where
+pub record WithAgenda : Type 0 where
   pub driver : Driver
   pub left : Agenda
 
 -- a repository takes from its agenda all that it can
-abbrev pub takes_all : Given → ℕ → List BlockLine → List ℕ → Driver → Taken
+abbrev pub takes_all : Given → ℕ → List BlockLine → List ℕ → Driver → WithAgenda
 takes_all g r [] jobs d = record { driver = d; left = record { repo = r; lines = []; jobs = jobs } }
 takes_all g r (Runs job ∷ lines) jobs d =
     if may_begin d r jobs then takes_all g r lines ((begun_count d.past r + 1) ∷ jobs) (begins r job d)
@@ -90,7 +90,7 @@ takes_all g r (Crashes clock ∷ lines) jobs d = takes_all g r lines jobs (crash
 takes_all g r (Closes other ∷ lines) jobs d = takes_all g r lines jobs (closes g r other d)
 takes_all g r (Fails call ∷ lines) jobs d = takes_all g r lines jobs (will_fail r call d)
 
-abbrev pub takes : Given → Agenda → Driver → Taken
+abbrev pub takes : Given → Agenda → Driver → WithAgenda
 takes g a d = takes_all g a.repo a.lines a.jobs d
 
 -- the driver, and what is left of all agendas
@@ -110,27 +110,27 @@ abbrev pub lines_in : List Agenda → ℕ
 lines_in ags = length (flat_map (λ a. a.lines) ags)
 
 -- the driver within a block: how many rounds after each other were idle, and whether something was taken before the last
-pub record Blocked : Type 0 where
+pub record InBlock : Type 0 where
   pub driver : Driver
   pub left : List Agenda
   pub idle : ℕ
   pub took : Bool
 
-abbrev pub is_over : Blocked → Bool
+abbrev pub is_over : InBlock → Bool
 is_over x = nat_le 2 x.idle && not x.took
 
 -- after this was taken, and the round behind it came to this
-abbrev pub block_at : Blocked → Block → Driver → Blocked
+abbrev pub block_at : InBlock → Block → Driver → InBlock
 block_at x b d = record { driver = d; left = b.left; idle = idle_after b.driver d x.idle; took = not (lines_in x.left == lines_in b.left) }
 
-abbrev pub with_round : Given → Blocked → Block → Blocked
+abbrev pub with_round : Given → InBlock → Block → InBlock
 with_round g x b = block_at x b (round g b.driver)
 
-abbrev pub block_round : Given → Blocked → Blocked
+abbrev pub block_round : Given → InBlock → InBlock
 block_round g x = if is_over x then x else with_round g x (takes_each g x.left x.driver)
 
 -- rounds, before each of which agendas are taken from, until nothing is taken and the round is idle, as the one before was
-abbrev pub block_rounds : Given → ℕ → Blocked → Blocked
+abbrev pub block_rounds : Given → ℕ → InBlock → InBlock
 block_rounds g zero x = block_round g x
 block_rounds g (suc n) x = if is_over x then x else block_rounds g n (block_rounds g n x)
 

@@ -35,8 +35,8 @@ abbrev pub faults : ℕ → Call → Driver → Driver
 faults r call d = notes r (kinds.Fault call Script) [] (answers r call d)
 
 -- this is done, unless the call fails
-abbrev pub calling : ℕ → Call → Driver → Driver → Driver
-calling r call d done = if fails_at d r call then faults r call d else done
+abbrev pub unless_fails : ℕ → Call → Driver → Driver → Driver
+unless_fails r call d done = if fails_at d r call then faults r call d else done
 
 -- ---- lines of log files
 
@@ -53,7 +53,7 @@ unknown d r file lines = difference lines (lines_of d r file)
 
 -- these lines are added to the file
 abbrev pub logs : ℕ → LogFile → List (List ℕ) → Driver → Driver
-logs r file lines d = calling r calls.PutFile d (notes r (kinds.Log file) lines d)
+logs r file lines d = unless_fails r calls.PutFile d (notes r (kinds.Log file) lines d)
 
 -- without a new line there is no store call and no entry
 abbrev pub logs_some : ℕ → LogFile → List (List ℕ) → Driver → Driver
@@ -117,18 +117,18 @@ is_busy g d r key = present d.past r key || is_filled (set_up_of g d r) (state_a
 
 -- the part is dropped, and begun anew with these bytes
 abbrev pub begins_part : ℕ → List ℕ → List ℕ → Driver → Driver
-begins_part r key bytes d = calling r calls.Append d (puts_part r key bytes d)
+begins_part r key bytes d = unless_fails r calls.Append d (puts_part r key bytes d)
 
 abbrev pub gains : Given → ℕ → List ℕ → List ℕ → Driver → Driver
 gains g r key bytes d = logs_status g r key (notes r (kinds.Gain Script (length bytes) key) [] (commits r key d))
 
 abbrev pub fills_up : Given → ℕ → List ℕ → List ℕ → Driver → Driver
 fills_up g r key bytes d = if fails_at d r calls.Append then faults r calls.Append d
-    else calling r calls.Commit (puts_part r key bytes d) (gains g r key bytes (puts_part r key bytes d))
+    else unless_fails r calls.Commit (puts_part r key bytes d) (gains g r key bytes (puts_part r key bytes d))
 
 -- what is done where the content isn't there, nor being filled
 abbrev pub unless_busy : Given → ℕ → List ℕ → Driver → Driver → Driver
-unless_busy g r key d done = calling r calls.Has d (if is_busy g d r key then d else calling r calls.DropPart d done)
+unless_busy g r key d done = unless_fails r calls.Has d (if is_busy g d r key then d else unless_fails r calls.DropPart d done)
 
 abbrev pub has : Given → ℕ → List ℕ → List ℕ → Driver → Driver
 has g r key bytes d = unless_busy g r key d (fills_up g r key bytes (drops_part r key d))

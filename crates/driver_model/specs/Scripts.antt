@@ -17,7 +17,7 @@ use Rattle.run_data.specs.Repos.{fits_size}
 use Rattle.node_model.specs.AnyTime.{IsPeer}
 use Rattle.run_model.specs.Past.{Always}
 use Rattle.run_model.specs.Run.{IsSmall}
-use Rattle.driver_model.specs.Lines.{Agendum, BlockLine, Line, Runs, Crashes, Closes, Fails, Have, SetPart, Add, File, Set, Raw, Merge, Compact, Begin, Turns, Settle, Close, Crash, Wait, Fail, Par}
+use Rattle.driver_model.specs.Lines.{Agendum, BlockLine, Line, Runs, Crashes, Closes, Fails, Have, SetPart, Add, File, Set, Raw, Merge, Compact, Begin, Turns, Settle, Close, Crash, Wait, Fail, Par, Shows}
 use Rattle.driver_model.specs.Lines
 use Rattle.driver_model.specs.Driver.{Driver, Given}
 
@@ -80,6 +80,7 @@ IsOne g (Crash r clock) = IsKnown g r
 IsOne g (Wait milliseconds) = Unit {0}
 IsOne g (Fail r call) = Unit {0}
 IsOne g (Par lines) = Each (IsAgendum g) lines
+IsOne g Shows = Unit {0}
 
 -- ---- bounds
 

@@ -1,5 +1,5 @@
 -- What holds of the driver of scripts between any two of its steps, and how a step leaves it (own).
-use Rattle.std.specs.Prelude.{◌≡◌, ℕ, ◌≤◌, false, List, ◌++◌, length, reverse}
+use Rattle.std.specs.Prelude.{◌≡◌, ◌≢◌, ℕ, ◌≤◌, false, List, ◌++◌, length, reverse}
 use Rattle.annex_base.specs.Lists.{Each}
 use Rattle.run_data.specs.declared.entry.Entry.{Entry}
 use Rattle.node_model.specs.Ends.{EndName, is_opening}
@@ -13,14 +13,19 @@ use Rattle.driver_model.specs.Ways.{Flies, InOrder}
 abbrev pub ComesDown : Flight → Type 0
 ComesDown x = x.frame.up ≡ false → is_opening x.frame.body ≡ false
 
+-- a flight goes from one repository to another
+abbrev pub GoesToOther : Flight → Type 0
+GoesToOther x = x.to ≢ x.frame.peer
+
 -- Its entries are a run. On each way the frames that were sent and not yet taken are in flight, in order, unless they are past;
--- and those that were sent are numbered from 1 on. Each flight that opens a connection goes to a server. No part is greater than
--- the greatest.
+-- and those that were sent are numbered from 1 on. Each flight that opens a connection goes to a server, and each goes to another
+-- repository. No part is greater than the greatest.
 pub record IsSound (g : Given) (d : Driver) : Type 0 where
   pub run : IsRun (run_with g d)
   pub flies : (r : ℕ) (a : EndName) (n : ℕ) → Flies d.past d.flights r a n
   pub order : (r : ℕ) (a : EndName) (n : ℕ) → InOrder d.past r a n
   pub down : Each ComesDown d.flights
+  pub apart : Each GoesToOther d.flights
   pub parts : Each (λ x. length x.bytes ≤ d.largest) d.parts
 
 -- a step that leads from the one driver to the other keeps it sound, where it stays within the bounds of a run

@@ -23,7 +23,7 @@ views_sent past w = map (λ x. x.frame) (frames_sent past w)
 -- ---- numbers
 
 -- an end that stands so has sent so many frames of an epoch, where it isn't past that
-pub record Counted (c : End) (n len : ℕ) : Type 0 where
+pub record HasCounted (c : End) (n len : ℕ) : Type 0 where
   pub not_yet : c.epoch < n → len ≡ 0
   pub at_it : c.epoch ≡ n → len ≡ c.sent
 
@@ -34,28 +34,28 @@ Follow k (g ∷ gs) = (g.seq ≡ k + 1) × Follow (k + 1) gs
 
 -- the frames that r sent at an end in an epoch have the numbers from 1 on, and the end knows how many they are
 pub record InOrder (past : List Entry) (r : ℕ) (a : EndName) (n : ℕ) : Type 0 where
-  pub counted : Counted (end_at past r a) n (length (views_sent past (way_out r a n)))
+  pub counted : HasCounted (end_at past r a) n (length (views_sent past (way_out r a n)))
   pub follow : Follow 0 (views_sent past (way_out r a n))
 
 -- ---- flights
 
 -- what both ends say of a frame
-pub record Told : Type 0 where
+pub record NumberedBody : Type 0 where
   pub seq : ℕ
   pub body : FrameText
 
-abbrev pub told : FrameView → Told
-told f = record { seq = f.seq; body = f.body }
+abbrev pub numbered_body : FrameView → NumberedBody
+numbered_body f = record { seq = f.seq; body = f.body }
 
-abbrev pub told_sent : List Entry → Way → List Told
-told_sent past w = map told (views_sent past w)
+abbrev pub bodies_sent : List Entry → Way → List NumberedBody
+bodies_sent past w = map numbered_body (views_sent past w)
 
 -- r sent it at this end in this epoch
 abbrev pub is_flight : ℕ → EndName → ℕ → Flight → Bool
 is_flight r a n x = (x.to == a.peer) && is_on (way_out r a n) r x.frame
 
-abbrev pub flying_on : ℕ → EndName → ℕ → List Flight → List Told
-flying_on r a n xs = map (λ x. told x.frame) (filter (is_flight r a n) xs)
+abbrev pub bodies_flying : ℕ → EndName → ℕ → List Flight → List NumberedBody
+bodies_flying r a n xs = map (λ x. numbered_body x.frame) (filter (is_flight r a n) xs)
 
 -- an end that stands so takes no frame of the epoch any more
 abbrev pub Over : End → ℕ → Type 0
@@ -63,8 +63,8 @@ Over c n = (n < c.epoch) ⊎ ((n ≡ c.epoch) × (c.opened ≡ false))
 
 -- what r sent at an end in an epoch, but for the frames that were taken, is on its way, in order
 pub record Live (past : List Entry) (xs : List Flight) (r : ℕ) (a : EndName) (n : ℕ) : Type 0 where
-  pub inside : taken_count past (way_out r a n) ≤ length (told_sent past (way_out r a n))
-  pub same : flying_on r a n xs ≡ drop (taken_count past (way_out r a n)) (told_sent past (way_out r a n))
+  pub inside : taken_count past (way_out r a n) ≤ length (bodies_sent past (way_out r a n))
+  pub same : bodies_flying r a n xs ≡ drop (taken_count past (way_out r a n)) (bodies_sent past (way_out r a n))
 
 -- it is so, unless the peer's end takes none of them any more
 abbrev pub Flies : List Entry → List Flight → ℕ → EndName → ℕ → Type 0

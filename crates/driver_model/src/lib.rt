@@ -5,7 +5,10 @@ mod laws;
 mod steps;
 mod turns;
 
-pub use laws::{driven_runs_are_runs, settlings_come_to_rest};
+pub use laws::{
+    driven_runs_are_runs, ends_have_small_numbers, runs_log_lines, settlings_come_to_rest,
+    sound_drivers_keep_their_jobs,
+};
 pub use run_data;
-pub use steps::{drivers_only_add, drivers_stay_sound};
+pub use steps::{drivers_only_add, drivers_stay_sound, only_waits_take_time, settings_are_lines};
 pub use turns::{turns_are_found, words_where_unseen};

@@ -1,20 +1,22 @@
 //! The laws of each step of the driver. Each is the contract of a function that does nothing.
 
-ghost use Rattle.std.specs.Prelude.{◌≡◌, ◌≢◌, ℕ, List, None};
+ghost use Rattle.std.specs.Prelude.{◌≡◌, ◌≢◌, ◌+◌, ℕ, List, None, Some};
 ghost use Rattle.annex_base.specs.declared.kinds.Call.{Call};
 ghost use Rattle.annex_base.specs.Lists.{Each};
 ghost use Rattle.log_lines.specs.declared.entry.LogKind.{LogKind};
 ghost use Rattle.log_lines.specs.declared.entry.LogKind.TheVariants.{Location};
 ghost use Rattle.log_lines.specs.declared.entry.Topic.{Topic};
 ghost use Rattle.log_lines.specs.declared.entry.Value.{Value};
+ghost use Rattle.log_lines.specs.LineText.{line_text};
 ghost use Rattle.run_data.specs.declared.entry.LogFile.{LogFile};
 ghost use Rattle.run_data.specs.declared.job.Job.{Job};
 ghost use Rattle.run_data.specs.Files.{HasPath, kind_of};
 ghost use Rattle.run_data.specs.Repos.{IsSetUp};
+ghost use Rattle.run_model.specs.Past.{now};
 ghost use Rattle.union_merge.specs.LineSet.{IsLine};
 ghost use Rattle.driver_model.specs.Driver.{Driver, Given, at_first};
 ghost use Rattle.driver_model.specs.Driving.{does, turns, with_mark};
-ghost use Rattle.driver_model.specs.Lines.{Agendum, Line};
+ghost use Rattle.driver_model.specs.Lines.{Agendum, Line, waited_by};
 ghost use Rattle.driver_model.specs.Rounds.{blocks, round, settles};
 ghost use Rattle.driver_model.specs.Scripts.{IsContent, IsJob, IsKnown, IsOne, IsOther, IsPlainTopic, IsPlainValue};
 ghost use Rattle.driver_model.specs.ScriptSteps.{begins, closes, compacts, crashes, enters, has, merges, sets, sets_part, waits, will_fail, writes};
@@ -22,7 +24,7 @@ ghost use Rattle.driver_model.specs.Sound.{IsSound, OnlyAdds, StaysSound};
 ghost use Rattle.driver_model.specs.Turning.{turn};
 
 use annex_key::key_texts_have_no_fault;
-use race_core::{runs_grow, steps_find_their_cause};
+use race_core::{frames_go_to_others, runs_grow, steps_find_their_cause};
 use run_data::files_have_their_paths;
 use union_merge::{differences_make_the_union, unions_have_the_lines_of_both};
 
@@ -51,6 +53,7 @@ pub fn drivers_stay_sound()
 {
     // For the proof, which cites them.
     steps_find_their_cause();
+    frames_go_to_others();
     runs_grow();
     files_have_their_paths();
     unions_have_the_lines_of_both();
@@ -81,4 +84,15 @@ pub fn drivers_only_add()
     ensures settles { (g : Given) (d : Driver) → OnlyAdds d (settles g d) }
     ensures blocks { (g : Given) (lines : List Agendum) (d : Driver) → OnlyAdds d (blocks g lines d) }
     ensures line { (g : Given) (line : Line) (d : Driver) → OnlyAdds d (does g line d) }
+{}
+
+/// The line of a setting is one line, and isn't empty, where what is set is written without a newline (own).
+pub fn settings_are_lines()
+    ensures { (kind : LogKind) (topic : Topic) (time : ℕ) (value : Value) → IsPlainTopic topic → IsPlainValue value
+        → IsLine (line_text kind (record { topic = topic; stamp = Some time; value = value })) }
+{}
+
+/// No line takes time but one that waits (own).
+pub fn only_waits_take_time()
+    ensures { (g : Given) (line : Line) (d : Driver) → now (does g line d).past ≡ now d.past + waited_by line }
 {}

@@ -7,7 +7,7 @@ ghost use Rattle.node_model.specs.SetUp.{SetUp};
 ghost use Rattle.node_model.specs.State.{State};
 ghost use Rattle.node_model.specs.Step.{step};
 ghost use Rattle.driver_model.specs.Driver.{Driver, Given, set_up_of, state_at};
-ghost use Rattle.driver_model.specs.Finding.{MakesStep, after_step, found};
+ghost use Rattle.driver_model.specs.Finding.{MakesStep, after_step, driver_at_turn};
 ghost use Rattle.driver_model.specs.Turning.{plain_look, turn};
 ghost use Rattle.driver_model.specs.WordsRead.{AgreeWhereRead};
 
@@ -23,7 +23,7 @@ pub fn words_where_unseen()
 /// drops old frames. Where the repository makes a step at a look that is the driver's for it, and fails in it at the first call that is
 /// to fail, the turn adds this step's entry. So a program that makes the step needs no probe for its part, words and failing call (own).
 pub fn turns_are_found()
-    ensures idle { (g : Given) (r : ℕ) (d : Driver) → step (set_up_of g d r) (state_at g d r) (plain_look (set_up_of g d r) (found g r d)) ≡ None
-        → turn g r d ≡ found g r d }
+    ensures idle { (g : Given) (r : ℕ) (d : Driver) → step (set_up_of g d r) (state_at g d r) (plain_look (set_up_of g d r) (driver_at_turn g r d)) ≡ None
+        → turn g r d ≡ driver_at_turn g r d }
     ensures moved { (g : Given) (r : ℕ) (d : Driver) (m : Made) → MakesStep g r d m → turn g r d ≡ after_step g r d m }
 {}

@@ -15,7 +15,7 @@ use Rattle.content_lock.specs.Rows.{AreAfter, Rows}
 use Rattle.drop_worker.specs.declared.turn.Output.{Output}
 use Rattle.drop_worker.specs.Worker.{Worker}
 use Rattle.drop_worker.specs.Working.{Rest, Sight, failed_in, frames_of, turn_in, work_of}
-use Rattle.drop_worker.specs.Doing.{Does, moved}
+use Rattle.drop_worker.specs.Doing.{Does, next_work}
 use Rattle.drop_worker.specs.Alike.{Alike, is_asked}
 use Rattle.drop_worker.specs.Remote.{DoesAlike}
 
@@ -36,7 +36,7 @@ pub does_alike : (x : Sight) (rows rows' : Rows) (p : List ℕ → Bool) (w w' :
     → Does x rows rows' p w w' taken asked out → DoesAlike x rows rows' p w w' taken asked out
 does_alike x rows rows' p w w' taken asked out d = record {
   makes = d.makes;
-  next = λ going rest. alike_same x.read (work_of rest w') (moved (turn_in x rows p (failed_in out.kind) rest w) (asked (turn_in x rows p (failed_in out.kind) rest w))) (d.next going rest);
+  next = λ going rest. alike_same x.read (work_of rest w') (next_work (turn_in x rows p (failed_in out.kind) rest w) (asked (turn_in x rows p (failed_in out.kind) rest w))) (d.next going rest);
   after = d.after;
   whose = d.whose;
 }
@@ -44,15 +44,15 @@ does_alike x rows rows' p w w' taken asked out d = record {
 -- a step that sends nothing
 pub quiet_alike : (x : Sight) (rows rows' : Rows) (p : List ℕ → Bool) (w w' : Worker) (asked : Turn → Made) (kind : EntryKind) (out : Output) → out.kind ≡ kind → out.sends.items ≡ []
     → ((rest : Rest) → asked (turn_in x rows p (failed_in kind) rest w) ≡ quietly kind None)
-    → ((rest : Rest) → Alike x.read (work_of rest w') (moved (turn_in x rows p (failed_in kind) rest w) (quietly kind None)))
+    → ((rest : Rest) → Alike x.read (work_of rest w') (next_work (turn_in x rows p (failed_in kind) rest w) (quietly kind None)))
     → AreAfter kind rows rows' → job_of kind ≡ Some w.number → DoesAlike x rows rows' p w w' None asked out
 quiet_alike x rows rows' p w w' asked kind out is sends asks moves after whose =
     record {
       makes = λ rest. (λ i. record { kind = is i; taken = None; sent = frames_of x.ends w.slot (sends i); lines = [] })
           ∙ (sym (asks rest) ∙ ap (λ (e : EntryKind). asked (turn_in x rows p (failed_in e) rest w)) (sym is));
       next = λ going rest. subst (λ (v : Work). Alike x.read (work_of rest w') v)
-          (ap (moved (turn_in x rows p (failed_in kind) rest w)) (sym (asks rest))
-          ∙ ap (λ (e : EntryKind). moved (turn_in x rows p (failed_in e) rest w) (asked (turn_in x rows p (failed_in e) rest w))) (sym is)) (moves rest);
+          (ap (next_work (turn_in x rows p (failed_in kind) rest w)) (sym (asks rest))
+          ∙ ap (λ (e : EntryKind). next_work (turn_in x rows p (failed_in e) rest w) (asked (turn_in x rows p (failed_in e) rest w))) (sym is)) (moves rest);
       after = subst (λ (e : EntryKind). AreAfter e rows rows') (sym is) after;
       whose = ap job_of is ∙ whose;
     }

@@ -18,16 +18,16 @@ use Rattle.drop_worker.specs.declared.turn.ParcelBody.{ParcelBody}
 use Rattle.drop_worker.specs.declared.turn.ParcelBody.TheVariants as bodies
 use Rattle.drop_worker.specs.Worker.{Worker}
 use Rattle.drop_worker.specs.Working.{Rest, Sight, end_in, frames_of, phase_as, present_in, texts_of, turn_in, work_of}
-use Rattle.drop_worker.specs.Doing.{HasToken, IsBar, moved}
+use Rattle.drop_worker.specs.Doing.{HasToken, IsBar, next_work}
 use Rattle.drop_worker.specs.Leaving.{ActsOver, Did, Store}
 use Rattle.drop_worker.proofs.Leavings.{talk_leaves}
 use Rattle.drop_worker.proofs.Takings.{talk_does, talks_as}
 
-moved_opens : (t : Turn) (peer : ℕ) → t.w.part ≡ Drops → t.w.phase ≡ Jobs.Next → moved t (sends_to t (talk t) None peer (Opening ∷ [])) ≡ to_phase t.w (Jobs.Opens peer)
+moved_opens : (t : Turn) (peer : ℕ) → t.w.part ≡ Drops → t.w.phase ≡ Jobs.Next → next_work t (sends_to t (talk t) None peer (Opening ∷ [])) ≡ to_phase t.w (Jobs.Opens peer)
 moved_opens t peer drops next = rw (drops, next) refl
 
 moved_asks : (t : Turn) (peer : ℕ) (key : List ℕ) → t.w.part ≡ Drops → t.w.phase ≡ Jobs.Next → message_of (text_of (LockContent key)) ≡ Some (LockContent key)
-    → moved t (says_to t (talk t) None peer (LockContent key)) ≡ to_phase t.w (Jobs.AsksLock peer t.look.time)
+    → next_work t (says_to t (talk t) None peer (LockContent key)) ≡ to_phase t.w (Jobs.AsksLock peer t.look.time)
 moved_asks t peer key drops next reads = rw (drops, next, reads) refl
 
 module _ (x : Sight) (rows : Rows) (k : Store) (w w' : Worker) (peer : ℕ) (out : Output) (local : drop_side w.job.kind w.job.peer ≡ Local) (at : w.phase ≡ phases.Next) (bar : IsBar w.token)
@@ -40,7 +40,7 @@ module _ (x : Sight) (rows : Rows) (k : Store) (w w' : Worker) (peer : ℕ) (out
   opens_did shut sends next = (
     λ c is. talk_does x rows (present_in c) w w' None (λ t. goes_to t peer) (record { peer = peer; body = bodies.Open } ∷ []) out kind sends
         (λ rest. (λ i. record { kind = Talk (Some w.number); taken = None; sent = one_parcel bodies.Open i; lines = [] }) ∙ sym (opening (turn_in x rows (present_in c) None rest w) shut))
-        (λ rest. ap (work_of rest) next ∙ (sym (moved_opens (turn_in x rows (present_in c) None rest w) peer refl (ap phase_as at)) ∙ ap (moved (turn_in x rows (present_in c) None rest w)) (sym (opening (turn_in x rows (present_in c) None rest w) shut)))),
+        (λ rest. ap (work_of rest) next ∙ (sym (moved_opens (turn_in x rows (present_in c) None rest w) peer refl (ap phase_as at)) ∙ ap (next_work (turn_in x rows (present_in c) None rest w)) (sym (opening (turn_in x rows (present_in c) None rest w) shut)))),
     talk_leaves rows k w w' out (talks_as w (record w { phase = phases.Opens peer }) w' out kind ended next refl refl refl tt (inl refl)) bar own,
   )
     where
@@ -52,7 +52,7 @@ module _ (x : Sight) (rows : Rows) (k : Store) (w w' : Worker) (peer : ℕ) (out
   asks_did live sends reads next = (
     λ c is. talk_does x rows (present_in c) w w' None (λ t. goes_to t peer) (record { peer = peer; body = bodies.Message (LockContent w.job.key) } ∷ []) out kind sends
         (λ rest. (λ i. record { kind = Talk (Some w.number); taken = None; sent = one_parcel (bodies.Message (LockContent w.job.key)) i; lines = [] }) ∙ sym (asking c rest))
-        (λ rest. ap (work_of rest) next ∙ (sym (moved_asks (turn_in x rows (present_in c) None rest w) peer w.job.key refl (ap phase_as at) reads) ∙ ap (moved (turn_in x rows (present_in c) None rest w)) (sym (asking c rest)))),
+        (λ rest. ap (work_of rest) next ∙ (sym (moved_asks (turn_in x rows (present_in c) None rest w) peer w.job.key refl (ap phase_as at) reads) ∙ ap (next_work (turn_in x rows (present_in c) None rest w)) (sym (asking c rest)))),
     talk_leaves rows k w w' out (talks_as w (record w { phase = phases.AsksLock peer x.time }) w' out kind ended next refl refl refl tt (inl refl)) bar own,
   )
     where

@@ -21,7 +21,7 @@ use Rattle.drop_worker.specs.declared.phase.Heard.TheVariants as heards
 use Rattle.drop_worker.specs.declared.turn.Output.{Output}
 use Rattle.drop_worker.specs.Worker.{Worker}
 use Rattle.drop_worker.specs.Working.{Rest, Sight, end_in, phase_as, turn_in, work_of}
-use Rattle.drop_worker.specs.Doing.{Does, moved}
+use Rattle.drop_worker.specs.Doing.{Does, next_work}
 use Rattle.drop_worker.proofs.Takings.{closed_local, heard_next, talk_does}
 
 -- nothing is learnt from a closing
@@ -53,7 +53,7 @@ pub close_does : (x : Sight) (rows : Rows) (p : List ℕ → Bool) (w w' : Worke
 close_does x rows p w w' f peer out kind sends with_peer local apart at is next =
     talk_does x rows p w w' (Some f) (λ t. takes_frame t peer f f.body) [] out kind sends (λ rest. makes rest)
     (λ rest. heard_next rest w w' peer (heards.Lacks causes.Closed) next ∙ (sym (closed_local x.read.repo (work_of rest w) peer local apart)
-    ∙ (sym (here rest ∙ closes_it (turn rest) (work_of rest w) f peer at is) ∙ ap (moved (turn rest)) (makes rest))))
+    ∙ (sym (here rest ∙ closes_it (turn rest) (work_of rest w) f peer at is) ∙ ap (next_work (turn rest)) (makes rest))))
   where
     turn : Rest → Turn
     turn rest = turn_in x rows p None rest w
@@ -61,6 +61,6 @@ close_does x rows p w w' f peer out kind sends with_peer local apart at is next 
     makes : (rest : Rest) → hears (turn rest) f ≡ takes_frame (turn rest) peer f f.body
     makes rest = sym (ap (takes_frame (turn rest) peer f) is)
 
-    here : (rest : Rest) → moved (turn rest) (hears (turn rest) f)
+    here : (rest : Rest) → next_work (turn rest) (hears (turn rest) f)
         ≡ talks_on (record { present = p; bar = bar_at rows; ends = x.ends }) x.read.repo (work_of rest w) (entry_of x.read.repo (turn rest).look (hears (turn rest) f)) (Some peer)
     here rest = λ i. talks_on (record { present = p; bar = bar_at rows; ends = x.ends }) x.read.repo (learns_none (work_of rest w) f w.phase is i) (entry_of x.read.repo (turn rest).look (hears (turn rest) f)) (with_peer i)

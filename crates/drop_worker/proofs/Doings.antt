@@ -21,7 +21,7 @@ use Rattle.drop_worker.specs.declared.turn.Taken.{Taken}
 use Rattle.drop_worker.specs.declared.turn.Taken.TheVariants as takens
 use Rattle.drop_worker.specs.Worker.{Worker}
 use Rattle.drop_worker.specs.Working.{Rest, Sight, failed_in, phase_as, taken_line, taken_of, turn_in}
-use Rattle.drop_worker.specs.Doing.{Comes, Does, GoesOn, HasToken, IsBar, IsEnd, Takes, Talks, contents_after, moved, share_in}
+use Rattle.drop_worker.specs.Doing.{Comes, Does, GoesOn, HasToken, IsBar, IsEnd, Takes, Talks, contents_after, next_work, share_in}
 use Rattle.drop_worker.specs.Feeding.{FindsClosed, FitsLocal, TakesClose, TakesFed, TakesOther, IsBare, IsOfLocal}
 
 pub does_as : (x : Sight) (rows rows' : Rows) (p : List ℕ → Bool) (w w' : Worker) (taken : Option FrameView) (a b : Turn → Made) (out : Output)
@@ -29,7 +29,7 @@ pub does_as : (x : Sight) (rows rows' : Rows) (p : List ℕ → Bool) (w w' : Wo
 does_as x rows rows' p w w' taken a b out d e =
     record {
       makes = λ rest. d.makes rest ∙ e rest;
-      next = λ going rest. d.next going rest ∙ ap (moved (turn_in x rows p (failed_in out.kind) rest w)) (e rest);
+      next = λ going rest. d.next going rest ∙ ap (next_work (turn_in x rows p (failed_in out.kind) rest w)) (e rest);
       after = d.after;
       whose = d.whose;
     }

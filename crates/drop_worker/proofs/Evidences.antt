@@ -29,7 +29,7 @@ use Rattle.drop_worker.specs.declared.phase.Heard.TheVariants as heards
 use Rattle.drop_worker.specs.Standings.{standing_of}
 use Rattle.drop_worker.specs.Worker.{Worker}
 use Rattle.drop_worker.specs.Working.{Rest, Sight, heard_as, heard_in, is_target, newest_of, turn_in, word_in, words_of, work_of}
-use Rattle.drop_worker.specs.Judging.{asks_of, cause_at, cause_told, gathered, offer_of, others_in}
+use Rattle.drop_worker.specs.Judging.{asks_of, cause_at, cause_told, evidence_of, offer_of, others_in}
 use Rattle.drop_worker.proofs.Heards.{heard_same}
 use Rattle.drop_worker.proofs.Partings.{from_none}
 
@@ -85,7 +85,7 @@ module _ (ask : ℕ → Offer) (cause : ℕ → Cause) (c : ℕ) (cs : List ℕ)
 -- ---- the outcomes
 
 module _ (x : Sight) (rows : Rows) (p : List ℕ → Bool) (fails : Option Call) (rest : Rest) (w : Worker) (items : List Evidence) (local : drop_side w.job.kind w.job.peer ≡ Local)
-    (is : items ≡ gathered Local x.read w (others_in x.read) []) (proof : Proof) (proves : proof ≡ proof_of x.read.count x.read.need items) where
+    (is : items ≡ evidence_of Local x.read w (others_in x.read) []) (proof : Proof) (proves : proof ≡ proof_of x.read.count x.read.need items) where
   abbrev turn : Turn
   turn = turn_in x rows p fails rest w
 

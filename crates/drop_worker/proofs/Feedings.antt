@@ -124,6 +124,12 @@ ordered_peer w target peer there at stands = some_same target peer (sym there �
     some_same : (m n : ℕ) → Some m ≡ Some n → m ≡ n
     some_same m n e = cc
 
+pub asked_peer : (w : Worker) (target peer : ℕ) → w.job.peer ≡ Some target → w.phase ≡ phases.AsksTime → stands_on w ≡ Some peer → target ≡ peer
+asked_peer w target peer there at stands = some_same target peer (sym there ∙ (sym (ap (λ (ph : Phase). partner w.job.peer (phase_as ph)) at) ∙ stands))
+  where
+    some_same : (m n : ℕ) → Some m ≡ Some n → m ≡ n
+    some_same m n e = cc
+
 -- ---- the words
 
 pub no_look : (taken : Taken) (word : Option Word) (w w' : Worker) → ((p : ℕ) → w.phase ≡ phases.AsksLook p → ⊥) → KeepsWord taken word w w'

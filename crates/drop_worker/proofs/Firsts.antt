@@ -118,6 +118,6 @@ module _ (x : Sight) (rows rows' : Rows) (k k' : Store) (w w' : Worker) (local :
     unbarred_did (barred.Held hold end) r found rose is =
         refusal_did (refusals.Held end) r is refl (λ c here rest. first_held (turn_in x rows (present_in c) None rest w) end refl refl (found.0 c here) found.1 found.2.longest)
     unbarred_did barred.StoreFault (Ok out) found rose is = fails_did out is.0 (rose refl)
-    unbarred_did barred.StoreFault (Err e) found rose is = record { worker = is.1; table = same; contents = contents; records = records; later = later }
+    unbarred_did barred.StoreFault (Err e) found rose is = absurd is.1
     unbarred_did barred.NoMemory (Ok out) found rose is = absurd is.0
     unbarred_did barred.NoMemory (Err e) found rose is = record { worker = is.1; table = same; contents = contents; records = records; later = later }

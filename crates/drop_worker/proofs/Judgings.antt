@@ -16,7 +16,7 @@ use Rattle.drop_worker.specs.declared.phase.Heard.{Heard}
 use Rattle.drop_worker.specs.declared.phase.Heard.TheVariants as heards
 use Rattle.drop_worker.specs.Worker.{Worker}
 use Rattle.drop_worker.specs.Working.{heard_as, newest_of}
-use Rattle.drop_worker.specs.Judging.{asks_of, gathered, offer_heard, offer_of}
+use Rattle.drop_worker.specs.Judging.{asks_of, evidence_of, offer_heard, offer_of}
 use Rattle.drop_worker.proofs.Heards.{heard_same}
 use Rattle.drop_worker.proofs.Partings.{from_none}
 
@@ -58,15 +58,15 @@ pub find_no : (p : ℕ → Bool) (c : ℕ) (cs : List ℕ) → p c ≡ false →
 find_no p c cs e = rw e refl
 
 module _ (side : Side) (r : Reading) (w : Worker) (c : ℕ) (cs : List ℕ) (items : List Evidence) where
-  pub at_ask : asks_of r w c ≡ true → gathered side r w (c ∷ cs) items ≡ items
+  pub at_ask : asks_of r w c ≡ true → evidence_of side r w (c ∷ cs) items ≡ items
   at_ask e = rw e refl
 
-  pub at_enough : asks_of r w c ≡ false → is_enough side r.need items ≡ true → gathered side r w (c ∷ cs) items ≡ items
+  pub at_enough : asks_of r w c ≡ false → is_enough side r.need items ≡ true → evidence_of side r w (c ∷ cs) items ≡ items
   at_enough e f = rw (e, f) refl
 
   pub at_kind : (kind : Kind) → asks_of r w c ≡ false → is_enough side r.need items ≡ false → Gives kind ≡ offer_of r w c
-      → gathered side r w (c ∷ cs) items ≡ gathered side r w cs (items ++ record { repo = c; kind = kind } ∷ [])
+      → evidence_of side r w (c ∷ cs) items ≡ evidence_of side r w cs (items ++ record { repo = c; kind = kind } ∷ [])
   at_kind kind e f g = rw (e, f, ← g) refl
 
-  pub at_none : asks_of r w c ≡ false → is_enough side r.need items ≡ false → Fails ≡ offer_of r w c → gathered side r w (c ∷ cs) items ≡ gathered side r w cs items
+  pub at_none : asks_of r w c ≡ false → is_enough side r.need items ≡ false → Fails ≡ offer_of r w c → evidence_of side r w (c ∷ cs) items ≡ evidence_of side r w cs items
   at_none e f g = rw (e, f, ← g) refl

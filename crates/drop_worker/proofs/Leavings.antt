@@ -20,7 +20,7 @@ use Rattle.drop_worker.specs.declared.phase.Phase.TheVariants as phases
 use Rattle.drop_worker.specs.declared.turn.Output.{Output}
 use Rattle.drop_worker.specs.Worker.{Worker}
 use Rattle.drop_worker.specs.Working.{Rest, Sight, failed_in, frames_of, phase_as, present_in, sight, turn_in, work_of}
-use Rattle.drop_worker.specs.Doing.{Does, HasToken, IsBar, OthersStay, Talks, contents_after, moved}
+use Rattle.drop_worker.specs.Doing.{Does, HasToken, IsBar, OthersStay, Talks, contents_after, next_work}
 use Rattle.drop_worker.specs.Feeding.{FitsLocal}
 use Rattle.drop_worker.specs.Judging.{step_by}
 use Rattle.drop_worker.specs.Leaving.{ActsOver, Did, GoesSo, Leaves, Stays, Store}
@@ -104,14 +104,14 @@ stays_same rows k w = record { worker = refl; table = refl; contents = refl; rec
 -- ---- a step that sends nothing
 
 pub quiet_does : (x : Sight) (rows rows' : Rows) (p : List ℕ → Bool) (w w' : Worker) (asked : Turn → Made) (kind : EntryKind) (out : Output) → out.kind ≡ kind → out.sends.items ≡ []
-    → ((rest : Rest) → asked (turn_in x rows p (failed_in kind) rest w) ≡ quietly kind None) → ((rest : Rest) → work_of rest w' ≡ moved (turn_in x rows p (failed_in kind) rest w) (quietly kind None))
+    → ((rest : Rest) → asked (turn_in x rows p (failed_in kind) rest w) ≡ quietly kind None) → ((rest : Rest) → work_of rest w' ≡ next_work (turn_in x rows p (failed_in kind) rest w) (quietly kind None))
     → AreAfter kind rows rows' → job_of kind ≡ Some w.number → Does x rows rows' p w w' None asked out
 quiet_does x rows rows' p w w' asked kind out is sends asks moves after whose =
     record {
       makes = λ rest. (λ i. record { kind = is i; taken = None; sent = frames_of x.ends w.slot (sends i); lines = [] })
           ∙ (sym (asks rest) ∙ ap (λ (e : EntryKind). asked (turn_in x rows p (failed_in e) rest w)) (sym is));
-      next = λ going rest. moves rest ∙ (ap (moved (turn_in x rows p (failed_in kind) rest w)) (sym (asks rest))
-          ∙ ap (λ (e : EntryKind). moved (turn_in x rows p (failed_in e) rest w) (asked (turn_in x rows p (failed_in e) rest w))) (sym is));
+      next = λ going rest. moves rest ∙ (ap (next_work (turn_in x rows p (failed_in kind) rest w)) (sym (asks rest))
+          ∙ ap (λ (e : EntryKind). next_work (turn_in x rows p (failed_in e) rest w) (asked (turn_in x rows p (failed_in e) rest w))) (sym is));
       after = subst (λ (e : EntryKind). AreAfter e rows rows') (sym is) after;
       whose = ap job_of is ∙ whose;
     }

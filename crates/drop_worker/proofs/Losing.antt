@@ -12,7 +12,7 @@ use Rattle.drop_worker.specs.declared.phase.Phase.{Phase}
 use Rattle.drop_worker.specs.declared.phase.Phase.TheVariants as phases
 use Rattle.drop_worker.specs.Worker.{Worker}
 use Rattle.drop_worker.specs.Working.{Rest, phase_as, work_of}
-use Rattle.drop_worker.specs.Remote.{IsRemote, is_ordering, parted}
+use Rattle.drop_worker.specs.Remote.{IsRemote, is_ordering, without_peer}
 
 ordering : (ph : Phase) → is_ordered (phase_as ph) ≡ is_ordering ph
 ordering phases.Fresh = refl
@@ -31,7 +31,7 @@ ordering (phases.Ends why) = refl
 pub target_is : (rest : Rest) (w : Worker) (target r : ℕ) → IsRemote target w → target_of r (work_of rest w) ≡ target
 target_is rest w target r remote = (λ i. or_own r (remote.side i) (remote.peer i))
 
-pub closed_remote : (rest : Rest) (w : Worker) (target r peer : ℕ) → IsRemote target w → closed_part r (work_of rest w) peer Drops ≡ work_of rest (parted w target peer)
+pub closed_remote : (rest : Rest) (w : Worker) (target r peer : ℕ) → IsRemote target w → closed_part r (work_of rest w) peer Drops ≡ work_of rest (without_peer w target peer)
 closed_remote rest w target r peer remote =
     ap (λ (t : ℕ). closing (t == peer)) (target_is rest w target r remote) ∙ (λ i. lost_so (ordering w.phase i) (target == peer)) ∙ go (target == peer)
   where

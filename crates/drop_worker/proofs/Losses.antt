@@ -24,9 +24,9 @@ use Rattle.drop_worker.specs.declared.turn.Output.{Output}
 use Rattle.drop_worker.specs.declared.turn.Taken.TheVariants as takens
 use Rattle.drop_worker.specs.Worker.{Worker}
 use Rattle.drop_worker.specs.Working.{Rest, Sight, failed_in, phase_as, turn_in, work_of}
-use Rattle.drop_worker.specs.Doing.{Comes, Does, Grows, contents_after, moved}
+use Rattle.drop_worker.specs.Doing.{Comes, Does, Grows, contents_after, next_work}
 use Rattle.drop_worker.specs.Feeding.{FitsRemote, HasNoBar}
-use Rattle.drop_worker.specs.Remote.{IsRemote, ShutsRemote, Speaks, is_ordering, parted}
+use Rattle.drop_worker.specs.Remote.{IsRemote, ShutsRemote, Speaks, is_ordering, without_peer}
 use Rattle.drop_worker.proofs.Losing.{closed_remote}
 use Rattle.drop_worker.proofs.Takings.{close_parcel, line_takes, lined, moved_shut, talk_does}
 
@@ -40,7 +40,7 @@ lost_does x rows p w w' f target peer took out remote shuts comes learn with_pee
     talk_does x rows p w w' (Some f) (λ t. takes_frame t peer f f.body) _ out shuts.kind shuts.sends
     (λ rest. (λ i. record { kind = Talk (Some w.number); taken = Some f; sent = close_parcel x w.slot peer i; lines = [] }) ∙ is rest)
     (λ rest. ap (work_of rest) shuts.next ∙ (sym (closed_remote rest w target x.read.repo peer remote)
-    ∙ (sym (moved_shut (turn_in x rows p None rest w) f peer took w.version refl (learn rest) with_peer line comes.live) ∙ ap (moved (turn_in x rows p None rest w)) (is rest))))
+    ∙ (sym (moved_shut (turn_in x rows p None rest w) f peer took w.version refl (learn rest) with_peer line comes.live) ∙ ap (next_work (turn_in x rows p None rest w)) (is rest))))
 
 -- what isn't expected as the answer to an order
 pub orders_else : (t : Turn) (f : FrameView) (peer : ℕ) (m : Message) → (m ≡ messages.Success → ⊥) → (m ≡ messages.Failure → ⊥) → takes_drop t f peer Jobs.Orders m ≡ wrong t f peer
@@ -99,7 +99,7 @@ pub heard_speaks : (w w' : Worker) (peer : ℕ) (h : Heard) (out : Output) → o
     → w' ≡ record w { heard = (peer, h) ∷ w.heard; phase = phases.Next } → Speaks w w' out
 heard_speaks w w' peer h out kind ended is = speaks_as w (record w { heard = (peer, h) ∷ w.heard; phase = phases.Next }) w' out kind ended is refl refl refl (inr ((peer, h), refl)) (λ e. absurd (cc))
 
-pub parted_speaks : (w w' : Worker) (target peer : ℕ) (out : Output) → out.kind ≡ Talk (Some w.number) → out.ended ≡ false → w' ≡ parted w target peer → Speaks w w' out
+pub parted_speaks : (w w' : Worker) (target peer : ℕ) (out : Output) → out.kind ≡ Talk (Some w.number) → out.ended ≡ false → w' ≡ without_peer w target peer → Speaks w w' out
 parted_speaks w w' target peer out kind ended is = go (target == peer) is
   where
     go : (b : Bool) → w' ≡ (if b then record w { phase = phases.Ends (endings.Lost (is_ordering w.phase)) } else record w { heard = (peer, heards.Lacks causes.Closed) ∷ w.heard; phase = phases.Next }) → Speaks w w' out

@@ -28,7 +28,7 @@ use Rattle.drop_worker.specs.declared.phase.Ending.TheVariants as endings
 use Rattle.drop_worker.specs.declared.phase.Phase.TheVariants as phases
 use Rattle.drop_worker.specs.Worker.{Worker}
 use Rattle.drop_worker.specs.Working.{Rest, Sight, end_in, learnt, phase_as, sight, turn_in, work_of}
-use Rattle.drop_worker.specs.Doing.{moved}
+use Rattle.drop_worker.specs.Doing.{next_work}
 use Rattle.drop_worker.specs.Remote.{IsRemote, ReadsAll, Request, Says, Speaks, TakesRemote, first_request, known_remotely, target_request}
 use Rattle.drop_worker.proofs.Takings.{Lined, line_takes, lined, moved_heard, moved_said}
 use Rattle.drop_worker.proofs.Talks.{on_said, open_line}
@@ -45,7 +45,7 @@ module _ (t : Turn) (f : FrameView) (peer : ℕ) (took : Message) (n : ℕ) (dro
 
   -- an order
   pub moved_order : (job target : ℕ) (deadline : Option ℕ) (need : Need) (key : List ℕ) (m : Message) → message_of (text_of m) ≡ Some m
-      → moved t (says_to t (Order job target deadline need key) (Some f) peer m) ≡ says now_work t.look.time peer (Some took) m
+      → next_work t (says_to t (Order job target deadline need key) (Some f) peer m) ≡ says now_work t.look.time peer (Some took) m
   moved_order job target deadline need key m reads =
       let rows : Jobs.Rows = record { present = t.present; bar = t.bar; ends = t.ends } in
       let made : Made = says_to t (Order job target deadline need key) (Some f) peer m in
@@ -61,14 +61,14 @@ pub greet_request : (x : Sight) (rows : Rows) (p : List ℕ → Bool) (rest : Re
     → learns (work_of rest w) (phase_as w.phase) (Some f) ≡ record (work_of rest w) { version = n } → w.phase ≡ phases.Greets peer → Lined f.body (Version version) → (x.ends (end_in w.slot peer)).opened ≡ true
     → x.time ≡ time → ReadsAll w.job.key
     → work_of rest (record w { phase = (first_request need w target time peer version end).phase; version = n })
-    ≡ moved (turn_in x rows p None rest w) (request_made (turn_in x rows p None rest w) (Some f) peer (first_request need w target time peer version end))
+    ≡ next_work (turn_in x rows p None rest w) (request_made (turn_in x rows p None rest w) (Some f) peer (first_request need w target time peer version end))
 greet_request x rows p rest w f need target time peer version n end learn stands l live same reads = by_peer (target == peer) end
   where
     t : Turn
     t = turn_in x rows p None rest w
 
     So : Request → Type 0
-    So q = work_of rest (record w { phase = q.phase; version = n }) ≡ moved t (request_made t (Some f) peer q)
+    So q = work_of rest (record w { phase = q.phase; version = n }) ≡ next_work t (request_made t (Some f) peer q)
 
     with_peer : partner w.job.peer (phase_as w.phase) ≡ Some peer
     with_peer = rw stands refl

@@ -24,7 +24,7 @@ use Rattle.drop_worker.specs.declared.turn.Output.{Output}
 use Rattle.drop_worker.specs.declared.turn.Taken.TheVariants as takens
 use Rattle.drop_worker.specs.Worker.{Worker}
 use Rattle.drop_worker.specs.Working.{Rest, Sight, end_in, phase_as, taken_line, taken_of, turn_in, work_of}
-use Rattle.drop_worker.specs.Doing.{Comes, Does, Shuts, moved}
+use Rattle.drop_worker.specs.Doing.{Comes, Does, Shuts, next_work}
 use Rattle.drop_worker.proofs.Talks.{on_shut}
 use Rattle.drop_worker.proofs.Takings.{close_parcel, closed_local, heard_next, talk_does}
 
@@ -101,7 +101,7 @@ other_does x rows p w w' f peer out local with_peer shuts comes =
     talk_does x rows p w w' (Some f) (λ t. takes_frame t peer f f.body) _ out shuts.kind shuts.sends
     (λ rest. (λ i. record { kind = Talk (Some w.number); taken = Some f; sent = close_parcel x w.slot peer i; lines = [] }) ∙ is rest)
     (λ rest. heard_next rest w w' peer (heards.Lacks causes.Closed) shuts.next
-    ∙ (sym (closed_local x.read.repo (work_of rest w) peer local comes.apart) ∙ (sym (moves rest) ∙ ap (moved (turn rest)) (is rest))))
+    ∙ (sym (closed_local x.read.repo (work_of rest w) peer local comes.apart) ∙ (sym (moves rest) ∙ ap (next_work (turn rest)) (is rest))))
   where
     turn : Rest → Turn
     turn rest = turn_in x rows p None rest w
@@ -109,7 +109,7 @@ other_does x rows p w w' f peer out local with_peer shuts comes =
     is : (rest : Rest) → wrong (turn rest) f peer ≡ takes_frame (turn rest) peer f f.body
     is rest = other_wrong (turn rest) f peer w.phase f.body refl comes.is
 
-    moves : (rest : Rest) → moved (turn rest) (wrong (turn rest) f peer) ≡ closed_part x.read.repo (work_of rest w) peer Drops
+    moves : (rest : Rest) → next_work (turn rest) (wrong (turn rest) f peer) ≡ closed_part x.read.repo (work_of rest w) peer Drops
     moves rest =
         (λ i. talks_on (record { present = p; bar = bar_at rows; ends = x.ends }) x.read.repo (other_learns (work_of rest w) f w.phase comes.is i) (entry_of x.read.repo (turn rest).look (wrong (turn rest) f peer)) (with_peer i))
         ∙ on_shut (record { present = p; bar = bar_at rows; ends = x.ends }) x.read.repo (work_of rest w) (entry_of x.read.repo (turn rest).look (wrong (turn rest) f peer)) peer refl
@@ -128,7 +128,7 @@ here_does x rows p w w' peer out kind sends with_peer local apart shut next =
     turn : Rest → Turn
     turn rest = turn_in x rows p None rest w
 
-    moves : (rest : Rest) → moved (turn rest) (quietly (talk (turn rest)) None) ≡ closed_part x.read.repo (work_of rest w) peer Drops
+    moves : (rest : Rest) → next_work (turn rest) (quietly (talk (turn rest)) None) ≡ closed_part x.read.repo (work_of rest w) peer Drops
     moves rest =
         (λ i. talks_on (record { present = p; bar = bar_at rows; ends = x.ends }) x.read.repo (absent_learns (work_of rest w) w.phase i) (entry_of x.read.repo (turn rest).look (quietly (talk (turn rest)) None)) (with_peer i))
         ∙ closed_so (turn rest) (work_of rest w) peer shut

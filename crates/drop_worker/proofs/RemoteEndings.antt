@@ -29,7 +29,7 @@ use Rattle.drop_worker.specs.declared.turn.Output.{Output}
 use Rattle.drop_worker.specs.Sends.{SendsView}
 use Rattle.drop_worker.specs.Worker.{Worker}
 use Rattle.drop_worker.specs.Working.{Rest, failed_in, frames_of, partings, phase_as, sight, turn_in, work_of}
-use Rattle.drop_worker.specs.Doing.{HasToken, OthersStay, moved}
+use Rattle.drop_worker.specs.Doing.{HasToken, OthersStay, next_work}
 use Rattle.drop_worker.specs.Leaving.{Store}
 use Rattle.drop_worker.specs.Feeding.{FitsRemote}
 use Rattle.drop_worker.specs.Remote.{DidRemote, EndsSo, Unreleased, unreleased_phase}
@@ -122,7 +122,7 @@ module _ (read : Reading) (ends_at : EndName → End) (time : ℕ) (rows rows' :
 -- ---- the share that couldn't be released
 
 -- a share is an open hold of its owner's
-open_there : (hs : List Hold) (share : ShareView) (by : By) → HasShare hs share → share.owner ≡ by → same_owner by by ≡ true → list_any (λ h. same_owner h.owner by && not h.kept) hs ≡ true
+pub open_there : (hs : List Hold) (share : ShareView) (by : By) → HasShare hs share → share.owner ≡ by → same_owner by by ≡ true → list_any (λ h. same_owner h.owner by && not h.kept) hs ≡ true
 open_there [] share by has mine itself = absurd (cc)
 open_there (h ∷ hs) share by has mine itself = go ((h.number == share.number) && not h.kept) refl has (λ later. open_there hs share by later mine itself)
   where
@@ -146,7 +146,7 @@ open_there (h ∷ hs) share by has mine itself = go ((h.number == share.number) 
     go false e is ih =
         ap (λ (b : Bool). (same_owner h.owner by && not h.kept) || b) (ih is) ∙ or_true (same_owner h.owner by && not h.kept)
 
-same_number : (n : ℕ) → (n == n) ≡ true
+pub same_number : (n : ℕ) → (n == n) ≡ true
 same_number n = grind arith
 
 release_fails : (t : Turn) (taken : Option FrameView) (outcome : Outcome) → t.look.fails ≡ Some calls.Unhold → owns_share t ≡ true → is_lost_ordered outcome ≡ false → ends t taken outcome ≡ quietly (Fault calls.Unhold (by_me t)) taken
@@ -190,8 +190,8 @@ unreleased_did read ends_at time rows rows' k k' w v w' share outcome out is u p
     makes = λ rest. (λ i. record { kind = kind i; taken = taken; sent = frames_of ends_at w.slot (u.sends i); lines = [] })
         ∙ (sym (made number p taken rest) ∙ ap (λ (e : EntryKind). ends (turn_in (sight read ends_at time number) rows p (failed_in e) rest w) taken outcome) (sym kind));
     next = λ going rest. ap (work_of rest) next ∙ (phase_after rest w time w.phase refl
-        ∙ (ap (moved (turn_in (sight read ends_at time number) rows p (Some calls.Unhold) rest w)) (sym (made number p taken rest))
-        ∙ ap (λ (e : EntryKind). moved (turn_in (sight read ends_at time number) rows p (failed_in e) rest w) (ends (turn_in (sight read ends_at time number) rows p (failed_in e) rest w) taken outcome)) (sym kind)));
+        ∙ (ap (next_work (turn_in (sight read ends_at time number) rows p (Some calls.Unhold) rest w)) (sym (made number p taken rest))
+        ∙ ap (λ (e : EntryKind). next_work (turn_in (sight read ends_at time number) rows p (failed_in e) rest w) (ends (turn_in (sight read ends_at time number) rows p (failed_in e) rest w) taken outcome)) (sym kind)));
     after = subst (λ (e : EntryKind). AreAfter e rows rows') (sym kind) row_after;
     whose = ap job_of kind;
   },

@@ -35,7 +35,7 @@ use Rattle.drop_worker.specs.declared.phase.Token.{Token}
 use Rattle.drop_worker.specs.declared.turn.Output.{Output}
 use Rattle.drop_worker.specs.Worker.{Worker}
 use Rattle.drop_worker.specs.Working.{Rest, Sight, end_in, failed_in, frames_of, phase_as, sight, turn_in, work_of}
-use Rattle.drop_worker.specs.Doing.{Acts, Does, contents_after, moved}
+use Rattle.drop_worker.specs.Doing.{Acts, Does, contents_after, next_work}
 use Rattle.drop_worker.specs.Feeding.{FitsRemote, HasNoBar}
 use Rattle.drop_worker.specs.Remote.{IsRemote, ReadsAll, Request, Says, Speaks, first_request, known_remotely, said_parcels, target_request, time_request}
 use Rattle.drop_worker.proofs.Losing.{target_is}
@@ -85,29 +85,29 @@ module _ (x : Sight) (rows : Rows) (p : List ℕ → Bool) (fails : Option Call)
 -- ---- the work that follows, of a job that stood on no connection
 
 next_lock : (t : Turn) (peer : ℕ) (key : List ℕ) → t.w.part ≡ Drops → t.w.phase ≡ Jobs.Next → message_of (text_of (LockContent key)) ≡ Some (LockContent key)
-    → moved t (says_to t (talk t) None peer (LockContent key)) ≡ to_phase t.w (Jobs.AsksLock peer t.look.time)
+    → next_work t (says_to t (talk t) None peer (LockContent key)) ≡ to_phase t.w (Jobs.AsksLock peer t.look.time)
 next_lock t peer key drops next reads = rw (drops, next, reads) refl
 
-next_time : (t : Turn) (peer : ℕ) → t.w.part ≡ Drops → t.w.phase ≡ Jobs.Next → moved t (says_to t (talk t) None peer GetTimestamp) ≡ to_phase t.w Jobs.AsksTime
+next_time : (t : Turn) (peer : ℕ) → t.w.part ≡ Drops → t.w.phase ≡ Jobs.Next → next_work t (says_to t (talk t) None peer GetTimestamp) ≡ to_phase t.w Jobs.AsksTime
 next_time t peer drops next = rw (drops, next) refl
 
 next_order : (t : Turn) (peer target : ℕ) (need : Need) (key : List ℕ) → t.w.part ≡ Drops → t.w.phase ≡ Jobs.Next → message_of (text_of (Remove key)) ≡ Some (Remove key)
-    → moved t (says_to t (Order t.w.number target None need key) None peer (Remove key)) ≡ to_phase t.w Jobs.Orders
+    → next_work t (says_to t (Order t.w.number target None need key) None peer (Remove key)) ≡ to_phase t.w Jobs.Orders
 next_order t peer target need key drops next reads = rw (drops, next, reads) refl
 
-next_old : (t : Turn) → t.w.part ≡ Drops → t.w.phase ≡ Jobs.Next → moved t (quietly (talk t) None) ≡ to_phase t.w (Jobs.Ends (Refused (refusals.OldProtocol t.w.version)))
+next_old : (t : Turn) → t.w.part ≡ Drops → t.w.phase ≡ Jobs.Next → next_work t (quietly (talk t) None) ≡ to_phase t.w (Jobs.Ends (Refused (refusals.OldProtocol t.w.version)))
 next_old t drops next = rw (drops, next) refl
 
 pub next_request : (x : Sight) (rows : Rows) (p : List ℕ → Bool) (fails : Option Call) (rest : Rest) (w : Worker) (need : Need) (target time peer : ℕ) (end : Option ℕ) → w.phase ≡ phases.Next → x.time ≡ time → ReadsAll w.job.key
     → work_of rest (record w { phase = (first_request need w target time peer w.version end).phase })
-    ≡ moved (turn_in x rows p fails rest w) (request_made (turn_in x rows p fails rest w) None peer (first_request need w target time peer w.version end))
+    ≡ next_work (turn_in x rows p fails rest w) (request_made (turn_in x rows p fails rest w) None peer (first_request need w target time peer w.version end))
 next_request x rows p fails rest w need target time peer end at same reads = by_peer (target == peer) end
   where
     t : Turn
     t = turn_in x rows p fails rest w
 
     So : Request → Type 0
-    So q = work_of rest (record w { phase = q.phase }) ≡ moved t (request_made t None peer q)
+    So q = work_of rest (record w { phase = q.phase }) ≡ next_work t (request_made t None peer q)
 
     by_version : (b : Bool) → So (if b then record { kind = Talk (Some w.number); says = None; phase = phases.Ends (endings.OldProtocol w.version) } else record { kind = Talk (Some w.number); says = Some GetTimestamp; phase = phases.AsksTime })
     by_version true = sym (next_old t refl (ap phase_as at))
@@ -130,14 +130,14 @@ parcels_said ends slot peer (Some m) = append-nil (frames (end_in slot peer) (en
 pub said_does_as : (x : Sight) (rows : Rows) (p : List ℕ → Bool) (w w' u : Worker) (taken : Option FrameView) (asked : Turn → Made) (q : Request) (peer : ℕ) (out : Output) → out.kind ≡ q.kind → out.sends.items ≡ said_parcels peer q.says → w' ≡ u
     → failed_in q.kind ≡ None → AreAfter q.kind rows rows → job_of q.kind ≡ Some w.number
     → ((rest : Rest) → asked (turn_in x rows p None rest w) ≡ request_made (turn_in x rows p None rest w) taken peer q)
-    → ((rest : Rest) → work_of rest u ≡ moved (turn_in x rows p None rest w) (request_made (turn_in x rows p None rest w) taken peer q))
+    → ((rest : Rest) → work_of rest u ≡ next_work (turn_in x rows p None rest w) (request_made (turn_in x rows p None rest w) taken peer q))
     → Does x rows rows p w w' taken asked out
 said_does_as x rows p w w' u taken asked q peer out kind sends is plain after whose asks moves =
     record {
       makes = λ rest. (λ i. record { kind = kind i; taken = taken; sent = (ap (frames_of x.ends w.slot) sends ∙ parcels_said x.ends w.slot peer q.says) i; lines = [] })
           ∙ (sym (asks rest) ∙ ap (λ (f : Option Call). asked (turn_in x rows p f rest w)) (sym faultless));
-      next = λ going rest. ap (work_of rest) is ∙ (moves rest ∙ (ap (moved (turn_in x rows p None rest w)) (sym (asks rest))
-          ∙ ap (λ (f : Option Call). moved (turn_in x rows p f rest w) (asked (turn_in x rows p f rest w))) (sym faultless)));
+      next = λ going rest. ap (work_of rest) is ∙ (moves rest ∙ (ap (next_work (turn_in x rows p None rest w)) (sym (asks rest))
+          ∙ ap (λ (f : Option Call). next_work (turn_in x rows p f rest w) (asked (turn_in x rows p f rest w))) (sym faultless)));
       after = subst (λ (e : EntryKind). AreAfter e rows rows) (sym kind) after;
       whose = ap job_of kind ∙ whose;
     }
@@ -148,7 +148,7 @@ said_does_as x rows p w w' u taken asked q peer out kind sends is plain after wh
 pub said_does : (x : Sight) (rows : Rows) (p : List ℕ → Bool) (w w' : Worker) (taken : Option FrameView) (asked : Turn → Made) (q : Request) (peer : ℕ) (out : Output) → Says q peer w w' out
     → failed_in q.kind ≡ None → AreAfter q.kind rows rows → job_of q.kind ≡ Some w.number
     → ((rest : Rest) → asked (turn_in x rows p None rest w) ≡ request_made (turn_in x rows p None rest w) taken peer q)
-    → ((rest : Rest) → work_of rest (record w { phase = q.phase }) ≡ moved (turn_in x rows p None rest w) (request_made (turn_in x rows p None rest w) taken peer q))
+    → ((rest : Rest) → work_of rest (record w { phase = q.phase }) ≡ next_work (turn_in x rows p None rest w) (request_made (turn_in x rows p None rest w) taken peer q))
     → Does x rows rows p w w' taken asked out
 said_does x rows p w w' taken asked q peer out s = said_does_as x rows p w w' (record w { phase = q.phase }) taken asked q peer out s.kind s.sends s.next
 

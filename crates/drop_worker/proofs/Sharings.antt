@@ -40,7 +40,7 @@ use Rattle.drop_worker.specs.declared.phase.Token.TheVariants as tokens
 use Rattle.drop_worker.specs.declared.turn.Output.{Output}
 use Rattle.drop_worker.specs.Worker.{Worker}
 use Rattle.drop_worker.specs.Working.{Rest, Sight, failed_in, phase_as, present_in, turn_in, work_of}
-use Rattle.drop_worker.specs.Doing.{HasToken, contents_after, moved}
+use Rattle.drop_worker.specs.Doing.{HasToken, contents_after, next_work}
 use Rattle.drop_worker.specs.Feeding.{HasNoBar, IsBare}
 use Rattle.drop_worker.specs.Leaving.{Store}
 use Rattle.drop_worker.specs.Alike.{Alike, is_asked}
@@ -75,26 +75,26 @@ unheld t fails there free = rw (fails, there, free) refl
 
 -- ---- the work that follows
 
-next_gone : (t : Turn) → t.w.part ≡ Drops → t.w.phase ≡ Jobs.Fresh → is_there t ≡ false → moved t (quietly (talk t) None) ≡ hears t.w (me t) (Jobs.Lacks causes.Absent)
+next_gone : (t : Turn) → t.w.part ≡ Drops → t.w.phase ≡ Jobs.Fresh → is_there t ≡ false → next_work t (quietly (talk t) None) ≡ hears t.w (me t) (Jobs.Lacks causes.Absent)
 next_gone t drops fresh gone = rw (drops, fresh, gone) refl
 
-next_barred : (t : Turn) (job : ℕ) → t.w.part ≡ Drops → t.w.phase ≡ Jobs.Fresh → is_there t ≡ true → bar_there t ≡ Some job → moved t (quietly (talk t) None) ≡ hears t.w (me t) (Jobs.Lacks causes.Barred)
+next_barred : (t : Turn) (job : ℕ) → t.w.part ≡ Drops → t.w.phase ≡ Jobs.Fresh → is_there t ≡ true → bar_there t ≡ Some job → next_work t (quietly (talk t) None) ≡ hears t.w (me t) (Jobs.Lacks causes.Barred)
 next_barred t job drops fresh there bar = rw (drops, fresh, there, bar) refl
 
-next_unfound : (t : Turn) → t.w.part ≡ Drops → t.w.phase ≡ Jobs.Fresh → side_of t.w ≡ Remote → moved t (quietly (Fault calls.Has (by_me t)) None) ≡ hears t.w (me t) (Jobs.Lacks causes.Fault)
+next_unfound : (t : Turn) → t.w.part ≡ Drops → t.w.phase ≡ Jobs.Fresh → side_of t.w ≡ Remote → next_work t (quietly (Fault calls.Has (by_me t)) None) ≡ hears t.w (me t) (Jobs.Lacks causes.Fault)
 next_unfound t drops fresh remote = rw (drops, fresh, remote) refl
 
-next_unheld : (t : Turn) → t.w.part ≡ Drops → t.w.phase ≡ Jobs.Fresh → side_of t.w ≡ Remote → moved t (quietly (Fault calls.Hold (by_me t)) None) ≡ hears t.w (me t) (Jobs.Lacks causes.Fault)
+next_unheld : (t : Turn) → t.w.part ≡ Drops → t.w.phase ≡ Jobs.Fresh → side_of t.w ≡ Remote → next_work t (quietly (Fault calls.Hold (by_me t)) None) ≡ hears t.w (me t) (Jobs.Lacks causes.Fault)
 next_unheld t drops fresh remote = rw (drops, fresh, remote) refl
 
-next_look : (t : Turn) → t.w.part ≡ Drops → t.w.phase ≡ Jobs.Fresh → moved t (quietly (talk t) None) ≡ first_look (me t) t.w t.w.part (is_there t) (bar_there t)
+next_look : (t : Turn) → t.w.part ≡ Drops → t.w.phase ≡ Jobs.Fresh → next_work t (quietly (talk t) None) ≡ first_look (me t) t.w t.w.part (is_there t) (bar_there t)
 next_look t drops fresh = rw (drops, fresh) refl
 
 -- where its own repository isn't asked, what it hears of it makes no difference
-next_unasked : (r : Reading) (t : Turn) → t.read ≡ r → t.w.part ≡ Drops → t.w.phase ≡ Jobs.Fresh → is_asked (r.standing r.repo) ≡ false → Alike r (to_phase t.w Jobs.Next) (moved t (quietly (talk t) None))
+next_unasked : (r : Reading) (t : Turn) → t.read ≡ r → t.w.part ≡ Drops → t.w.phase ≡ Jobs.Fresh → is_asked (r.standing r.repo) ≡ false → Alike r (to_phase t.w Jobs.Next) (next_work t (quietly (talk t) None))
 next_unasked r t read drops fresh unasked = subst (λ (v : Work). Alike r (to_phase t.w Jobs.Next) v) (sym moves) (go (is_there t) (bar_there t))
   where
-    moves : moved t (quietly (talk t) None) ≡ first_look r.repo t.w Drops (is_there t) (bar_there t)
+    moves : next_work t (quietly (talk t) None) ≡ first_look r.repo t.w Drops (is_there t) (bar_there t)
     moves = next_look t drops fresh ∙ (ap (λ (part : Part). first_look (me t) t.w part (is_there t) (bar_there t)) drops ∙ ap (λ (q : Reading). first_look q.repo t.w Drops (is_there t) (bar_there t)) read)
 
     go : (here : Bool) (bar : Option ℕ) → Alike r (to_phase t.w Jobs.Next) (first_look r.repo t.w Drops here bar)
@@ -132,7 +132,7 @@ module _ (x : Sight) (rows rows' : Rows) (k k' : Store) (w w' : Worker) (target 
   skipped_did standing out unasked quiet is kind sends next same kept agrees = (
     λ c told. quiet_alike x rows rows' (present_in c) w w' (λ t. goes t t.w.phase) (Talk (Some w.number)) out kind sends
         (λ rest. tries (present_in c) None rest ∙ (ap (tries_own (turn_in x rows (present_in c) None rest w)) is ∙ quiet (turn_in x rows (present_in c) None rest w)))
-        (λ rest. subst (λ (u : Worker). Alike x.read (work_of rest u) (moved (turn_in x rows (present_in c) None rest w) (quietly (Talk (Some w.number)) None))) (sym next)
+        (λ rest. subst (λ (u : Worker). Alike x.read (work_of rest u) (next_work (turn_in x rows (present_in c) None rest w) (quietly (Talk (Some w.number)) None))) (sym next)
         (next_unasked x.read (turn_in x rows (present_in c) None rest w) refl refl at (ap is_asked is ∙ unasked)))
         (quiet_after (Talk (Some w.number)) (record { holds = refl; bars = λ key. refl; fills = refl }) same) refl,
     leaves_remote rows rows' k k' w (record w { phase = phases.Next }) w' (Talk (Some w.number)) out kind next (quiet_after (Talk (Some w.number)) (record { holds = refl; bars = λ key. refl; fills = refl }) same)
@@ -153,13 +153,13 @@ module _ (x : Sight) (rows rows' : Rows) (k k' : Store) (w w' : Worker) (target 
     none_did : (kind : EntryKind) (cause : Cause) (r : Result Output NoMemory) → IfOk r (GivesNone kind cause heard_first w') × OnErr r ⊥ → AreAfter kind rows rows → job_of kind ≡ Some w.number → contents_after k.contents kind ≡ k.contents
         → IfSome (failed_in kind) (λ call. Rose k.faults k'.faults)
         → ((c : Contents) → k.contents ≡ Some c → (rest : Rest) → shares (turn_in x rows (present_in c) (failed_in kind) rest w) ≡ quietly kind None)
-        → ((c : Contents) → k.contents ≡ Some c → (rest : Rest) → moved (turn_in x rows (present_in c) (failed_in kind) rest w) (quietly kind None) ≡ hears (work_of rest w) x.read.repo (Jobs.Lacks cause))
+        → ((c : Contents) → k.contents ≡ Some c → (rest : Rest) → next_work (turn_in x rows (present_in c) (failed_in kind) rest w) (quietly kind None) ≡ hears (work_of rest w) x.read.repo (Jobs.Lacks cause))
         → DidRemote rows rows' k k' w w' (GoesAlike x k.contents rows rows' w w') r
     none_did kind cause (Err e) gives after whose still rose makes moves = absurd gives.1
     none_did kind cause (Ok out) gives after whose still rose makes moves = (
       λ c told. quiet_alike x rows rows' (present_in c) w w' (λ t. goes t t.w.phase) kind out gives.0.made gives.0.sends
           (λ rest. tries (present_in c) (failed_in kind) rest ∙ (ap (tries_own (turn_in x rows (present_in c) (failed_in kind) rest w)) asked ∙ makes c told rest))
-          (λ rest. alike_same x.read (work_of rest w') (moved (turn_in x rows (present_in c) (failed_in kind) rest w) (quietly kind None)) (ap (work_of rest) next ∙ sym (moves c told rest)))
+          (λ rest. alike_same x.read (work_of rest w') (next_work (turn_in x rows (present_in c) (failed_in kind) rest w) (quietly kind None)) (ap (work_of rest) next ∙ sym (moves c told rest)))
           (quiet_after kind after same) whose,
       leaves_remote rows rows' k k' w (record w { heard = (x.read.repo, heards.Lacks cause) ∷ w.heard; phase = phases.Next }) w' kind out gives.0.made next (quiet_after kind after same) (contents ∙ sym still) agrees' later rose
           (own' same) (λ going. unbarred w.token bare) (inr ((x.read.repo, heards.Lacks cause), refl)) refl refl (others_same w.number rows rows' same),

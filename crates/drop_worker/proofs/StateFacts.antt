@@ -1,7 +1,9 @@
 -- What a job reads of a state that it is, and the step of its slot.
-use Rattle.std.specs.Prelude.{if◌then◌else◌}
-use Rattle.std.proofs.Common.{◌≡◌, ℕ, Bool, true, Option, Some, None, refl, sym, ap, ◌∙◌, subst}
+use Rattle.std.specs.Prelude.{if◌then◌else◌, IfOk, OnErr}
+use Rattle.std.specs.Option.{ForSome}
+use Rattle.std.proofs.Common.{◌≡◌, ℕ, Bool, true, Option, Some, None, Result, Ok, Err, refl, sym, ap, ◌∙◌, subst}
 use Rattle.annex_base.specs.declared.kinds.Call.{Call}
+use Rattle.annex_base.specs.declared.memory.NoMemory.{NoMemory}
 use Rattle.drop_proof.specs.declared.rule.Side.{Side}
 use Rattle.run_data.specs.declared.entry.FrameView.{FrameView}
 use Rattle.node_model.specs.SetUp.{SetUp}
@@ -22,12 +24,17 @@ use Rattle.drop_worker.specs.declared.turn.Taken.{Taken}
 use Rattle.drop_worker.specs.declared.turn.Output.{Output}
 use Rattle.drop_worker.specs.Worker.{Worker}
 use Rattle.drop_worker.specs.Working.{Rest, Sight, end_in, failed_in, made_of, phase_as, present_in, turn_in, work_of}
-use Rattle.drop_worker.specs.Doing.{moved}
+use Rattle.drop_worker.specs.Calling.{AreLeft, Failing, MakesSo, calls_of}
+use Rattle.content_lock.specs.CallsMade.{MakesCalls}
+use Rattle.drop_worker.specs.Leaving.{stands_on}
+use Rattle.drop_worker.specs.SlotCalls.{slot_calls, turn_calls}
+use Rattle.drop_worker.specs.Doing.{next_work}
 use Rattle.drop_worker.specs.Feeding.{FedAt, FindsAt, step_of}
 use Rattle.drop_worker.specs.Sides.{IsNext, side_in}
 use Rattle.drop_worker.specs.Stepping.{DoesSo}
 use Rattle.drop_worker.specs.States.{IsSight, Keeps, Sees, StepsSo, rest_of}
 use Rattle.annex_base.proofs.Conditions.{eqb_refl}
+use Rattle.drop_worker.proofs.Callings.{makes_as}
 
 pub turn_is : (x : Sight) (rows : Rows) (contents : Contents) (s : SetUp) (st : State) (k : Look) (w : Worker) (v : Work) (fails : Option Call)
     → IsSight x s st k w v → Keeps rows contents st → k.fails ≡ fails → turn_in x rows (present_in contents) fails (rest_of s st k v) w ≡ turn_of s st k v
@@ -90,9 +97,9 @@ steps_so x rows rows' contents w w' taken out s st k v f sees d =
       made = (λ i. by_partner now (Jobs.partner (sym work i).what.peer (sym work i).phase))
           ∙ (found_step now o f (ap (λ (u : Work). is_awaiting u.phase) (sym work) ∙ awaiting w.phase) sees.finds (fed_open x now w.slot o f taken sees.sight.ends (ap (λ (u : Work). u.slot) work) sees.fed)
           ∙ ap (λ (m : Made). Some m) (sym (d.makes rest ∙ ap (step_of o f) is)));
-      next = λ going. next_at (side_in w) x.read (reading s st v) (work_of rest w') (moved turned (step_of o f turned))
+      next = λ going. next_at (side_in w) x.read (reading s st v) (work_of rest w') (next_work turned (step_of o f turned))
           (work_after (record { present = st.present; bar = st.bar; ends = st.ends }) s.number (entry_of s.number k made) v) sees.sight.read
-          (ap (moved turned) (sym (d.makes rest)) ∙ (ap (λ (t : Turn). moved t made) is ∙ sym (own_entry (option_is (job_of out.kind) v.number) whose))) (d.next going rest);
+          (ap (next_work turned) (sym (d.makes rest)) ∙ (ap (λ (t : Turn). next_work t made) is ∙ sym (own_entry (option_is (job_of out.kind) v.number) whose))) (d.next going rest);
     }
   where
     o : Option ℕ
@@ -119,5 +126,40 @@ steps_so x rows rows' contents w w' taken out s st k v f sees d =
     whose : option_is (job_of out.kind) v.number ≡ true
     whose = (λ i. option_is (d.whose i) (sym work i).number) ∙ eqb_refl w.number
 
-    own_entry : (b : Bool) → b ≡ true → (if b then moved now made else v) ≡ moved now made
+    own_entry : (b : Bool) → b ≡ true → (if b then next_work now made else v) ≡ next_work now made
     own_entry b e = rw e refl
+
+-- ---- its calls
+
+found_calls : (t : Turn) (o : Option ℕ) (f : Option FrameView) → is_awaiting t.w.phase ≡ true → FindsAt t o f → IsOpenAt t o f → turn_calls t o ≡ calls_of o f t
+found_calls t None f waits room live = rw room refl
+found_calls t (Some peer) None waits shut live = rw shut refl
+found_calls t (Some peer) (Some f) waits (at, room) live = rw (live, waits, at, room) refl
+
+slot_so : (x : Sight) (rows : Rows) (contents : Contents) (w : Worker) (taken : Taken) (failed : Option Call) (s : SetUp) (st : State) (k : Look) (v : Work) (f : Option FrameView) (before after : Failing)
+    → Sees x rows contents w taken failed s st k v f → MakesCalls (calls_of (stands_on w) f (turn_in x rows (present_in contents) failed (rest_of s st k v) w)) failed before after → MakesCalls (slot_calls s st k (Some v)) failed before after
+slot_so x rows contents w taken failed s st k v f before after sees m = makes_as (slot_calls s st k (Some v)) (calls_of (stands_on w) f turned) failed failed before after same refl m
+  where
+    turned : Turn
+    turned = turn_in x rows (present_in contents) failed (rest_of s st k v) w
+
+    now : Turn
+    now = turn_of s st k v
+
+    is : turned ≡ now
+    is = turn_is x rows contents s st k w v failed sees.sight sees.keeps sees.failing
+
+    work : work_of (rest_of s st k v) w ≡ v
+    work = sees.sight.work
+
+    same : turn_calls now (Jobs.partner v.what.peer v.phase) ≡ calls_of (stands_on w) f turned
+    same = (λ i. turn_calls now (Jobs.partner (sym work i).what.peer (sym work i).phase))
+        ∙ (found_calls now (stands_on w) f (ap (λ (u : Work). is_awaiting u.phase) (sym work) ∙ awaiting w.phase) sees.finds (fed_open x now w.slot (stands_on w) f taken sees.sight.ends (ap (λ (u : Work). u.slot) work) sees.fed)
+        ∙ ap (calls_of (stands_on w) f) (sym is))
+
+pub all_makes : (x : Sight) (known : Option Contents) (rows : Rows) (w : Worker) (taken : Taken) (before after : Failing) (r : Result Output NoMemory) → MakesSo x known rows w taken before after r
+    → IfOk r (λ out. ForSome known (λ c. (s : SetUp) (st : State) (k : Look) (v : Work) (f : Option FrameView) → Sees x rows c w taken (failed_in out.kind) s st k v f
+    → MakesCalls (slot_calls s st k (Some v)) (failed_in out.kind) before after)) × IfOk r (λ out. AreLeft (failed_in out.kind) before after) × OnErr r (after ≡ before)
+all_makes x known rows w taken before after (Ok out) m =
+    (λ c told s st k v f sees. slot_so x rows c w taken (failed_in out.kind) s st k v f before after sees (m.1 c told f sees.fed (rest_of s st k v)), m.0, tt)
+all_makes x known rows w taken before after (Err e) m = (tt, tt, m)

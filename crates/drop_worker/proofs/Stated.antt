@@ -17,14 +17,14 @@ use Rattle.drop_worker.specs.declared.phase.Phase.TheVariants as phases
 use Rattle.drop_worker.specs.declared.turn.Output.{Output}
 use Rattle.drop_worker.specs.Worker.{Worker}
 use Rattle.drop_worker.specs.Working.{Sight, failed_in, present_in, turn_in}
-use Rattle.drop_worker.specs.Judging.{cause_at, gathered, offer_of, others_in}
+use Rattle.drop_worker.specs.Judging.{cause_at, evidence_of, offer_of, others_in}
 use Rattle.drop_worker.specs.Leaving.{ActsOver, Did, GoesSo, Store}
 use Rattle.drop_worker.proofs.Doings.{does_as}
 use Rattle.drop_worker.proofs.Evidences.{dropped_is, lacks_is}
 use Rattle.drop_worker.proofs.Leavings.{did_as, goes_did}
 
 module _ (x : Sight) (rows rows' : Rows) (k : Store) (w w' : Worker) (r : Result Output NoMemory) (items : List Evidence) (proof : Proof) (local : drop_side w.job.kind w.job.peer ≡ Local)
-    (is : items ≡ gathered Local x.read w (others_in x.read) []) (proves : proof ≡ proof_of x.read.count x.read.need items) where
+    (is : items ≡ evidence_of Local x.read w (others_in x.read) []) (proves : proof ≡ proof_of x.read.count x.read.need items) where
   pub lacks_did : (causes : List CandidateCause) → causes ≡ failures (offer_of x.read w) (cause_at x.read w) (others_in x.read)
       → Did rows rows' k k w w' (ActsOver x k.contents rows rows' w w' (λ t. ends t None (Refused (refusals.Lacking proof causes)))) r
       → Did rows rows' k k w w' (ActsOver x k.contents rows rows' w w' (λ t. ends t None (lacking t))) r

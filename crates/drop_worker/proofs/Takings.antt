@@ -27,7 +27,7 @@ use Rattle.drop_worker.specs.declared.turn.Taken.TheVariants as takens
 use Rattle.drop_worker.specs.Worker.{Worker}
 use Rattle.drop_worker.specs.Working.{Rest, Sight, heard_as, end_in, frames_of, phase_as, taken_line, taken_of, turn_in, work_of}
 use Rattle.node_model.specs.Slots.{job_of}
-use Rattle.drop_worker.specs.Doing.{Does, Comes, GoesOn, Grows, Talks, moved}
+use Rattle.drop_worker.specs.Doing.{Does, Comes, GoesOn, Grows, Talks, next_work}
 use Rattle.drop_worker.proofs.Talks.{on_heard, on_said, on_shut, open_line}
 
 -- ---- the line that came
@@ -70,20 +70,20 @@ module _ (t : Turn) (f : FrameView) (peer : ℕ) (took : Message) (n : ℕ) (dro
   told : taken_message (Some f) ≡ Some took
   told = rw (l.is, l.reads) refl
 
-  pub moved_heard : moved t (hears t f) ≡ took_line now_work (Some took)
+  pub moved_heard : next_work t (hears t f) ≡ took_line now_work (Some took)
   moved_heard =
       let rows : Jobs.Rows = record { present = t.present; bar = t.bar; ends = t.ends } in
       here (hears t f) rows ∙ (on_heard rows (me t) now_work (entry_of (me t) t.look (hears t f)) peer refl (open_line (job_end t.w peer) (end_with t peer) f l.text l.is live)
       ∙ (ap (took_was now_work) l.is ∙ ap (took_line now_work) l.reads))
 
-  pub moved_said : (m : Message) → message_of (text_of m) ≡ Some m → moved t (says_to t (talk t) (Some f) peer m) ≡ says now_work t.look.time peer (Some took) m
+  pub moved_said : (m : Message) → message_of (text_of m) ≡ Some m → next_work t (says_to t (talk t) (Some f) peer m) ≡ says now_work t.look.time peer (Some took) m
   moved_said m reads =
       let rows : Jobs.Rows = record { present = t.present; bar = t.bar; ends = t.ends } in
       here (says_to t (talk t) (Some f) peer m) rows
       ∙ (on_said rows (me t) now_work (entry_of (me t) t.look (says_to t (talk t) (Some f) peer m)) peer m refl (open_line (job_end t.w peer) (end_with t peer) f l.text l.is live) reads
       ∙ ap (λ (o : Option Message). says now_work t.look.time peer o m) told)
 
-  pub moved_shut : moved t (wrong t f peer) ≡ closed_part (me t) now_work peer Drops
+  pub moved_shut : next_work t (wrong t f peer) ≡ closed_part (me t) now_work peer Drops
   moved_shut =
       let rows : Jobs.Rows = record { present = t.present; bar = t.bar; ends = t.ends } in
       here (wrong t f peer) rows ∙ (on_shut rows (me t) now_work (entry_of (me t) t.look (wrong t f peer)) peer refl ∙ ap (closed_part (me t) now_work peer) drops)
@@ -97,7 +97,7 @@ closed_local r w peer local apart = rw (local, apart) refl
 pub talk_does : (x : Sight) (rows : Rows) (p : List ℕ → Bool) (w w' : Worker) (taken : Option FrameView) (asked : Turn → Made) (items : List Parcel) (out : Output) → out.kind ≡ Talk (Some w.number)
     → out.sends.items ≡ items
     → ((rest : Rest) → record { kind = Talk (Some w.number); taken = taken; sent = frames_of x.ends w.slot items; lines = [] } ≡ asked (turn_in x rows p None rest w))
-    → ((rest : Rest) → work_of rest w' ≡ moved (turn_in x rows p None rest w) (asked (turn_in x rows p None rest w))) → Does x rows rows p w w' taken asked out
+    → ((rest : Rest) → work_of rest w' ≡ next_work (turn_in x rows p None rest w) (asked (turn_in x rows p None rest w))) → Does x rows rows p w w' taken asked out
 talk_does x rows p w w' taken asked items out kind sends f n =
     record {
       makes = λ rest. rw (kind, sends) (f rest);
@@ -133,7 +133,7 @@ module _ (x : Sight) (rows : Rows) (p : List ℕ → Bool) (w w' : Worker) (f : 
   hear_does sends makes next =
       let is : (rest : Rest) → hears (turn rest) f ≡ asked (turn rest) = λ rest. makes rest ∙ line_takes (turn rest) f peer took line in
       talk_does x rows p w w' (Some f) asked [] out kind sends is
-      (λ rest. next rest ∙ (sym (moved_heard (turn rest) f peer took n refl (learn rest) with_peer line comes.live) ∙ ap (moved (turn rest)) (is rest)))
+      (λ rest. next rest ∙ (sym (moved_heard (turn rest) f peer took n refl (learn rest) with_peer line comes.live) ∙ ap (next_work (turn rest)) (is rest)))
 
   pub say_does : (m : Message) → out.sends.items ≡ record { peer = peer; body = bodies.Message m } ∷ [] → message_of (text_of m) ≡ Some m
       → ((rest : Rest) → says_to (turn rest) (talk (turn rest)) (Some f) peer m ≡ takes (turn rest) f peer (phase_as w.phase) took)
@@ -142,7 +142,7 @@ module _ (x : Sight) (rows : Rows) (p : List ℕ → Bool) (w w' : Worker) (f : 
       let is : (rest : Rest) → says_to (turn rest) (talk (turn rest)) (Some f) peer m ≡ asked (turn rest) = λ rest. makes rest ∙ line_takes (turn rest) f peer took line in
       talk_does x rows p w w' (Some f) asked _ out kind sends
       (λ rest. (λ i. record { kind = Talk (Some w.number); taken = Some f; sent = one_parcel x w.slot peer m i; lines = [] }) ∙ is rest)
-      (λ rest. next rest ∙ (sym (moved_said (turn rest) f peer took n refl (learn rest) with_peer line comes.live m reads) ∙ ap (moved (turn rest)) (is rest)))
+      (λ rest. next rest ∙ (sym (moved_said (turn rest) f peer took n refl (learn rest) with_peer line comes.live m reads) ∙ ap (next_work (turn rest)) (is rest)))
 
   pub shut_does : drop_side w.job.kind w.job.peer ≡ Local → out.sends.items ≡ record { peer = peer; body = bodies.Close } ∷ []
       → w' ≡ record w { heard = (peer, heards.Lacks causes.Closed) ∷ w.heard; phase = phases.Next; version = n }
@@ -152,7 +152,7 @@ module _ (x : Sight) (rows : Rows) (p : List ℕ → Bool) (w w' : Worker) (f : 
       talk_does x rows p w w' (Some f) asked _ out kind sends
       (λ rest. (λ i. record { kind = Talk (Some w.number); taken = Some f; sent = close_parcel x w.slot peer i; lines = [] }) ∙ is rest)
       (λ rest. ap (work_of rest) next ∙ (sym (closed_local x.read.repo (record (work_of rest w) { version = n }) peer local comes.apart)
-      ∙ (sym (moved_shut (turn rest) f peer took n refl (learn rest) with_peer line comes.live) ∙ ap (moved (turn rest)) (is rest))))
+      ∙ (sym (moved_shut (turn rest) f peer took n refl (learn rest) with_peer line comes.live) ∙ ap (next_work (turn rest)) (is rest))))
 
 pub if_ok : {T E : Type 0} (r : Result T E) (P Q : T → Type 0) → IfOk r P → ((y : T) → P y → Q y) → IfOk r Q
 if_ok (Ok y) P Q a f = f y a

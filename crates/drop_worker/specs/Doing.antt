@@ -35,14 +35,14 @@ use Rattle.drop_worker.specs.Worker.{Worker}
 use Rattle.drop_worker.specs.Working.{Rest, Sight, end_in, failed_in, taken_of, made_of, sight, turn_in, work_of}
 
 -- the work after the entry that a turn makes
-abbrev pub moved : Turn → Made → Work
-moved t m = work_kind (record { present = t.present; bar = t.bar; ends = t.ends }) (me t) t.w (entry_of (me t) t.look m) m.kind
+abbrev pub next_work : Turn → Made → Work
+next_work t m = work_kind (record { present = t.present; bar = t.bar; ends = t.ends }) (me t) t.w (entry_of (me t) t.look m) m.kind
 
 -- a step over rows, where these contents are there: it makes what is asked, its entry changes the rows, and the work that follows
 -- is the next one
 pub record Does (x : Sight) (rows rows' : Rows) (present : List ℕ → Bool) (w w' : Worker) (taken : Option FrameView) (asked : Turn → Made) (out : Output) : Type 0 where
   pub makes : (rest : Rest) → made_of x w taken out ≡ asked (turn_in x rows present (failed_in out.kind) rest w)
-  pub next : out.ended ≡ false → (rest : Rest) → work_of rest w' ≡ moved (turn_in x rows present (failed_in out.kind) rest w) (asked (turn_in x rows present (failed_in out.kind) rest w))
+  pub next : out.ended ≡ false → (rest : Rest) → work_of rest w' ≡ next_work (turn_in x rows present (failed_in out.kind) rest w) (asked (turn_in x rows present (failed_in out.kind) rest w))
   pub after : AreAfter out.kind rows rows'
   pub whose : job_of out.kind ≡ Some w.number
 

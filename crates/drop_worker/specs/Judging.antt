@@ -41,8 +41,9 @@ asks_of r w c = is_unasked (r.standing c) (heard_in w.heard c)
 abbrev pub others_in : Reading → List ℕ
 others_in r = but r.repo (range_with_len 0 r.count)
 
-abbrev pub gathered : Side → Reading → Worker → List ℕ → List Evidence → List Evidence
-gathered side r w cs items = gather side r.need (offer_of r w) (reached_candidates (asks_of r w) cs) items
+-- the evidence of these candidates, up to the first that is to be asked, behind these items
+abbrev pub evidence_of : Side → Reading → Worker → List ℕ → List Evidence → List Evidence
+evidence_of side r w cs items = gather side r.need (offer_of r w) (reached_candidates (asks_of r w) cs) items
 
 -- what was heard gives
 abbrev pub offer_heard : (ℕ → ℕ) → Option Heard → Offer

@@ -102,5 +102,5 @@ abbrev pub Unbarred : BarRefused → Worker → Worker → SendsView → Result 
 Unbarred bars.Absent w w' sends r = IsRefusal refusals.NotPresent w w' sends r
 Unbarred (bars.Barred job) w w' sends r = IsRefusal (refusals.Barred job) w w' sends r
 Unbarred (bars.Held hold until) w w' sends r = IsRefusal (refusals.Held until) w w' sends r
-Unbarred bars.StoreFault w w' sends r = IfOk r (Fails w w') × OnErr r (w' ≡ w)
+Unbarred bars.StoreFault w w' sends r = IfOk r (Fails w w') × OnErr r ⊥
 Unbarred bars.NoMemory w w' sends r = IfOk r (λ out. ⊥) × (w' ≡ w)

@@ -13,3 +13,5 @@ pub mod Remote
 pub mod Begun
 pub mod Sides
 pub mod Stepping
+pub mod SlotCalls
+pub mod Calling

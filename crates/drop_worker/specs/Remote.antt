@@ -43,10 +43,10 @@ use Rattle.drop_worker.specs.declared.turn.Taken.{Taken}
 use Rattle.drop_worker.specs.declared.turn.ParcelBody.TheVariants as bodies
 use Rattle.drop_worker.specs.Worker.{Worker}
 use Rattle.drop_worker.specs.Working.{Rest, Sight, end_in, failed_in, made_of, present_in, sight, turn_in, work_of}
-use Rattle.drop_worker.specs.Doing.{Does, Grows, HasToken, OthersStay, contents_after, moved}
+use Rattle.drop_worker.specs.Doing.{Does, Grows, HasToken, OthersStay, contents_after, next_work}
 use Rattle.drop_worker.specs.Alike.{Alike}
 use Rattle.drop_worker.specs.Feeding.{Fed, FitsRemote, HasNoBar, step_of}
-use Rattle.drop_worker.specs.Judging.{gathered, is_owing, others_in}
+use Rattle.drop_worker.specs.Judging.{evidence_of, is_owing, others_in}
 use Rattle.drop_worker.specs.Leaving.{Store, Stays}
 
 -- ---- what it is
@@ -70,7 +70,7 @@ abbrev pub remote_candidates : Reading → ℕ → List ℕ
 remote_candidates r target = r.repo ∷ but target (but r.repo (range_with_len 0 r.count))
 
 abbrev pub known_remotely : Reading → ℕ → Worker → List Evidence
-known_remotely r target w = gathered Remote r w (remote_candidates r target) []
+known_remotely r target w = evidence_of Remote r w (remote_candidates r target) []
 
 -- ---- its requests
 
@@ -165,7 +165,7 @@ EndsSo read ends_at time rows rows' w w' outcome out =
 -- a step does what is asked, and the job's work after it is alike the worker
 pub record DoesAlike (x : Sight) (rows rows' : Rows) (present : List ℕ → Bool) (w w' : Worker) (taken : Option FrameView) (asked : Turn → Made) (out : Output) : Type 0 where
   pub makes : (rest : Rest) → made_of x w taken out ≡ asked (turn_in x rows present (failed_in out.kind) rest w)
-  pub next : out.ended ≡ false → (rest : Rest) → Alike x.read (work_of rest w') (moved (turn_in x rows present (failed_in out.kind) rest w) (asked (turn_in x rows present (failed_in out.kind) rest w)))
+  pub next : out.ended ≡ false → (rest : Rest) → Alike x.read (work_of rest w') (next_work (turn_in x rows present (failed_in out.kind) rest w) (asked (turn_in x rows present (failed_in out.kind) rest w)))
   pub after : AreAfter out.kind rows rows'
   pub whose : job_of out.kind ≡ Some w.number
 
@@ -177,8 +177,8 @@ is_ordering phases.Orders = true
 is_ordering phase = false
 
 -- the job after its connection with this peer was closed: its target is lost, any other gives nothing
-abbrev pub parted : Worker → ℕ → ℕ → Worker
-parted w target peer =
+abbrev pub without_peer : Worker → ℕ → ℕ → Worker
+without_peer w target peer =
     if target == peer then record w { phase = phases.Ends (endings.Lost (is_ordering w.phase)) }
     else record w { heard = (peer, heards.Lacks causes.Closed) ∷ w.heard; phase = phases.Next }
 
@@ -187,7 +187,7 @@ pub record ShutsRemote (target peer : ℕ) (w w' : Worker) (out : Output) : Type
   pub kind : out.kind ≡ Talk (Some w.number)
   pub sends : out.sends.items ≡ record { peer = peer; body = bodies.Close } ∷ []
   pub goes_on : out.ended ≡ false
-  pub next : w' ≡ parted w target peer
+  pub next : w' ≡ without_peer w target peer
 
 -- a step goes on from where the job stands, and its work after it is alike the worker
 abbrev pub GoesAlike : Sight → Option Contents → Rows → Rows → Worker → Worker → Output → Type 0

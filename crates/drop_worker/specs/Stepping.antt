@@ -16,7 +16,7 @@ use Rattle.drop_worker.specs.declared.turn.Output.{Output}
 use Rattle.drop_worker.specs.declared.turn.Taken.{Taken}
 use Rattle.drop_worker.specs.Worker.{Worker}
 use Rattle.drop_worker.specs.Working.{Rest, Sight, failed_in, made_of, present_in, turn_in, work_of}
-use Rattle.drop_worker.specs.Doing.{Grows, HasToken, OthersStay, contents_after, moved}
+use Rattle.drop_worker.specs.Doing.{Grows, HasToken, OthersStay, contents_after, next_work}
 use Rattle.drop_worker.specs.Feeding.{FedAt, KeepsAnswer, KeepsWord, step_of}
 use Rattle.drop_worker.specs.Leaving.{Stays, Store, stands_on}
 use Rattle.drop_worker.specs.Remote.{DoesAlike}
@@ -26,7 +26,7 @@ use Rattle.drop_worker.specs.Sides.{Fits, IsNext, side_in}
 pub record DoesSo (x : Sight) (rows rows' : Rows) (present : List ℕ → Bool) (w w' : Worker) (taken : Option FrameView) (asked : Turn → Made) (out : Output) : Type 0 where
   pub makes : (rest : Rest) → made_of x w taken out ≡ asked (turn_in x rows present (failed_in out.kind) rest w)
   pub next : out.ended ≡ false → (rest : Rest)
-      → IsNext (side_in w) x.read (work_of rest w') (moved (turn_in x rows present (failed_in out.kind) rest w) (asked (turn_in x rows present (failed_in out.kind) rest w)))
+      → IsNext (side_in w) x.read (work_of rest w') (next_work (turn_in x rows present (failed_in out.kind) rest w) (asked (turn_in x rows present (failed_in out.kind) rest w)))
   pub after : AreAfter out.kind rows rows'
   pub whose : job_of out.kind ≡ Some w.number
 

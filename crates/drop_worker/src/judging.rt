@@ -9,7 +9,9 @@ ghost use Rattle.node_model.specs.Turns.{next_needs, next_step};
 ghost use Rattle.content_lock.specs.Rows.{Rows};
 ghost use Rattle.drop_worker.specs.Working.{Rest, sight, turn_in};
 ghost use Rattle.drop_worker.specs.Begun.{IsOther};
-ghost use Rattle.drop_worker.specs.Judging.{step_by, needs_by, asks_of, gathered, offer_as, offer_heard, offer_of, others_in};
+ghost use Rattle.drop_worker.specs.Calling.{calls_by};
+ghost use Rattle.drop_worker.specs.SlotCalls.{next_calls};
+ghost use Rattle.drop_worker.specs.Judging.{step_by, needs_by, asks_of, evidence_of, offer_as, offer_heard, offer_of, others_in};
 
 use crate::here::{Here, Standing};
 use crate::phase::Heard;
@@ -116,7 +118,7 @@ pub fn gather<H: Here>(
     side: Side,
     candidates: &[u32],
 ) -> Result<Vec<Evidence>, NoMemory>
-    ensures known { IfOk result (λ items. items.items ≡ gathered side (H.reading here.now) worker.now candidates.now []) }
+    ensures known { IfOk result (λ items. items.items ≡ evidence_of side (H.reading here.now) worker.now candidates.now []) }
     ensures few { IfOk result (λ items. length items.items ≤ length candidates.now) }
 {
     let mut items = Vec::new(alloc);
@@ -167,10 +169,11 @@ pub fn judge<H: Here>(
 ) -> Verdict
     requires local { drop_side worker.now.job.kind worker.now.job.peer ≡ sides.Local }
     requires all { candidates.now ≡ others_in (H.reading here.now) }
-    requires known { items.now ≡ gathered sides.Local (H.reading here.now) worker.now candidates.now [] }
+    requires known { items.now ≡ evidence_of sides.Local (H.reading here.now) worker.now candidates.now [] }
     requires few { length items.now < 2 ^ 32 }
     ensures step { (number : ℕ) (rows : Rows) (p : List ℕ → Bool) (fails : Option Call) (rest : Rest) → step_by result (turn_in (sight (H.reading here.now) (H.ends here.now) time number) rows p fails rest worker.now) ≡ next_step (turn_in (sight (H.reading here.now) (H.ends here.now) time number) rows p fails rest worker.now) Drops }
     ensures needs { (number : ℕ) (rows : Rows) (p : List ℕ → Bool) (fails : Option Call) (rest : Rest) → needs_by result (turn_in (sight (H.reading here.now) (H.ends here.now) time number) rows p fails rest worker.now) ≡ next_needs (turn_in (sight (H.reading here.now) (H.ends here.now) time number) rows p fails rest worker.now) Drops }
+    ensures calls { (number : ℕ) (rows : Rows) (p : List ℕ → Bool) (fails : Option Call) (rest : Rest) → calls_by result (turn_in (sight (H.reading here.now) (H.ends here.now) time number) rows p fails rest worker.now) ≡ next_calls (turn_in (sight (H.reading here.now) (H.ends here.now) time number) rows p fails rest worker.now) Drops }
     ensures other { (peer : ℕ) → result ≡ Verdict.Asks peer → IsOther (H.reading here.now) peer }
 {
     match drop_proof::judge(items, here.need(), Side::Local) {

@@ -1,5 +1,5 @@
 //! The steps of a local drop that take no frame.
-ghost use Rattle.std.specs.Prelude.{◌≡◌, ℕ, List, [], Bool, true, false, Some, None, IfOk, if◌then◌else◌};
+ghost use Rattle.std.specs.Prelude.{◌≡◌, ℕ, List, [], ◌∷◌, Bool, true, false, Some, None, IfOk, if◌then◌else◌};
 ghost use Rattle.drop_proof.specs.declared.rule.Side.TheVariants as sides;
 ghost use Rattle.node_model.specs.Rows.{is_lost_ordered};
 ghost use Rattle.node_model.specs.Jobs.{drop_side, partner};
@@ -8,11 +8,12 @@ ghost use Rattle.node_model.specs.Knows.{Reading};
 ghost use Rattle.node_model.specs.DropStep.{lacking};
 ghost use Rattle.node_model.specs.Requests.{goes_to};
 ghost use Rattle.content_lock.specs.Rows.{Rows, bar_at};
-ghost use Rattle.drop_worker.specs.Working.{Sight, phase_as, sight};
+ghost use Rattle.drop_worker.specs.Working.{Sight, failed_in, phase_as, sight};
 ghost use Rattle.drop_worker.specs.Doing.{HasToken, IsBar, OthersStay, is_barring, removes_now};
 ghost use Rattle.drop_worker.specs.Feeding.{FitsLocal, IsOfLocal};
 ghost use Rattle.drop_worker.specs.Begun.{HasEnded, HasGone, IsOther};
-ghost use Rattle.drop_worker.specs.Judging.{gathered, others_in};
+ghost use Rattle.drop_worker.specs.Judging.{evidence_of, others_in};
+ghost use Rattle.drop_worker.specs.Calling.{MakesOver, MakesPhase};
 ghost use Rattle.drop_worker.specs.Leaving.{ActsOver, Did, GoesSo, Store, Unbarred, store};
 
 use crate::evidence::{failures, proof};
@@ -48,6 +49,7 @@ pub(crate) fn act<K: Keeper, H: Here>(
     ensures does { Did table.old table.new (store (K.contents keeper.old) (K.records keeper.old) (K.faults keeper.old)) (store (K.contents keeper.new) (K.records keeper.new) (K.faults keeper.new)) worker.old worker.new
         (GoesSo (sight (H.reading here.now) (H.ends here.now) input.now.time input.now.number) (K.contents keeper.old) table.old table.new worker.old worker.new) result }
     ensures begun { IfOk result (HasGone (H.reading here.now) worker.old worker.new) }
+    ensures calls { MakesPhase (sight (H.reading here.now) (H.ends here.now) input.now.time input.now.number) (K.contents keeper.old) table.old worker.old (K.failing keeper.old) (K.failing keeper.new) result }
     ensures parts { K.parts keeper.new ≡ K.parts keeper.old }
     ensures files { K.files keeper.new ≡ K.files keeper.old }
 {
@@ -78,6 +80,7 @@ fn begin<K: Keeper, H: Here>(
     ensures does { Did table.old table.new (store (K.contents keeper.old) (K.records keeper.old) (K.faults keeper.old)) (store (K.contents keeper.new) (K.records keeper.new) (K.faults keeper.new)) worker.old worker.new
         (GoesSo (sight (H.reading here.now) (H.ends here.now) input.now.time input.now.number) (K.contents keeper.old) table.old table.new worker.old worker.new) result }
     ensures begun { IfOk result (HasGone (H.reading here.now) worker.old worker.new) }
+    ensures calls { MakesPhase (sight (H.reading here.now) (H.ends here.now) input.now.time input.now.number) (K.contents keeper.old) table.old worker.old (K.failing keeper.old) (K.failing keeper.new) result }
     ensures parts { K.parts keeper.new ≡ K.parts keeper.old }
     ensures files { K.files keeper.new ≡ K.files keeper.old }
 {
@@ -144,6 +147,7 @@ fn go_on<K: Keeper, H: Here>(
     ensures does { (number : ℕ) → Did table.old table.new (store (K.contents keeper.old) (K.records keeper.old) (K.faults keeper.old)) (store (K.contents keeper.new) (K.records keeper.new) (K.faults keeper.new)) worker.old worker.new
         (GoesSo (sight (H.reading here.now) (H.ends here.now) time number) (K.contents keeper.old) table.old table.new worker.old worker.new) result }
     ensures begun { IfOk result (HasGone (H.reading here.now) worker.old worker.new) }
+    ensures calls { (number : ℕ) → MakesPhase (sight (H.reading here.now) (H.ends here.now) time number) (K.contents keeper.old) table.old worker.old (K.failing keeper.old) (K.failing keeper.new) result }
     ensures parts { K.parts keeper.new ≡ K.parts keeper.old }
     ensures files { K.files keeper.new ≡ K.files keeper.old }
 {
@@ -171,6 +175,7 @@ fn remove<K: Keeper>(
     ensures does { (x : Sight) → Did table.old table.new (store (K.contents keeper.old) (K.records keeper.old) (K.faults keeper.old)) (store (K.contents keeper.new) (K.records keeper.new) (K.faults keeper.new)) worker.old worker.new
         (ActsOver x (K.contents keeper.old) table.old table.new worker.old worker.new removes_now) result }
     ensures begun { IfOk result (λ out. (r : Reading) → HasGone r worker.old worker.new out) }
+    ensures calls { (x : Sight) → MakesOver x (K.contents keeper.old) table.old worker.old (λ t. Call.Remove ∷ []) (K.failing keeper.old) (K.failing keeper.new) result }
     ensures parts { K.parts keeper.new ≡ K.parts keeper.old }
     ensures files { K.files keeper.new ≡ K.files keeper.old }
 {
@@ -206,6 +211,7 @@ fn ask<H: Here>(
     requires other { IsOther (H.reading here.now) peer }
     ensures does { (number : ℕ) (rows : Rows) (k : Store) → HasToken worker.old.number worker.old.job.key worker.old.token rows → Did rows rows k k worker.old worker.new
         (ActsOver (sight (H.reading here.now) (H.ends here.now) time number) k.contents rows rows worker.old worker.new (λ t. goes_to t peer)) result }
+    ensures faultless { IfOk result (λ out. failed_in out.kind ≡ None) }
     ensures begun { IfOk result (HasGone (H.reading here.now) worker.old worker.new) }
 {
     if !here.is_open(peer, worker.slot()) {
@@ -254,7 +260,7 @@ fn lack<H: Here>(
     requires side { drop_side worker.old.job.kind worker.old.job.peer ≡ sides.Local }
     requires local { IsOfLocal worker.old.token }
     requires all { candidates.now ≡ others_in (H.reading here.now) }
-    requires known { items.now ≡ gathered sides.Local (H.reading here.now) worker.old candidates.now [] }
+    requires known { items.now ≡ evidence_of sides.Local (H.reading here.now) worker.old candidates.now [] }
     requires owns { HasToken worker.old.number worker.old.job.key worker.old.token table.old }
     ensures does { (time : ℕ) (number : ℕ) (k : Store) → Did table.old table.new k k worker.old worker.new
         (ActsOver (sight (H.reading here.now) (H.ends here.now) time number) k.contents table.old table.new worker.old worker.new (λ t. ends t None (lacking t))) result }

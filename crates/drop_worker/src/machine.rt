@@ -1,7 +1,7 @@
 //! The step of a drop, which its contract ties to the step of the job's slot.
 ghost use Rattle.std.specs.Prelude.{◌≡◌, ◌≤◌, ◌<◌, ◌==◌, ℕ, All, List, map, false, Some, None, if◌then◌else◌, IfOk, IfSome, OnErr};
 ghost use Rattle.std.specs.declared.option.Option.{Option};
-ghost use Rattle.std.specs.Option.{ForSome};
+ghost use Rattle.std.specs.Option.{ForSome, option_map};
 ghost use Rattle.annex_base.specs.Causes.{Rose};
 ghost use Rattle.drop_proof.specs.declared.rule.Side.TheVariants as sides;
 ghost use Rattle.run_data.specs.declared.entry.FrameView.{FrameView};
@@ -19,6 +19,9 @@ ghost use Rattle.drop_worker.specs.Leaving.{Advances, Did, store};
 ghost use Rattle.drop_worker.specs.Remote.{DidRemote, StandsRemote};
 ghost use Rattle.drop_worker.specs.Sides.{CanShare, Fits, HasTarget, IsNumbered, side_in};
 ghost use Rattle.drop_worker.specs.States.{Sees, StepsSo};
+ghost use Rattle.drop_worker.specs.Calling.{MakesSo};
+ghost use Rattle.content_lock.specs.CallsMade.{MakesCalls, fewer};
+ghost use Rattle.drop_worker.specs.SlotCalls.{slot_calls};
 ghost use Rattle.drop_worker.specs.Stepping.{AdvancesAlike, AdvancesSo, DidSo};
 
 use crate::here::Here;
@@ -51,6 +54,14 @@ pub fn step<K: Keeper, H: Here>(
     ensures step { IfOk result (λ out. ForSome (K.contents keeper.old) (λ c. (s : SetUp) (st : State) (k : Look) (v : Work) (f : Option FrameView)
         → Sees (sight (H.reading here.now) (H.ends here.now) input.now.time input.now.number) table.old c worker.old input.now.taken (failed_in out.kind) s st k v f
         → StepsSo (sight (H.reading here.now) (H.ends here.now) input.now.time input.now.number) worker.old worker.new out s st k v f)) }
+
+    // Of each such state: of the calls that the slot's step makes, the first that was to fail has failed.
+    ensures calls { IfOk result (λ out. ForSome (K.contents keeper.old) (λ c. (s : SetUp) (st : State) (k : Look) (v : Work) (f : Option FrameView)
+        → Sees (sight (H.reading here.now) (H.ends here.now) input.now.time input.now.number) table.old c worker.old input.now.taken (failed_in out.kind) s st k v f
+        → MakesCalls (slot_calls s st k (Some v)) (failed_in out.kind) (K.failing keeper.old) (K.failing keeper.new))) }
+    ensures left { IfOk result (λ out. K.failing keeper.new ≡ option_map (fewer (failed_in out.kind)) (K.failing keeper.old)) }
+    ensures err_failing { OnErr result (K.failing keeper.new ≡ K.failing keeper.old) }
+
     ensures word { IfOk result (λ out. KeepsWord input.now.taken input.now.word worker.old worker.new) }
     ensures answer { IfOk result (λ out. KeepsAnswer input.now.taken input.now.word worker.old worker.new) }
     ensures heard { Grows worker.old.heard worker.new.heard }
@@ -94,6 +105,7 @@ fn advance<K: Keeper, H: Here>(
         (AdvancesSo (sight (H.reading here.now) (H.ends here.now) input.now.time input.now.number) (K.contents keeper.old) table.old table.new worker.old worker.new input.now.taken input.now.word) result }
     ensures begun { side_in worker.old ≡ sides.Local → IfOk result (λ out. CanStand (H.reading here.now) worker.old.phase → HasGone (H.reading here.now) worker.old worker.new out) }
     ensures numbered { IfOk result (λ out. IsNumbered input.now.number out.kind) }
+    ensures calls { MakesSo (sight (H.reading here.now) (H.ends here.now) input.now.time input.now.number) (K.contents keeper.old) table.old worker.old input.now.taken (K.failing keeper.old) (K.failing keeper.new) result }
     ensures parts { K.parts keeper.new ≡ K.parts keeper.old }
     ensures files { K.files keeper.new ≡ K.files keeper.old }
 {
@@ -120,6 +132,7 @@ fn step_local<K: Keeper, H: Here>(
         (Advances (sight (H.reading here.now) (H.ends here.now) input.now.time input.now.number) (K.contents keeper.old) table.old table.new worker.old worker.new input.now.taken input.now.word) result }
     ensures begun { IfOk result (λ out. CanStand (H.reading here.now) worker.old.phase → HasGone (H.reading here.now) worker.old worker.new out) }
     ensures numbered { IfOk result (λ out. IsNumbered input.now.number out.kind) }
+    ensures calls { MakesSo (sight (H.reading here.now) (H.ends here.now) input.now.time input.now.number) (K.contents keeper.old) table.old worker.old input.now.taken (K.failing keeper.old) (K.failing keeper.new) result }
     ensures parts { K.parts keeper.new ≡ K.parts keeper.old }
     ensures files { K.files keeper.new ≡ K.files keeper.old }
 {
@@ -146,6 +159,7 @@ fn step_remote<K: Keeper, H: Here>(
     ensures did { DidRemote table.old table.new (store (K.contents keeper.old) (K.records keeper.old) (K.faults keeper.old)) (store (K.contents keeper.new) (K.records keeper.new) (K.faults keeper.new)) worker.old worker.new
         (AdvancesAlike (sight (H.reading here.now) (H.ends here.now) input.now.time input.now.number) (K.contents keeper.old) table.old table.new worker.old worker.new input.now.taken input.now.word) result }
     ensures numbered { IfOk result (λ out. IsNumbered input.now.number out.kind) }
+    ensures calls { MakesSo (sight (H.reading here.now) (H.ends here.now) input.now.time input.now.number) (K.contents keeper.old) table.old worker.old input.now.taken (K.failing keeper.old) (K.failing keeper.new) result }
     ensures parts { K.parts keeper.new ≡ K.parts keeper.old }
     ensures files { K.files keeper.new ≡ K.files keeper.old }
 {

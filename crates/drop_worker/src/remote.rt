@@ -19,6 +19,7 @@ ghost use Rattle.drop_worker.specs.Leaving.{stands_on, store};
 ghost use Rattle.drop_worker.specs.Feeding.{HasNoBar};
 ghost use Rattle.drop_worker.specs.Remote.{DidRemote, EndsSo, GoesAlike, IsRemote, IsToEnd, Speaks, StandsRemote, Unreleased, Unshared, known_remotely, remote_candidates, unreleased_phase};
 ghost use Rattle.drop_worker.specs.Sides.{IsNumbered};
+ghost use Rattle.drop_worker.specs.Calling.{MakesEnd, MakesPhase};
 
 use crate::evidence::{failures, proof};
 use crate::here::{Here, Standing};
@@ -53,6 +54,7 @@ pub(crate) fn act<K: Keeper, H: Here>(
     ensures did { DidRemote table.old table.new (store (K.contents keeper.old) (K.records keeper.old) (K.faults keeper.old)) (store (K.contents keeper.new) (K.records keeper.new) (K.faults keeper.new)) worker.old worker.new
         (GoesAlike (sight (H.reading here.now) (H.ends here.now) input.now.time input.now.number) (K.contents keeper.old) table.old table.new worker.old worker.new) result }
     ensures numbered { IfOk result (λ out. IsNumbered input.now.number out.kind) }
+    ensures calls { MakesPhase (sight (H.reading here.now) (H.ends here.now) input.now.time input.now.number) (K.contents keeper.old) table.old worker.old (K.failing keeper.old) (K.failing keeper.new) result }
     ensures parts { K.parts keeper.new ≡ K.parts keeper.old }
     ensures files { K.files keeper.new ≡ K.files keeper.old }
 {
@@ -85,6 +87,7 @@ fn begin<K: Keeper, H: Here>(
     ensures did { DidRemote table.old table.new (store (K.contents keeper.old) (K.records keeper.old) (K.faults keeper.old)) (store (K.contents keeper.new) (K.records keeper.new) (K.faults keeper.new)) worker.old worker.new
         (GoesAlike (sight (H.reading here.now) (H.ends here.now) input.now.time input.now.number) (K.contents keeper.old) table.old table.new worker.old worker.new) result }
     ensures numbered { IfOk result (λ out. IsNumbered input.now.number out.kind) }
+    ensures calls { MakesPhase (sight (H.reading here.now) (H.ends here.now) input.now.time input.now.number) (K.contents keeper.old) table.old worker.old (K.failing keeper.old) (K.failing keeper.new) result }
     ensures parts { K.parts keeper.new ≡ K.parts keeper.old }
     ensures files { K.files keeper.new ≡ K.files keeper.old }
 {
@@ -121,6 +124,7 @@ fn share_own<K: Keeper, H: Here>(
     ensures did { DidRemote table.old table.new (store (K.contents keeper.old) (K.records keeper.old) (K.faults keeper.old)) (store (K.contents keeper.new) (K.records keeper.new) (K.faults keeper.new)) worker.old worker.new
         (GoesAlike (sight (H.reading here.now) (H.ends here.now) input.now.time input.now.number) (K.contents keeper.old) table.old table.new worker.old worker.new) result }
     ensures numbered { IfOk result (λ out. IsNumbered input.now.number out.kind) }
+    ensures calls { MakesPhase (sight (H.reading here.now) (H.ends here.now) input.now.time input.now.number) (K.contents keeper.old) table.old worker.old (K.failing keeper.old) (K.failing keeper.new) result }
     ensures parts { K.parts keeper.new ≡ K.parts keeper.old }
     ensures files { K.files keeper.new ≡ K.files keeper.old }
 {
@@ -183,6 +187,7 @@ fn go_on<K: Keeper, H: Here>(
     ensures did { (number : ℕ) → DidRemote table.old table.new (store (K.contents keeper.old) (K.records keeper.old) (K.faults keeper.old)) (store (K.contents keeper.new) (K.records keeper.new) (K.faults keeper.new)) worker.old worker.new
         (GoesAlike (sight (H.reading here.now) (H.ends here.now) time number) (K.contents keeper.old) table.old table.new worker.old worker.new) result }
     ensures numbered { IfOk result (λ out. (n : ℕ) → IsNumbered n out.kind) }
+    ensures calls { (number : ℕ) → MakesPhase (sight (H.reading here.now) (H.ends here.now) time number) (K.contents keeper.old) table.old worker.old (K.failing keeper.old) (K.failing keeper.new) result }
     ensures parts { K.parts keeper.new ≡ K.parts keeper.old }
     ensures files { K.files keeper.new ≡ K.files keeper.old }
 {
@@ -378,6 +383,7 @@ pub(crate) fn finish<K: Keeper, H: Here>(
     ensures did { DidRemote table.old table.new (store (K.contents keeper.old) (K.records keeper.old) (K.faults keeper.old)) (store (K.contents keeper.new) (K.records keeper.new) (K.faults keeper.new)) worker.old worker.new
         (EndsSo (H.reading here.now) (H.ends here.now) time table.old table.new worker.old worker.new outcome) result }
     ensures numbered { IfOk result (λ out. (n : ℕ) → IsNumbered n out.kind) }
+    ensures calls { MakesEnd table.old worker.old outcome (K.failing keeper.old) (K.failing keeper.new) result }
     ensures parts { K.parts keeper.new ≡ K.parts keeper.old }
     ensures files { K.files keeper.new ≡ K.files keeper.old }
 {

@@ -3,12 +3,13 @@ ghost use Rattle.std.specs.Prelude.{◌≡◌, ◌<◌, ◌^◌, ℕ, [], false,
 ghost use Rattle.drop_proof.specs.Judging.{least_end};
 ghost use Rattle.node_model.specs.Jobs.{partner};
 ghost use Rattle.content_lock.specs.Rows.{Rows};
-ghost use Rattle.drop_worker.specs.Working.{phase_as};
+ghost use Rattle.drop_worker.specs.Working.{phase_as, sight};
 ghost use Rattle.drop_worker.specs.Doing.{Takes};
 ghost use Rattle.drop_worker.specs.Feeding.{FindsClosed, KeepsAnswer, KeepsWord, TakesClose, TakesOther};
 ghost use Rattle.drop_worker.specs.Leaving.{stands_on, store};
-ghost use Rattle.drop_worker.specs.Remote.{DidRemote, IsRemote, ShutsRemote, Speaks, StandsRemote, TakesRemote, is_ordering, known_remotely, parted};
+ghost use Rattle.drop_worker.specs.Remote.{DidRemote, IsRemote, ShutsRemote, Speaks, StandsRemote, TakesRemote, is_ordering, known_remotely, without_peer};
 ghost use Rattle.drop_worker.specs.Sides.{IsNumbered};
+ghost use Rattle.drop_worker.specs.Calling.{MakesFed};
 
 use crate::here::Here;
 use crate::phase::{Ending, Heard, Phase};
@@ -49,6 +50,7 @@ pub(crate) fn hear<K: Keeper, H: Here>(
     ensures word { IfOk result (λ out. KeepsWord input.now.taken input.now.word worker.old worker.new) }
     ensures answer { IfOk result (λ out. KeepsAnswer input.now.taken input.now.word worker.old worker.new) }
     ensures numbered { IfOk result (λ out. (n : ℕ) → IsNumbered n out.kind) }
+    ensures calls { (number : ℕ) → MakesFed (sight (H.reading here.now) (H.ends here.now) input.now.time number) table.old worker.old peer input.now.taken (K.failing keeper.old) (K.failing keeper.new) result }
     ensures parts { K.parts keeper.new ≡ K.parts keeper.old }
     ensures files { K.files keeper.new ≡ K.files keeper.old }
 {
@@ -83,6 +85,7 @@ fn take_message<K: Keeper, H: Here>(
     ensures word { IfOk result (λ out. KeepsWord (Taken.Message message.now) input.now.word worker.old worker.new) }
     ensures answer { IfOk result (λ out. KeepsAnswer (Taken.Message message.now) input.now.word worker.old worker.new) }
     ensures numbered { IfOk result (λ out. (n : ℕ) → IsNumbered n out.kind) }
+    ensures calls { (number : ℕ) → MakesFed (sight (H.reading here.now) (H.ends here.now) input.now.time number) table.old worker.old peer (Taken.Message message.now) (K.failing keeper.old) (K.failing keeper.new) result }
     ensures parts { K.parts keeper.new ≡ K.parts keeper.old }
     ensures files { K.files keeper.new ≡ K.files keeper.old }
 {
@@ -120,6 +123,7 @@ fn take_time<K: Keeper, H: Here>(
     ensures did { DidRemote table.old table.new (store (K.contents keeper.old) (K.records keeper.old) (K.faults keeper.old)) (store (K.contents keeper.new) (K.records keeper.new) (K.faults keeper.new)) worker.old worker.new
         (TakesRemote (H.reading here.now) (H.ends here.now) time table.old table.new target (Taken.Message message.now) worker.old worker.new) result }
     ensures numbered { IfOk result (λ out. (n : ℕ) → IsNumbered n out.kind) }
+    ensures calls { (number : ℕ) → MakesFed (sight (H.reading here.now) (H.ends here.now) time number) table.old worker.old target (Taken.Message message.now) (K.failing keeper.old) (K.failing keeper.new) result }
     ensures parts { K.parts keeper.new ≡ K.parts keeper.old }
     ensures files { K.files keeper.new ≡ K.files keeper.old }
 {
@@ -147,6 +151,7 @@ fn take_timestamp<K: Keeper, H: Here>(
     ensures did { DidRemote table.old table.new (store (K.contents keeper.old) (K.records keeper.old) (K.faults keeper.old)) (store (K.contents keeper.new) (K.records keeper.new) (K.faults keeper.new)) worker.old worker.new
         (TakesRemote (H.reading here.now) (H.ends here.now) time table.old table.new target (Taken.Message (Message.Timestamp now)) worker.old worker.new) result }
     ensures numbered { IfOk result (λ out. (n : ℕ) → IsNumbered n out.kind) }
+    ensures calls { (number : ℕ) → MakesFed (sight (H.reading here.now) (H.ends here.now) time number) table.old worker.old target (Taken.Message (Message.Timestamp now)) (K.failing keeper.old) (K.failing keeper.new) result }
     ensures parts { K.parts keeper.new ≡ K.parts keeper.old }
     ensures files { K.files keeper.new ≡ K.files keeper.old }
 {
@@ -173,6 +178,7 @@ fn order_at<K: Keeper, H: Here>(
     ensures did { DidRemote table.old table.new (store (K.contents keeper.old) (K.records keeper.old) (K.faults keeper.old)) (store (K.contents keeper.new) (K.records keeper.new) (K.faults keeper.new)) worker.old worker.new
         (TakesRemote (H.reading here.now) (H.ends here.now) time table.old table.new target (Taken.Message (Message.Timestamp now)) worker.old worker.new) result }
     ensures numbered { IfOk result (λ out. (n : ℕ) → IsNumbered n out.kind) }
+    ensures calls { (number : ℕ) → MakesFed (sight (H.reading here.now) (H.ends here.now) time number) table.old worker.old target (Taken.Message (Message.Timestamp now)) (K.failing keeper.old) (K.failing keeper.new) result }
     ensures parts { K.parts keeper.new ≡ K.parts keeper.old }
     ensures files { K.files keeper.new ≡ K.files keeper.old }
 {
@@ -202,6 +208,7 @@ fn order_before<K: Keeper, H: Here>(
     ensures did { DidRemote table.old table.new (store (K.contents keeper.old) (K.records keeper.old) (K.faults keeper.old)) (store (K.contents keeper.new) (K.records keeper.new) (K.faults keeper.new)) worker.old worker.new
         (TakesRemote (H.reading here.now) (H.ends here.now) time table.old table.new target (Taken.Message (Message.Timestamp now)) worker.old worker.new) result }
     ensures numbered { IfOk result (λ out. (n : ℕ) → IsNumbered n out.kind) }
+    ensures calls { (number : ℕ) → MakesFed (sight (H.reading here.now) (H.ends here.now) time number) table.old worker.old target (Taken.Message (Message.Timestamp now)) (K.failing keeper.old) (K.failing keeper.new) result }
     ensures parts { K.parts keeper.new ≡ K.parts keeper.old }
     ensures files { K.files keeper.new ≡ K.files keeper.old }
 {
@@ -435,7 +442,7 @@ pub(crate) fn shut(
 
 /// The job goes on without the peer: its target is lost, any other gives nothing.
 fn part(worker: &mut Worker, target: u32, peer: u32) -> Result<(), NoMemory>
-    ensures ok { OnOk result (worker.new ≡ parted worker.old target peer) }
+    ensures ok { OnOk result (worker.new ≡ without_peer worker.old target peer) }
     ensures err { OnErr result (worker.new ≡ worker.old) }
 {
     if target == peer {

@@ -22,6 +22,7 @@ use Rattle.repo_node.specs.Logs.{with_lines, with_log}
 use Rattle.repo_node.specs.Nodes.{NodeView, with_entry}
 use Rattle.repo_node.specs.Placing.{IsPlaced, StopsBefore, StopsPlacing, with_gain, with_placed}
 use Rattle.repo_node.specs.Refusals.{RefusesFor, RefusesSo}
+use Rattle.repo_node.specs.Stored.{StoreView}
 use Rattle.repo_node.specs.Turning.{Adds}
 use Rattle.repo_node.specs.Walks.{StopsAfter, compact_file, compact_files, current, merge_file, merge_files, over}
 use Rattle.repo_node.specs.declared.refused.NodeRefused.{NodeRefused}
@@ -143,9 +144,9 @@ is_moved turns.Idle = false
 is_moved turns.Full = false
 is_moved turns.NoMemory = false
 
-pub turn_setup : {K : Type 0} (t : Turn) (was now : NodeView K) (links : List EndView) (faults faults' : ℕ) → (t ≡ turns.Moved → Adds links faults faults' was now)
+pub turn_setup : {K : Type 0} (t : Turn) (was now : NodeView K) (links : List EndView) (before after : StoreView) → (t ≡ turns.Moved → Adds links before after was now)
     → (t ≢ turns.Moved → now ≡ record was { keeper = now.keeper; parts = record was.parts { links = links } }) → now.setup ≡ was.setup
-turn_setup turns.Moved was now links faults faults' moved stays = (moved refl).setup
-turn_setup turns.Idle was now links faults faults' moved stays = ap (λ n. n.setup) (stays (λ e. true≢false (sym (ap is_moved e))))
-turn_setup turns.Full was now links faults faults' moved stays = ap (λ n. n.setup) (stays (λ e. true≢false (sym (ap is_moved e))))
-turn_setup turns.NoMemory was now links faults faults' moved stays = ap (λ n. n.setup) (stays (λ e. true≢false (sym (ap is_moved e))))
+turn_setup turns.Moved was now links before after moved stays = (moved refl).setup
+turn_setup turns.Idle was now links before after moved stays = ap (λ n. n.setup) (stays (λ e. true≢false (sym (ap is_moved e))))
+turn_setup turns.Full was now links before after moved stays = ap (λ n. n.setup) (stays (λ e. true≢false (sym (ap is_moved e))))
+turn_setup turns.NoMemory was now links before after moved stays = ap (λ n. n.setup) (stays (λ e. true≢false (sym (ap is_moved e))))

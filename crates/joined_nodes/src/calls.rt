@@ -7,21 +7,26 @@ ghost use Rattle.annex_base.specs.declared.kinds.Call.TheVariants as calls;
 ghost use Rattle.branch_bundle.specs.Bundle.{IsBundle, IsFirstWrong};
 ghost use Rattle.key_verify.specs.Matching.{MatchesKey};
 ghost use Rattle.link_ring.specs.Ends.{after_drop};
-ghost use Rattle.log_lines.specs.LineText.{HasLine, line_text};
+ghost use Rattle.log_lines.specs.LineText.{line_text};
 ghost use Rattle.node_ends.specs.Joined.{StayPaired};
 ghost use Rattle.node_jobs.specs.Acting.{with_job};
 ghost use Rattle.node_model.specs.SetUp.{SetUp};
 ghost use Rattle.node_model.specs.Step.{step};
 ghost use Rattle.object_store.specs.Calls.{one_more};
+ghost use Rattle.object_store.specs.Stores.{AreSmallParts};
 ghost use Rattle.run_data.specs.Files.{file_of};
 ghost use Rattle.run_data.specs.declared.entry.EntryKind.TheVariants.{Begin};
 ghost use Rattle.union_merge.specs.Branch.{Files};
 ghost use Rattle.union_merge.specs.LineSet.{IsLine};
+ghost use Rattle.repo_node.specs.Calls.{IsDoneBy, Makes, StopsAt, to_compact, to_log, to_merge, to_place, to_place_part};
+ghost use Rattle.content_lock.specs.CallsMade.{fewer};
+ghost use Rattle.repo_node.specs.Debts.{failed_put};
 ghost use Rattle.repo_node.specs.Logs.{IsLogOf, log_of, stamped_by, with_lines};
 ghost use Rattle.repo_node.specs.Nodes.{Fits, NodeView, told_of, with_entry};
 ghost use Rattle.repo_node.specs.Placing.{IsPlaced, IsTaken, PartAfter, StopsBefore, StopsPlacing};
 ghost use Rattle.repo_node.specs.Refusals.{RefusesSo, most_entries};
-ghost use Rattle.repo_node.specs.Stored.{TellsSame};
+ghost use Rattle.repo_node.specs.Stored.{TellsSame, store_view};
+ghost use Rattle.repo_node.specs.TurnCalls.{step_calls};
 ghost use Rattle.repo_node.specs.Turning.{Adds, HasStep, IsIdle, StepsBy};
 ghost use Rattle.repo_node.specs.Walks.{IsOfBundle, StopsAfter, compact_files, merge_files, over};
 ghost use Rattle.joined_nodes.specs.Joined.{AtNode};
@@ -73,15 +78,16 @@ impl<K: Keeper> Nodes<K> {
     /// One turn of a node, as `Node::turn` makes it. What it sent stays on its way until frames are carried.
     pub fn turn(&mut self, repo: usize) -> Turn
         requires there { repo < length self.old }
-        ensures moved { AtNode repo self.old self.new (λ was now. result ≡ Turn.Moved → Adds (map after_drop was.parts.links) (K.faults was.keeper) (K.faults now.keeper) was now) }
-        ensures step { AtNode repo self.old self.new (λ was now. result ≡ Turn.Moved → ForSome (told_of (K.contents was.keeper) (K.parts was.keeper)) (λ c. StepsBy step was now)) }
+        ensures moved { AtNode repo self.old self.new (λ was now. result ≡ Turn.Moved → Adds (map after_drop was.parts.links) (store_view (K.contents was.keeper) (K.parts was.keeper) (K.failing was.keeper) (K.faults was.keeper)) (store_view (K.contents now.keeper) (K.parts now.keeper) (K.failing now.keeper) (K.faults now.keeper)) was now) }
+        ensures step { AtNode repo self.old self.new (λ was now. result ≡ Turn.Moved → ForSome (told_of (K.contents was.keeper) (K.parts was.keeper)) (λ c. StepsBy step step_calls (store_view (K.contents was.keeper) (K.parts was.keeper) (K.failing was.keeper) (K.faults was.keeper)) (store_view (K.contents now.keeper) (K.parts now.keeper) (K.failing now.keeper) (K.faults now.keeper)) was now)) }
         ensures idle { AtNode repo self.old self.new (λ was now. result ≡ Turn.Idle → ForSome (told_of (K.contents was.keeper) (K.parts was.keeper)) (λ c. (s : SetUp) → Fits was.setup s → IsIdle was s)) }
         ensures full { AtNode repo self.old self.new (λ was now. result ≡ Turn.Full → length was.history ≡ most_entries) }
         ensures ready { AtNode repo self.old self.new (λ was now. result ≡ Turn.Full → ForSome (told_of (K.contents was.keeper) (K.parts was.keeper)) (λ c. (s : SetUp) → Fits was.setup s → HasStep was s)) }
         ensures stays { AtNode repo self.old self.new (λ was now. result ≢ Turn.Moved → now ≡ record was { keeper = now.keeper; parts = record was.parts { links = map after_drop was.parts.links } }) }
         ensures unasked { AtNode repo self.old self.new (λ was now. result ≢ Turn.Moved → result ≢ Turn.NoMemory → now.keeper ≡ was.keeper) }
-        ensures short { AtNode repo self.old self.new (λ was now. result ≡ Turn.NoMemory → TellsSame (K.contents was.keeper) (K.contents now.keeper) (K.parts was.keeper) (K.parts now.keeper) (K.records was.keeper) (K.records now.keeper) (K.files was.keeper) (K.files now.keeper)) }
+        ensures short { AtNode repo self.old self.new (λ was now. result ≡ Turn.NoMemory → TellsSame (K.contents was.keeper) (K.contents now.keeper) (K.parts was.keeper) (K.parts now.keeper) (K.records was.keeper) (K.records now.keeper) (K.files was.keeper) (K.files now.keeper) (K.failing was.keeper) (K.failing now.keeper)) }
         ensures told_parts { AtNode repo self.old self.new (λ was now. is_some (K.parts now.keeper) ≡ is_some (K.parts was.keeper)) }
+        ensures small { AtNode repo self.old self.new (λ was now. AreSmallParts (K.parts was.keeper) → AreSmallParts (K.parts now.keeper)) }
         ensures told_contents { AtNode repo self.old self.new (λ was now. is_some (K.parts was.keeper) ≡ true → is_some (K.contents now.keeper) ≡ is_some (K.contents was.keeper)) }
         ensures paired { AtNode repo self.old self.new (λ was now. StayPaired was.parts.links now.parts.links) }
         ensures later { AtNode repo self.old self.new (λ was now. K.faults was.keeper ≤ K.faults now.keeper) }
@@ -104,6 +110,7 @@ impl<K: Keeper> Nodes<K> {
         ensures parts { AtNode repo self.old self.new (λ was now. K.parts now.keeper ≡ K.parts was.keeper) }
         ensures later { AtNode repo self.old self.new (λ was now. K.faults was.keeper ≤ K.faults now.keeper) }
         ensures cause { AtNode repo self.old self.new (λ was now. IsErrOf result NodeRefused.StoreFault → Rose (K.faults was.keeper) (K.faults now.keeper)) }
+        ensures calls { AtNode repo self.old self.new (λ was now. Makes (to_log was (file_of path.now) (line.now ∷ [])) calls.PutFile result (K.failing was.keeper) (K.failing now.keeper)) }
         ensures others { (i : ℕ) → i ≢ repo → slice_get self.new i ≡ slice_get self.old i }
         ensures count { length self.new ≡ length self.old }
     {
@@ -122,14 +129,14 @@ impl<K: Keeper> Nodes<K> {
     ) -> Result<(), NodeRefused>
         requires there { repo < length self.old }
         requires file { IsLogOf kind (option_copied key) }
-        requires line { (n : NodeView K) → slice_get self.old repo ≡ Some n → HasLine kind (stamped_by n kind (option_copied key) entry.now) }
-        requires short { (n : NodeView K) → slice_get self.old repo ≡ Some n → length (line_text kind (stamped_by n kind (option_copied key) entry.now)) ≤ 8192 }
+        requires line { (n : NodeView K) → slice_get self.old repo ≡ Some n → IsLine (line_text kind (stamped_by n kind (option_copied key) entry.now)) }
         ensures ok { AtNode repo self.old self.new (λ was now. OnOk result (now ≡ with_lines was now.keeper (log_of kind (option_copied key.entry)) (line_text kind (stamped_by was kind (option_copied key.entry) entry.now) ∷ []))) }
         ensures err { AtNode repo self.old self.new (λ was now. IfErr result (λ e. RefusesSo e calls.PutFile was now)) }
         ensures contents { AtNode repo self.old self.new (λ was now. K.contents now.keeper ≡ K.contents was.keeper) }
         ensures parts { AtNode repo self.old self.new (λ was now. K.parts now.keeper ≡ K.parts was.keeper) }
         ensures later { AtNode repo self.old self.new (λ was now. K.faults was.keeper ≤ K.faults now.keeper) }
         ensures cause { AtNode repo self.old self.new (λ was now. IsErrOf result NodeRefused.StoreFault → Rose (K.faults was.keeper) (K.faults now.keeper)) }
+        ensures calls { AtNode repo self.old self.new (λ was now. Makes (to_log was (log_of kind (option_copied key.entry)) (line_text kind (stamped_by was kind (option_copied key.entry) entry.now) ∷ [])) calls.PutFile result (K.failing was.keeper) (K.failing now.keeper)) }
         ensures others { (i : ℕ) → i ≢ repo → slice_get self.new i ≡ slice_get self.old i }
         ensures count { length self.new ≡ length self.old }
     {
@@ -148,6 +155,8 @@ impl<K: Keeper> Nodes<K> {
         ensures parts { AtNode repo self.old self.new (λ was now. K.parts now.keeper ≡ K.parts was.keeper) }
         ensures later { AtNode repo self.old self.new (λ was now. K.faults was.keeper ≤ K.faults now.keeper) }
         ensures cause { AtNode repo self.old self.new (λ was now. IsErrOf result NodeRefused.StoreFault → Rose (K.faults was.keeper) (K.faults now.keeper)) }
+        ensures calls { (other : NodeView K) → slice_get self.old from ≡ Some other → AtNode repo self.old self.new (λ was now. Makes (to_merge was other.branch) calls.PutFile result (K.failing was.keeper) (K.failing now.keeper)) }
+        ensures alone { AtNode repo self.old self.new (λ was now. IsErrOf result NodeRefused.StoreFault → ForSome (K.failing was.keeper) (λ failing. RefusesSo NodeRefused.StoreFault calls.PutFile was now)) }
         ensures others { (i : ℕ) → i ≢ repo → slice_get self.new i ≡ slice_get self.old i }
         ensures count { length self.new ≡ length self.old }
     {
@@ -170,6 +179,9 @@ impl<K: Keeper> Nodes<K> {
         ensures parts { AtNode repo self.old self.new (λ was now. K.parts now.keeper ≡ K.parts was.keeper) }
         ensures later { AtNode repo self.old self.new (λ was now. K.faults was.keeper ≤ K.faults now.keeper) }
         ensures cause { AtNode repo self.old self.new (λ was now. IsErrOf result NodeRefused.StoreFault → Rose (K.faults was.keeper) (K.faults now.keeper)) }
+        ensures calls { (files : Files) → IsBundle bytes.now files → AtNode repo self.old self.new (λ was now. Makes (to_merge was files) calls.PutFile result (K.failing was.keeper) (K.failing now.keeper)) }
+        ensures left { AtNode repo self.old self.new (λ was now. K.failing now.keeper ≡ option_map (fewer (failed_put result)) (K.failing was.keeper)) }
+        ensures alone { AtNode repo self.old self.new (λ was now. IsErrOf result NodeRefused.StoreFault → ForSome (K.failing was.keeper) (λ failing. RefusesSo NodeRefused.StoreFault calls.PutFile was now)) }
         ensures others { (i : ℕ) → i ≢ repo → slice_get self.new i ≡ slice_get self.old i }
         ensures count { length self.new ≡ length self.old }
     {
@@ -188,6 +200,8 @@ impl<K: Keeper> Nodes<K> {
         ensures parts { AtNode repo self.old self.new (λ was now. K.parts now.keeper ≡ K.parts was.keeper) }
         ensures later { AtNode repo self.old self.new (λ was now. K.faults was.keeper ≤ K.faults now.keeper) }
         ensures cause { AtNode repo self.old self.new (λ was now. IsErrOf result NodeRefused.StoreFault → Rose (K.faults was.keeper) (K.faults now.keeper)) }
+        ensures calls { AtNode repo self.old self.new (λ was now. Makes (to_compact was) calls.PutFile result (K.failing was.keeper) (K.failing now.keeper)) }
+        ensures alone { AtNode repo self.old self.new (λ was now. IsErrOf result NodeRefused.StoreFault → ForSome (K.failing was.keeper) (λ failing. RefusesSo NodeRefused.StoreFault calls.PutFile was now)) }
         ensures others { (i : ℕ) → i ≢ repo → slice_get self.new i ≡ slice_get self.old i }
         ensures count { length self.new ≡ length self.old }
     {
@@ -204,6 +218,8 @@ impl<K: Keeper> Nodes<K> {
         ensures err { AtNode repo self.old self.new (λ was now. IfErr result (λ e. StopsPlacing key.now bytes.now (K.contents was.keeper) (K.parts was.keeper) (K.contents now.keeper) e was now)) }
         ensures later { AtNode repo self.old self.new (λ was now. K.faults was.keeper ≤ K.faults now.keeper) }
         ensures cause { AtNode repo self.old self.new (λ was now. IsErrOf result NodeRefused.StoreFault → Rose (K.faults was.keeper) (K.faults now.keeper)) }
+        ensures done { AtNode repo self.old self.new (λ was now. OnOk result (IsDoneBy to_place key.now [] was.parts.table (K.contents was.keeper) (K.parts was.keeper) (K.parts now.keeper) (K.failing was.keeper) (K.failing now.keeper))) }
+        ensures stops { AtNode repo self.old self.new (λ was now. IfErr result (λ e. StopsAt to_place key.now bytes.now (K.contents was.keeper) (K.contents now.keeper) (K.parts was.keeper) (K.parts now.keeper) (K.failing was.keeper) (K.failing now.keeper) e was now)) }
         ensures others { (i : ℕ) → i ≢ repo → slice_get self.new i ≡ slice_get self.old i }
         ensures count { length self.new ≡ length self.old }
     {
@@ -221,6 +237,8 @@ impl<K: Keeper> Nodes<K> {
         ensures contents { AtNode repo self.old self.new (λ was now. K.contents now.keeper ≡ K.contents was.keeper) }
         ensures later { AtNode repo self.old self.new (λ was now. K.faults was.keeper ≤ K.faults now.keeper) }
         ensures cause { AtNode repo self.old self.new (λ was now. IsErrOf result NodeRefused.StoreFault → Rose (K.faults was.keeper) (K.faults now.keeper)) }
+        ensures done { AtNode repo self.old self.new (λ was now. OnOk result (IsDoneBy to_place_part key.now bytes.now was.parts.table (K.contents was.keeper) (K.parts was.keeper) (K.parts now.keeper) (K.failing was.keeper) (K.failing now.keeper))) }
+        ensures stops { AtNode repo self.old self.new (λ was now. IfErr result (λ e. StopsAt to_place_part key.now bytes.now (K.contents was.keeper) (K.contents now.keeper) (K.parts was.keeper) (K.parts now.keeper) (K.failing was.keeper) (K.failing now.keeper) e was now)) }
         ensures others { (i : ℕ) → i ≢ repo → slice_get self.new i ≡ slice_get self.old i }
         ensures count { length self.new ≡ length self.old }
     {

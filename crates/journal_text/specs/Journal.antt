@@ -158,7 +158,11 @@ repo_line repo =
 abbrev pub path_line : TreeMark → List ℕ
 path_line mark = codes "path " ++ decimal mark.place ++ codes " " ++ decimal (length mark.path) ++ codes " " ++ mark.path ++ codes " " ++ mark.key ++ codes "\n"
 
+-- the journal of entries of these repositories, which changed the tree so
+abbrev pub journal_of : List RepoView → List TreeMark → List Entry → List ℕ
+journal_of repos tree entries =
+    codes "journal " ++ decimal (length entries) ++ codes "\n" ++ flat_map repo_line repos ++ flat_map path_line tree
+    ++ entries_text repos [] entries
+
 abbrev pub journal : Run → List ℕ
-journal run =
-    codes "journal " ++ decimal (length run.entries) ++ codes "\n" ++ flat_map repo_line run.repos ++ flat_map path_line run.tree
-    ++ entries_text run.repos [] run.entries
+journal run = journal_of run.repos run.tree run.entries

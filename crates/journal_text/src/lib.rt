@@ -8,4 +8,4 @@ mod kind;
 mod run;
 
 pub use entry::put_entry;
-pub use run::journal;
+pub use run::{journal, put_journal};

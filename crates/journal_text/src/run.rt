@@ -3,7 +3,7 @@
 ghost use Rattle.std.specs.Prelude.{◌≡◌, ◌++◌, List, [], IfOk, OnOk, codes, length, reverse};
 ghost use Rattle.std.specs.List.{flat_map};
 ghost use Rattle.std.specs.Fmt.{decimal};
-ghost use Rattle.journal_text.specs.Journal.{journal, repo_line, path_line, entries_text, locks_text};
+ghost use Rattle.journal_text.specs.Journal.{journal, journal_of, repo_line, path_line, entries_text, locks_text};
 
 use crate::entry::put_entry;
 use annex_base::{NoMemory, put_number};
@@ -16,12 +16,25 @@ pub fn journal(alloc: Global, run: &Run) -> Result<Vec<u8>, NoMemory>
     ensures { IfOk result (λ text. text.items ≡ journal run.now) }
 {
     let mut out = Vec::new(alloc);
-    let entries = run.entries.as_slice();
-    put_size(&mut out, entries.len())?;
-    put_repos(&mut out, run.repos.as_slice())?;
-    put_tree(&mut out, run.tree.as_slice())?;
-    put_entries(&mut out, run.repos.as_slice(), entries)?;
+    let repos = run.repos.as_slice();
+    put_journal(&mut out, repos, run.tree.as_slice(), run.entries.as_slice())?;
     Ok(out)
+}
+
+/// Adds the journal of some first entries of a run, and of the changes of its tree up to them.
+pub fn put_journal(
+    out: &mut Vec<u8>,
+    repos: &[RepoView],
+    tree: &[TreeMark],
+    entries: &[Entry],
+) -> Result<(), AllocError>
+    ensures { OnOk result (out.new.items ≡ out.old.items ++ journal_of repos.now tree.now entries.now) }
+{
+    put_size(out, entries.len())?;
+    put_repos(out, repos)?;
+    put_tree(out, tree)?;
+    put_entries(out, repos, entries)?;
+    Ok(())
 }
 
 fn put_size(out: &mut Vec<u8>, entries: usize) -> Result<(), AllocError>

@@ -14,7 +14,8 @@ use Rattle.node_ends.specs.declared.sending.Sending.{Sending}
 use Rattle.node_ends.specs.Ends.{stands}
 use Rattle.driver_model.specs.Driver.{Driver, Flight, adds, flight, without_old_flights}
 use Rattle.link_flights.specs.Entries.{PostsAt, link_after}
-use Rattle.link_flights.specs.Flights.{HasAtHand, IsEndIn, comes_to, flight_at, other_end}
+use Rattle.driver_model.specs.Ways.{other_end}
+use Rattle.link_flights.specs.Flights.{HasAtHand, IsEndIn, comes_to, flight_at}
 use Rattle.link_flights.proofs.Lists.{each_filtered}
 use Rattle.link_flights.proofs.Naming.{other_twice}
 use Rattle.link_flights.proofs.Dropped.{hand_dropped, hand_elsewhere, sent_filter}

@@ -13,12 +13,13 @@ use Rattle.node_model.specs.Ends.{End, EndName, takes_at}
 use Rattle.node_model.specs.State.{State}
 use Rattle.node_ends.specs.Ends.{frame_at, link_at, stands}
 use Rattle.driver_model.specs.Driver.{Driver, Flight, is_old, is_sent_by, old_at, without_old_flights}
-use Rattle.link_flights.specs.Flights.{HasAtHand, IsEndIn, comes_to, flight_at, other_end}
+use Rattle.driver_model.specs.Ways.{other_end}
+use Rattle.link_flights.specs.Flights.{HasAtHand, IsEndIn, comes_to, flight_at}
 use Rattle.link_flights.proofs.Lists.{filter_like, filter_mapped, filter_swap, filter_within}
 use Rattle.link_flights.proofs.Naming.{end_own, not_not, other_number, sent_comes}
 
 -- the test of the driver is that of the end
-old_same : (v : EndView) (a : EndName) (f : Frame) → not (is_old (stands v) (frame_at a f)) ≡ is_taken v f
+pub old_same : (v : EndView) (a : EndName) (f : Frame) → not (is_old (stands v) (frame_at a f)) ≡ is_taken v f
 old_same v a f = ap (λ (b : Bool). not (nat_lt f.epoch v.epoch || ((f.epoch == v.epoch) && b))) (not_not (is_closed v.phase))
 
 module _ (st : State) (r : ℕ) where

@@ -27,14 +27,15 @@ use Rattle.node_ends.specs.Joined.{end_with, link_carried}
 use Rattle.driver_model.specs.Driver.{Driver, Flight, adds, piece_of, without_old_flights}
 use Rattle.link_flights.specs.Entries.{PostsAt, SendsInOrder, link_after}
 use Rattle.link_flights.specs.Fleets.{AreAllCarried, AreEndsIn, Posted}
-use Rattle.link_flights.specs.Flights.{IsEndIn, other_end}
-use Rattle.link_flights.proofs.Naming.{end_path, other_twice}
+use Rattle.driver_model.specs.Ways.{other_end}
+use Rattle.link_flights.specs.Flights.{IsEndIn}
+use Rattle.link_flights.proofs.Naming.{end_path, other_named, other_twice}
 use Rattle.link_flights.proofs.Pieces.{pieces_zip}
 use Rattle.link_flights.proofs.Stepped.{first_taken, step_orderly}
 use Rattle.link_flights.proofs.Dropped.{end_elsewhere, link_drop}
 use Rattle.link_flights.proofs.Carried.{AreBothIn, both_closed, both_dropped, both_turned, end_beside}
 
-slot_low : (xs : List EndView) (a : EndName) (v : EndView) → link_at xs a ≡ Some v → a.slot < 4
+pub slot_low : (xs : List EndView) (a : EndName) (v : EndView) → link_at xs a ≡ Some v → a.slot < 4
 slot_low xs a v is = elim (cases_Bool (nat_lt a.slot 4)) [
   | inl low ↦ grind (arith, nat_tests)
   | inr high ↦ absurd (let none : None ≡ Some v = rw high at is in cc)
@@ -58,37 +59,44 @@ pub record Mapped (f : EndView → EndView) (o : Option EndView) (x : EndView) :
   pub was : o ≡ Some v
   pub it : f v ≡ x
 
-mapped : (f : EndView → EndView) (o : Option EndView) (x : EndView) → option_map f o ≡ Some x → Mapped f o x
+pub mapped : (f : EndView → EndView) (o : Option EndView) (x : EndView) → option_map f o ≡ Some x → Mapped f o x
 mapped f None x is = absurd (cc)
 mapped f (Some v) x is = record { v = v; was = refl; it = cc }
 
--- an end of r whose links these are becomes this one, and both ends of its connection fit the flights
-abbrev Becomes : List Flight → ℕ → List EndView → (ℕ → List EndView) → ℕ → Type 0
-Becomes xs count mine was r = (a : EndName) (v w : EndView) → a.peer < count → a.peer ≢ r → link_at mine a ≡ Some v → link_at (was a.peer) (other_end r a) ≡ Some w → AreBothIn xs r a v w
+-- a fact of ends holds of both ends of a connection after frames were carried between them
+abbrev pub Both : (ℕ → EndName → EndView → Type 0) → ℕ → EndName → EndView → EndView → Type 0
+Both P r a v w = P r a (after_carry v w) × P a.peer (other_end r a) (after_carry w v)
 
-module _ (xs : List Flight) (count r : ℕ) (mine : List EndView) (was now : ℕ → List EndView) (carried : AreAllCarried count r mine was now)
-    (becomes : Becomes xs count mine was r)
-    (beside : (q : ℕ) (b : EndName) (w : EndView) → q < count → b.peer < count → b.peer ≢ q → q ≢ r → b.peer ≢ r → link_at (was q) b ≡ Some w → IsEndIn xs q b w) where
-  at_own : (a : EndName) (x : EndView) → a.peer < count → a.peer ≢ r → link_at (now r) a ≡ Some x → IsEndIn xs r a x
+-- an end of r whose links these are becomes one of which it holds, and so does the other end of its connection
+abbrev pub Becomes : (ℕ → EndName → EndView → Type 0) → ℕ → List EndView → (ℕ → List EndView) → ℕ → Type 0
+Becomes P count mine was r = (a : EndName) (v w : EndView) → a.peer < count → a.peer ≢ r → link_at mine a ≡ Some v → link_at (was a.peer) (other_end r a) ≡ Some w → Both P r a v w
+
+module _ (P : ℕ → EndName → EndView → Type 0) (count r : ℕ) (mine : List EndView) (was now : ℕ → List EndView) (carried : AreAllCarried count r mine was now)
+    (becomes : Becomes P count mine was r)
+    (beside : (q : ℕ) (b : EndName) (w : EndView) → q < count → b.peer < count → b.peer ≢ q → q ≢ r → b.peer ≢ r → link_at (was q) b ≡ Some w → P q b w) where
+  at_own : (a : EndName) (x : EndView) → a.peer < count → a.peer ≢ r → link_at (now r) a ≡ Some x → P r a x
   at_own a x within apart is =
-      let c = came (link_at mine a) (link_at (was a.peer) (other_end r a)) x (sym (carried.own a.peer a.slot a.client within apart (slot_low (now r) a x is)) ∙ is) in
-      subst (λ (y : EndView). IsEndIn xs r a y) c.it (becomes a c.v c.w within apart c.one c.two).own
+      let c = came (link_at mine a) (link_at (was a.peer) (other_end r a)) x
+      (ap (λ (b : EndName). link_carried (link_at mine a) (link_at (was a.peer) b)) (sym (other_named r a)) ∙ sym (carried.own a.peer a.slot a.client within apart (slot_low (now r) a x is)) ∙ is) in
+      subst (λ (y : EndView). P r a y) c.it (becomes a c.v c.w within apart c.one c.two).0
 
-  at_theirs : (q : ℕ) (b : EndName) (x : EndView) → q < count → q ≢ r → b.peer ≡ r → link_at (now q) b ≡ Some x → IsEndIn xs q b x
+  at_theirs : (q : ℕ) (b : EndName) (x : EndView) → q < count → q ≢ r → b.peer ≡ r → link_at (now q) b ≡ Some x → P q b x
   at_theirs q b x within apart with' is =
       let named : end_with r b.slot b.client ≡ b = end_path r b.slot b.client b (sym with') refl refl in
       let there : link_at (now q) b ≡ link_carried (link_at (was q) b) (link_at mine (other_end q b)) =
-      subst (λ (z : EndName). link_at (now q) z ≡ link_carried (link_at (was q) z) (link_at mine (other_end q b))) named (carried.theirs q b.slot b.client within apart (slot_low (now q) b x is)) in
+      subst (λ (z : EndName). link_at (now q) z ≡ link_carried (link_at (was q) z) (link_at mine (other_end q b))) named
+      (carried.theirs q b.slot b.client within apart (slot_low (now q) b x is)
+      ∙ ap (λ (y : EndName). link_carried (link_at (was q) (end_with r b.slot b.client)) (link_at mine y)) (other_named q b)) in
       let c = came (link_at (was q) b) (link_at mine (other_end q b)) x (sym there ∙ is) in
       let same : other_end r (other_end q b) ≡ b = other_twice r b with' q in
       let both = becomes (other_end q b) c.w c.v within apart c.two (subst (λ (z : EndName). link_at (was q) z ≡ Some c.v) (sym same) c.one) in
-      subst (λ (y : EndView). IsEndIn xs q b y) c.it (subst (λ (z : EndName). IsEndIn xs q z (after_carry c.v c.w)) same both.other)
+      subst (λ (y : EndView). P q b y) c.it (subst (λ (z : EndName). P q z (after_carry c.v c.w)) same both.1)
 
-  pub all_in : r < count → AreEndsIn xs count now
+  pub all_in : r < count → (q : ℕ) (a : EndName) (x : EndView) → q < count → a.peer < count → a.peer ≢ q → link_at (now q) a ≡ Some x → P q a x
   all_in known q a x within peer apart is = elim (cases_Bool (q == r)) [
     | inl same ↦
         let e : q ≡ r = eqb-true q r same in
-        subst (λ (k : ℕ). IsEndIn xs k a x) (sym e) (at_own a x peer (λ z. apart (z ∙ sym e)) (subst (λ (k : ℕ). link_at (now k) a ≡ Some x) e is))
+        subst (λ (k : ℕ). P k a x) (sym e) (at_own a x peer (λ z. apart (z ∙ sym e)) (subst (λ (k : ℕ). link_at (now k) a ≡ Some x) e is))
     | inr other ↦ elim (cases_Bool (a.peer == r)) [
       | inl with' ↦ at_theirs q a x within (differs q r other) (eqb-true a.peer r with') is
       | inr others ↦ beside q a x within peer apart (differs q r other) (differs a.peer r others) (sym (carried.others q a within (differs q r other) (differs a.peer r others)) ∙ is)
@@ -96,6 +104,13 @@ module _ (xs : List Flight) (count r : ℕ) (mine : List EndView) (was now : ℕ
   ] where
     differs : (m n : ℕ) → (m == n) ≡ false → m ≢ n
     differs m n is same = true≢false (sym (eqb_refl n) ∙ subst (λ (k : ℕ). (k == n) ≡ false) same is)
+
+-- of the ends of all, that they are as the flights tell
+abbrev pub In : List Flight → ℕ → EndName → EndView → Type 0
+In xs q a v = IsEndIn xs q a v
+
+both_are : (xs : List Flight) (r : ℕ) (a : EndName) (v w : EndView) → AreBothIn xs r a v w → Both (In xs) r a v w
+both_are xs r a v w both = (both.own, both.other)
 
 -- ---- the ends of one repository and those of its state
 
@@ -128,17 +143,17 @@ module _ (listed : Listed) (s : SetUp) (st : State) (d : Driver) (was now : ℕ 
     pub turned_in : (sender : EntryStamp) (word : EndName → Sending → Option Word) (said : EndName → List Sending) (e : Entry) (mine : List EndView)
         → Posted s st (without_old_flights st r d) sender word said (map after_drop (was r)) mine e → AreAllCarried count r mine was now
         → AreEndsIn (adds st r e (without_old_flights st r d)).flights count now
-    turned_in sender word said e mine posted carried = all_in (adds st s.number e (without_old_flights st s.number d)).flights (length s.repos) s.number mine was now carried becomes beside known
+    turned_in sender word said e mine posted carried = all_in (In (adds st s.number e (without_old_flights st s.number d)).flights) (length s.repos) s.number mine was now carried becomes beside known
       where
-        becomes : Becomes (adds st s.number e (without_old_flights st s.number d)).flights (length s.repos) mine was s.number
+        becomes : Becomes (In (adds st s.number e (without_old_flights st s.number d)).flights) (length s.repos) mine was s.number
         becomes a x w within apart is other =
             let m = mapped (link_after sender (word a) a e.taken (said a)) (link_at (map after_drop (was s.number)) a) x (sym (posted.links a) ∙ is) in
             let n = mapped after_drop (link_at (was s.number) a) m.v (sym (link_drop (was s.number) a) ∙ m.was) in
             let posts : PostsAt (without_old_flights st s.number d) st s.number a (after_drop n.v) e.taken e.sent (said a) =
             subst (λ (y : EndView). PostsAt (without_old_flights st s.number d) st s.number a y e.taken e.sent (said a)) (sym n.it) (posted.posts a m.v (named (was s.number) a n.v within apart n.was) m.was) in
-            subst (λ (y : EndView). AreBothIn (adds st s.number e (without_old_flights st s.number d)).flights s.number a y w)
+            subst (λ (y : EndView). Both (In (adds st s.number e (without_old_flights st s.number d)).flights) s.number a y w)
             (ap (link_after sender (word a) a e.taken (said a)) n.it ∙ m.it)
-            (both_turned d st s.number a n.v w e (said a) sender (word a) apart (stood a n.v within apart n.was) (own_in a n.v within apart n.was) (other_in a w within apart other) posts)
+            (both_are (adds st s.number e (without_old_flights st s.number d)).flights s.number a (link_after sender (word a) a e.taken (said a) (after_drop n.v)) w (both_turned d st s.number a n.v w e (said a) sender (word a) apart (stood a n.v within apart n.was) (own_in a n.v within apart n.was) (other_in a w within apart other) posts))
 
         beside : (q : ℕ) (b : EndName) (w : EndView) → q < length s.repos → b.peer < length s.repos → b.peer ≢ q → q ≢ s.number → b.peer ≢ s.number → link_at (was q) b ≡ Some w
             → IsEndIn (adds st s.number e (without_old_flights st s.number d)).flights q b w
@@ -146,13 +161,14 @@ module _ (listed : Listed) (s : SetUp) (st : State) (d : Driver) (was now : ℕ 
             end_beside (without_old_flights st s.number d) st s.number q b w e one two (end_elsewhere d st s.number q b w one two (ends q b w within peer apart is))
 
     pub idle_in : AreAllCarried count r (map after_drop (was r)) was now → AreEndsIn (without_old_flights st r d).flights count now
-    idle_in carried = all_in (without_old_flights st s.number d).flights (length s.repos) s.number (map after_drop (was s.number)) was now carried becomes beside known
+    idle_in carried = all_in (In (without_old_flights st s.number d).flights) (length s.repos) s.number (map after_drop (was s.number)) was now carried becomes beside known
       where
-        becomes : Becomes (without_old_flights st s.number d).flights (length s.repos) (map after_drop (was s.number)) was s.number
+        becomes : Becomes (In (without_old_flights st s.number d).flights) (length s.repos) (map after_drop (was s.number)) was s.number
         becomes a x w within apart is other =
             let n = mapped after_drop (link_at (was s.number) a) x (sym (link_drop (was s.number) a) ∙ is) in
-            subst (λ (y : EndView). AreBothIn (without_old_flights st s.number d).flights s.number a y w) n.it
-            (both_dropped d st s.number a n.v w apart (stood a n.v within apart n.was) (own_in a n.v within apart n.was) (other_in a w within apart other))
+            subst (λ (y : EndView). Both (In (without_old_flights st s.number d).flights) s.number a y w) n.it
+            (both_are (without_old_flights st s.number d).flights s.number a (after_drop n.v) w
+            (both_dropped d st s.number a n.v w apart (stood a n.v within apart n.was) (own_in a n.v within apart n.was) (other_in a w within apart other)))
 
         beside : (q : ℕ) (b : EndName) (w : EndView) → q < length s.repos → b.peer < length s.repos → b.peer ≢ q → q ≢ s.number → b.peer ≢ s.number → link_at (was q) b ≡ Some w
             → IsEndIn (without_old_flights st s.number d).flights q b w
@@ -163,18 +179,18 @@ module _ (listed : Listed) (s : SetUp) (st : State) (d : Driver) (was now : ℕ 
   pub closed_in : (sender : EntryStamp) (word : EndName → Sending → Option Word) (said : EndName → List Sending) (e : Entry) (mine : List EndView)
       → e.taken ≡ None → Each (λ f. is_opening f.body ≡ false) e.sent → Posted s st d sender word said (was r) mine e → AreAllCarried count r mine was now
       → AreEndsIn (adds st r e d).flights count now
-  closed_in sender word said e mine none closes posted carried = all_in (adds st s.number e d).flights (length s.repos) s.number mine was now carried becomes beside known
+  closed_in sender word said e mine none closes posted carried = all_in (In (adds st s.number e d).flights) (length s.repos) s.number mine was now carried becomes beside known
     where
       bodies : (fs : List FrameView) → Each (λ f. is_opening f.body ≡ false) fs → Each (λ b. is_opening b ≡ false) (map (λ (f : FrameView). f.body) fs)
       bodies fs all = Each-map (λ b. is_opening b ≡ false) (λ (f : FrameView). f.body) fs all
 
-      becomes : Becomes (adds st s.number e d).flights (length s.repos) mine was s.number
+      becomes : Becomes (In (adds st s.number e d).flights) (length s.repos) mine was s.number
       becomes a x w within apart is other =
           let m = mapped (link_after sender (word a) a e.taken (said a)) (link_at (was s.number) a) x (sym (posted.links a) ∙ is) in
-          subst (λ (y : EndView). AreBothIn (adds st s.number e d).flights s.number a y w) m.it
-          (both_closed d st s.number a m.v w e (said a) sender (word a) apart (own_in a m.v within apart m.was) (other_in a w within apart other)
+          subst (λ (y : EndView). Both (In (adds st s.number e d).flights) s.number a y w) m.it
+          (both_are (adds st s.number e d).flights s.number a (link_after sender (word a) a e.taken (said a) m.v) w (both_closed d st s.number a m.v w e (said a) sender (word a) apart (own_in a m.v within apart m.was) (other_in a w within apart other)
           (posted.posts a m.v (named (was s.number) a m.v within apart m.was) m.was) (ap (taken_at a) none)
-          (bodies (sent_at a e.sent) (Each-filter (λ f. is_opening f.body ≡ false) (sends_at a) e.sent closes)))
+          (bodies (sent_at a e.sent) (Each-filter (λ f. is_opening f.body ≡ false) (sends_at a) e.sent closes))))
 
       beside : (q : ℕ) (b : EndName) (w : EndView) → q < length s.repos → b.peer < length s.repos → b.peer ≢ q → q ≢ s.number → b.peer ≢ s.number → link_at (was q) b ≡ Some w
           → IsEndIn (adds st s.number e d).flights q b w

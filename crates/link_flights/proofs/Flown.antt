@@ -19,7 +19,8 @@ use Rattle.node_ends.specs.Ends.{frame_at, stands}
 use Rattle.node_ends.specs.Sent.{link_sends, text_of_sending}
 use Rattle.driver_model.specs.Driver.{Driver, Flight, but_first, but_taken, flight, is_at, piece_of}
 use Rattle.link_flights.specs.Entries.{HasPiece, OpensClosed, PostsAt, link_after, taken_off}
-use Rattle.link_flights.specs.Flights.{HasAtHand, comes_to, flight_at, other_end}
+use Rattle.driver_model.specs.Ways.{other_end}
+use Rattle.link_flights.specs.Flights.{HasAtHand, comes_to, flight_at}
 use Rattle.link_flights.proofs.Lists.{but_other, but_own, rest, rest_mapped}
 use Rattle.link_flights.proofs.Naming.{at_elsewhere, at_other, at_own, none_beside, sent_there}
 use Rattle.link_flights.proofs.Said.{flies, hand_says, hand_sends, hand_taken, none_opened, stands_taken, way_taken}
@@ -76,21 +77,21 @@ module _ (d : Driver) (st : State) (r : ℕ) (taken : Option FrameView) (sent : 
 
 module _ (d : Driver) (st : State) (r : ℕ) (a : EndName) (v : EndView) (taken : Option FrameView) (sent : List FrameView) (said : List Sending)
     (sender : EntryStamp) (word : Sending → Option Word) (posts : PostsAt d st r a v taken sent said) where
-  abbrev after : EndView
+  abbrev pub after : EndView
   after = link_after sender word a taken said v
 
-  abbrev between : End
+  abbrev pub between : End
   between = end_took (stands v) (taken_at a taken)
 
-  stands_off : (o : Option FrameView) → IfSome o (λ f. option_map (frame_at a) (next_frame v) ≡ Some f) → stands (if is_some o then after_take v else v) ≡ end_took (stands v) o
+  pub stands_off : (o : Option FrameView) → IfSome o (λ f. option_map (frame_at a) (next_frame v) ≡ Some f) → stands (if is_some o then after_take v else v) ≡ end_took (stands v) o
   stands_off None takes = refl
   stands_off (Some f) takes = stands_taken a v f takes
 
-  way_off : (o : Option FrameView) → (if is_some o then after_take v else v).on_way ≡ v.on_way
+  pub way_off : (o : Option FrameView) → (if is_some o then after_take v else v).on_way ≡ v.on_way
   way_off None = refl
   way_off (Some f) = way_taken v
 
-  listed_frames : sent_at a sent ≡ frames a between (map text_of_sending said)
+  pub listed_frames : sent_at a sent ≡ frames a between (map text_of_sending said)
   listed_frames = posts.in_order.next ∙ ap (frames a between) (sym posts.listed)
 
   -- the frames on their way are the flights that were added there
@@ -105,7 +106,7 @@ module _ (d : Driver) (st : State) (r : ℕ) (a : EndName) (v : EndView) (taken 
   sends w x = link_sends sender (word x) x w
 
   -- nothing old is at hand
-  hand_young : Each (λ f. is_taken v f ≡ true) v.at_hand → after.at_hand ≡ without_taken (taken_at a taken) v.at_hand
+  pub hand_young : Each (λ f. is_taken v f ≡ true) v.at_hand → after.at_hand ≡ without_taken (taken_at a taken) v.at_hand
   hand_young young = go (taken_at a taken) (subst (λ (bodies : List FrameText). OpensClosed (stands v) (taken_at a taken) bodies) (sym posts.listed) posts.in_order.opens)
     where
       go : (o : Option FrameView) → OpensClosed (stands v) o (map text_of_sending said) → (fold sends (if is_some o then after_take v else v) said).at_hand ≡ without_taken o v.at_hand
@@ -113,7 +114,7 @@ module _ (d : Driver) (st : State) (r : ℕ) (a : EndName) (v : EndView) (taken 
       go (Some f) opens = hand_sends d st r a sender word said (after_take v) (none_opened (stands v) f (map text_of_sending said) opens) ∙ hand_taken v young
 
   -- it takes nothing, and opens nothing
-  hand_still : taken_at a taken ≡ None → Each (λ b. is_opening b ≡ false) (map (λ f. f.body) (sent_at a sent)) → after.at_hand ≡ without_taken (taken_at a taken) v.at_hand
+  pub hand_still : taken_at a taken ≡ None → Each (λ b. is_opening b ≡ false) (map (λ f. f.body) (sent_at a sent)) → after.at_hand ≡ without_taken (taken_at a taken) v.at_hand
   hand_still none opens = go (taken_at a taken) none
     where
       go : (o : Option FrameView) → o ≡ None → (fold sends (if is_some o then after_take v else v) said).at_hand ≡ without_taken o v.at_hand

@@ -14,3 +14,11 @@ pub mod ReplyMade
 pub mod Stepped
 pub mod Pieces
 pub mod Fleet
+pub mod Passed
+pub mod WordsTaken
+pub mod WordsSent
+pub mod FleetWords
+pub mod JobMoves
+pub mod ActingJobs
+pub mod WordsHeard
+pub mod AnswersMove

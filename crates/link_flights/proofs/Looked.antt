@@ -1,5 +1,5 @@
 -- A look finds at the ends what a plain look finds of the flights.
-use Rattle.std.proofs.Common.{◌≡◌, ◌≢◌, ◌<◌, ◌+◌, ◌-◌, ◌*◌, ◌^◌, inl, inr, ℕ, Bool, true, false, ◌&&◌, List, [], ◌∷◌, length, Option, Some, None, is_some, refl, sym, ap, ◌∙◌, arith}
+use Rattle.std.proofs.Common.{◌≡◌, ◌≢◌, ◌<◌, ◌≤◌, ◌+◌, ◌-◌, ◌*◌, ◌^◌, inl, inr, ℕ, Bool, true, false, ◌&&◌, List, [], ◌∷◌, length, Option, Some, None, is_some, refl, sym, ap, ◌∙◌, subst, arith}
 use Rattle.std.specs.Prelude.{◌==◌, filter, find, flat_map, map, nat_le, nat_lt}
 use Rattle.std.specs.Option.{option_and_then, option_map, option_to_list}
 use Rattle.std.proofs.lemmas.Bool.{cases_Bool}
@@ -9,7 +9,7 @@ use Rattle.link_ring.specs.declared.frame.Frame.{Frame}
 use Rattle.link_ring.specs.Ends.{EndView, after_drop, free, is_taken, next_frame}
 use Rattle.run_data.specs.declared.entry.FrameView.{FrameView}
 use Rattle.node_model.specs.AnyTime.{all_ends}
-use Rattle.node_model.specs.Ends.{EndName, takes_at}
+use Rattle.node_model.specs.Ends.{End, EndName, takes_at}
 use Rattle.node_model.specs.SetUp.{SetUp}
 use Rattle.node_model.specs.State.{State}
 use Rattle.node_ends.specs.Ends.{AreEnds, IsEndOf, end_in, frame_at, hand_at, has_room, link_at, passes, room_at, stands}
@@ -106,3 +106,11 @@ pub drops_see : (links : List EndView) (s : SetUp)
     → flat_map (λ (a : EndName). option_to_list (hand_at (map after_drop links) a)) (all_ends s) ≡ flat_map (λ (a : EndName). option_to_list (hand_at links a)) (all_ends s)
 drops_see links s = flat_map_like (λ (a : EndName). option_to_list (hand_at (map after_drop links) a)) (λ (a : EndName). option_to_list (hand_at links a)) (all_ends s)
     (λ a member. ap (λ (o : Option FrameView). option_to_list o) (hand_drop links a))
+
+-- ---- the numbers of an end in a run of so many entries
+
+pub small_numbers : (c : End) (v : EndView) (n : ℕ) → c ≡ stands v → c.sent ≤ 2 * n → c.epoch ≤ 2 * n → n < 2 ^ 30 → (v.sent + 1 < 2 ^ 62) × (v.epoch < 2 ^ 32 - 1)
+small_numbers c v n stood sent epoch few =
+    let i : v.sent ≤ 2 * n = subst (λ (e : End). e.sent ≤ 2 * n) stood sent in
+    let j : v.epoch ≤ 2 * n = subst (λ (e : End). e.epoch ≤ 2 * n) stood epoch in
+    (omega (arith, i, few), omega (arith, j, few))

@@ -8,13 +8,32 @@ use Rattle.run_data.specs.declared.entry.FrameView.{FrameView}
 use Rattle.node_model.specs.Ends.{EndName, same_bool, sends_at, sent_at, takes_at}
 use Rattle.node_model.specs.State.{State}
 use Rattle.node_ends.specs.Ends.{frame_at}
+use Rattle.node_ends.specs.Joined.{end_with}
 use Rattle.driver_model.specs.Driver.{Driver, Flight, end_to, flight, is_at, is_sent_by}
-use Rattle.link_flights.specs.Flights.{comes_to, other_end}
+use Rattle.driver_model.specs.Ways.{other_end}
+use Rattle.link_flights.specs.Flights.{comes_to}
 use Rattle.link_flights.proofs.Lists.{filter_mapped}
 
 pub not_not : (b : Bool) → not (not b) ≡ b
 not_not true = refl
 not_not false = refl
+
+-- the other side's other side
+other_side-twice : (b : Bool) → (if (if b then false else true) then false else true) ≡ b
+other_side-twice true = refl
+other_side-twice false = refl
+
+other_side : (b : Bool) → not b ≡ (if b then false else true)
+other_side true = refl
+other_side false = refl
+
+-- the other end, by its name
+pub other_named : (r : ℕ) (a : EndName) → end_with r a.slot (not a.client) ≡ other_end r a
+other_named r a = ap (λ (c : Bool). end_with r a.slot c) (other_side a.client)
+
+pub not_other_side : (b : Bool) → not (if b then false else true) ≡ b
+not_other_side true = refl
+not_other_side false = refl
 
 -- a number that is another's isn't this
 pub other_number : (n q r : ℕ) → q ≢ r → (n == q) ≡ true → (n == r) ≡ false
@@ -27,7 +46,7 @@ pub end_path : (p q : ℕ) (b : Bool) (a : EndName) → p ≡ a.peer → q ≡ a
 end_path p q b a x y z i = record { peer = x i; slot = y i; client = z i }
 
 pub other_twice : (r : ℕ) (b : EndName) → b.peer ≡ r → (q : ℕ) → other_end r (other_end q b) ≡ b
-other_twice r b is q = end_path r b.slot (not (not b.client)) b (sym is) refl (not_not b.client)
+other_twice r b is q = end_path r b.slot (if (if b.client then false else true) then false else true) b (sym is) refl (other_side-twice b.client)
 
 -- ---- an end takes
 
@@ -77,7 +96,7 @@ at_elsewhere r q b f apart x is =
 
 -- ---- an end sends
 
-sent_form : (p q s c u : Bool) → (p && (q && (s && (if c then u else not u)))) ≡ (p && ((q && s) && same_bool (not c) (if u then false else true)))
+sent_form : (p q s c u : Bool) → (p && (q && (s && (if c then u else not u)))) ≡ (p && ((q && s) && same_bool (if c then false else true) (if u then false else true)))
 sent_form false q s c u = refl
 sent_form true false s c u = refl
 sent_form true true false c u = refl
@@ -90,7 +109,7 @@ sent_form true true true false false = refl
 pub sent_comes : (r : ℕ) (a : EndName) (x : Flight) → is_sent_by r a x ≡ comes_to a.peer (other_end r a) x
 sent_comes r a x = sent_form (x.to == a.peer) (x.frame.peer == r) (x.frame.slot == a.slot) a.client x.frame.up
 
-sends_form : (p s u c : Bool) → (p && ((true && s) && same_bool (not c) (if u then false else true))) ≡ ((p && s) && same_bool u c)
+sends_form : (p s u c : Bool) → (p && ((true && s) && same_bool (if c then false else true) (if u then false else true))) ≡ ((p && s) && same_bool u c)
 sends_form false s u c = refl
 sends_form true false u c = refl
 sends_form true true true true = refl

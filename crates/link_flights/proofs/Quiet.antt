@@ -23,7 +23,7 @@ use Rattle.link_flights.specs.Flights.{IsEndIn}
 pub first_none : (r : ℕ) (a : EndName) → IsEndIn at_first.flights r a fresh
 first_none r a = record { at_hand = refl; on_way = refl; used = refl }
 
-fresh_at : (n i : ℕ) (v : EndView) → slice_get (replicate n fresh) i ≡ Some v → v ≡ fresh
+pub fresh_at : (n i : ℕ) (v : EndView) → slice_get (replicate n fresh) i ≡ Some v → v ≡ fresh
 fresh_at zero i v is = absurd (cc)
 fresh_at (suc n) zero v is = cc
 fresh_at (suc n) (suc i) v is = fresh_at n i v is

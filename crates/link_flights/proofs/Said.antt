@@ -1,6 +1,6 @@
 -- What is sent at an end, by node_ends' words and by node_model's.
 use Rattle.std.proofs.Common.{◌≡◌, ◌+◌, ℕ, Bool, true, false, not, ◌&&◌, ◌||◌, List, [], ◌∷◌, ◌++◌, Option, Some, None, refl, sym, ap, ◌∙◌, subst, arith, append_assoc, true≢false}
-use Rattle.std.specs.Prelude.{◌==◌, fold, length, map, nat_lt}
+use Rattle.std.specs.Prelude.{◌==◌, fold, if◌then◌else◌, length, map, nat_lt}
 use Rattle.std.specs.List.{AllZip, after_first}
 use Rattle.std.specs.Option.{option_map}
 use Rattle.std.proofs.lemmas.Bool.Decides.{nat_tests}
@@ -27,9 +27,10 @@ use Rattle.node_ends.specs.Ends.{frame_at, stands, text_in}
 use Rattle.node_ends.specs.Sent.{link_sends, next_sent, opened_for, text_of_sending}
 use Rattle.driver_model.specs.Driver.{Driver, Flight, flight, piece_of}
 use Rattle.link_flights.specs.Entries.{HasPiece, OpensClosed}
-use Rattle.link_flights.specs.Flights.{flight_at, other_end}
+use Rattle.driver_model.specs.Ways.{other_end}
+use Rattle.link_flights.specs.Flights.{flight_at}
 use Rattle.link_flights.proofs.Lists.{rest, rest_after}
-use Rattle.link_flights.proofs.Naming.{not_not}
+use Rattle.link_flights.proofs.Naming.{not_other_side}
 
 -- ---- how an end stands after what it takes and sends
 
@@ -106,12 +107,12 @@ module _ (d : Driver) (st : State) (r : ℕ) (a : EndName) (sender : EntryStamp)
 
   one_flies : (x : Sending) (v : EndView) → HasPiece (piece_of d st r (listed (stands v) (text_of_sending x)) (text_of_sending x)) x
       → over (next_sent sender (word x) x (opened_for x v)) ≡ flight d st r (listed (stands v) (text_of_sending x))
-  one_flies sendings.Open v piece = flight_path a.peer r a.slot (v.epoch + 1) 1 texts.Opening (not (not a.client)) a.client [] [] (not_not a.client) refl
-  one_flies sendings.Close v piece = flight_path a.peer r a.slot v.epoch (v.sent + 1) texts.Closing (not (not a.client)) a.client [] [] (not_not a.client) refl
-  one_flies (sendings.Line line l) v piece = flight_path a.peer r a.slot v.epoch (v.sent + 1) (texts.Line line) (not (not a.client)) a.client [] [] (not_not a.client) refl
+  one_flies sendings.Open v piece = flight_path a.peer r a.slot (v.epoch + 1) 1 texts.Opening (not (if a.client then false else true)) a.client [] [] (not_other_side a.client) refl
+  one_flies sendings.Close v piece = flight_path a.peer r a.slot v.epoch (v.sent + 1) texts.Closing (not (if a.client then false else true)) a.client [] [] (not_other_side a.client) refl
+  one_flies (sendings.Line line l) v piece = flight_path a.peer r a.slot v.epoch (v.sent + 1) (texts.Line line) (not (if a.client then false else true)) a.client [] [] (not_other_side a.client) refl
   one_flies (sendings.Bytes bytes) v piece =
-      flight_path a.peer r a.slot v.epoch (v.sent + 1) (texts.Bytes (length bytes)) (not (not a.client)) a.client bytes
-      (piece_of d st r (listed (stands v) (texts.Bytes (length bytes))) (texts.Bytes (length bytes))) (not_not a.client) piece
+      flight_path a.peer r a.slot v.epoch (v.sent + 1) (texts.Bytes (length bytes)) (not (if a.client then false else true)) a.client bytes
+      (piece_of d st r (listed (stands v) (texts.Bytes (length bytes))) (texts.Bytes (length bytes))) (not_other_side a.client) piece
 
   way_more : (x : Sending) (v : EndView) → (sends v x).on_way ≡ v.on_way ++ next_sent sender (word x) x (opened_for x v) ∷ []
   way_more x v = ap (λ (fs : List Frame). fs ++ next_sent sender (word x) x (opened_for x v) ∷ []) (way_opened x v)

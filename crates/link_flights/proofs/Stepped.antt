@@ -44,11 +44,11 @@ pub record IsOrderly (st : State) (hand : List FrameView) (m : Made) : Type 0 wh
 none_taken : {A : Type 0} (o : Option FrameView) (f : FrameView) → o ≡ None → o ≡ Some f → A
 none_taken o f n i = absurd (let no' : None ≡ Some f = sym n ∙ i in cc)
 
-first_was : {X : Type 0} (x y : Option X) (z : X) → first_of x y ≡ Some z → (x ≡ Some z) ⊎ (y ≡ Some z)
+pub first_was : {X : Type 0} (x y : Option X) (z : X) → first_of x y ≡ Some z → (x ≡ Some z) ⊎ (y ≡ Some z)
 first_was None y z e = inr e
 first_was (Some x) y z e = inl e
 
-some_was : {X Y : Type 0} (f : X → Option Y) (xs : List X) (y : Y) → first_some f xs ≡ Some y → (x : X) × (f x ≡ Some y)
+pub some_was : {X Y : Type 0} (f : X → Option Y) (xs : List X) (y : Y) → first_some f xs ≡ Some y → (x : X) × (f x ≡ Some y)
 some_was f [] y e = absurd (cc)
 some_was {X = X} {Y = Y} f (x ∷ xs) y e = go (λ g. some_was f xs y g) (f x) refl e
   where
@@ -62,7 +62,7 @@ pub record Waits (c : End) (k : Look) (a : EndName) (f : FrameView) : Type 0 whe
   pub comes : takes_at a f ≡ true
   pub may : may_take c f ≡ true
 
-waits : (c : End) (k : Look) (a : EndName) (f : FrameView) → waiting c k a ≡ Some f → Waits c k a f
+pub waits : (c : End) (k : Look) (a : EndName) (f : FrameView) → waiting c k a ≡ Some f → Waits c k a f
 waits c k a f e =
     let x = find_member (λ g. takes_at a g && may_take c g) k.at_hand f e in
     let y = and_parts (takes_at a f) (may_take c f) x.1 in

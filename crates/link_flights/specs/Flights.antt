@@ -1,5 +1,5 @@
 -- The frames at the ends of connections are the flights of the sequential driver (own).
-use Rattle.std.specs.Prelude.{◌≡◌, ℕ, Bool, not, ◌&&◌, ◌==◌, List, [], filter, length, map}
+use Rattle.std.specs.Prelude.{◌≡◌, ℕ, Bool, ◌&&◌, ◌==◌, List, [], filter, length, map}
 use Rattle.link_ring.specs.declared.frame.Frame.{Frame}
 use Rattle.link_ring.specs.declared.frame.Body.{Body}
 use Rattle.link_ring.specs.declared.frame.Body.TheVariants as bodies
@@ -33,7 +33,3 @@ pub record IsEndIn (xs : List Flight) (r : ℕ) (a : EndName) (v : EndView) : Ty
   pub at_hand : HasAtHand xs r a v
   pub on_way : v.on_way ≡ []
   pub used : v.used ≡ length (filter (is_sent_by r a) xs)
-
--- the other end of the connection that r has at its end a; it is one of the repository a.peer
-abbrev pub other_end : ℕ → EndName → EndName
-other_end r a = record { peer = r; slot = a.slot; client = not a.client }

@@ -2,3 +2,5 @@
 pub mod Flights
 pub mod Entries
 pub mod Fleets
+pub mod Words
+pub mod Heard

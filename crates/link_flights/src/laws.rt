@@ -1,5 +1,5 @@
 //! The laws of ends and flights. Each is the contract of a function that does nothing.
-ghost use Rattle.std.specs.Prelude.{◌≡◌, ◌≢◌, ◌<◌, ◌+◌, ◌-◌, ◌*◌, ◌^◌, ℕ, List, [], false, flat_map, length, map, replicate, IfSome, Option, Some, None};
+ghost use Rattle.std.specs.Prelude.{◌≡◌, ◌≢◌, ◌<◌, ◌+◌, ◌-◌, ◌*◌, ◌^◌, ℕ, List, [], ◌∷◌, false, true, flat_map, length, map, replicate, IfSome, Option, Some, None};
 ghost use Rattle.std.specs.Option.{option_map, option_to_list};
 ghost use Rattle.annex_base.specs.Lists.{Each, Member};
 ghost use Rattle.annex_base.specs.declared.kinds.EntryStamp.{EntryStamp};
@@ -7,30 +7,45 @@ ghost use Rattle.annex_base.specs.declared.kinds.Word.{Word};
 ghost use Rattle.link_ring.specs.Ends.{EndView, after_carry, after_drop, fresh, next_frame};
 ghost use Rattle.run_data.specs.declared.entry.Entry.{Entry};
 ghost use Rattle.run_data.specs.declared.entry.EntryKind.{EntryKind};
+ghost use Rattle.run_data.specs.declared.entry.EntryKind.TheVariants as kinds;
 ghost use Rattle.run_data.specs.declared.entry.FrameText.TheVariants as texts;
 ghost use Rattle.run_data.specs.declared.entry.FrameView.{FrameView};
+ghost use Rattle.run_data.specs.declared.job.Job.{Job};
+ghost use Rattle.run_data.specs.declared.job.Outcome.{Outcome};
+ghost use Rattle.run_model.specs.Past.{is_of};
+ghost use Rattle.run_model.specs.States.{state_of, works};
 ghost use Rattle.node_model.specs.AnyTime.{all_ends, close_at, closes_all};
 ghost use Rattle.node_model.specs.Ends.{EndName, is_opening, sent_at, taken_at};
+ghost use Rattle.node_model.specs.Jobs.{Work};
 ghost use Rattle.node_model.specs.Look.{Look, Made, entry_of};
 ghost use Rattle.node_model.specs.SetUp.{SetUp};
+ghost use Rattle.node_model.specs.Slots.{job_of};
 ghost use Rattle.node_model.specs.State.{State};
 ghost use Rattle.node_model.specs.Step.{step};
 ghost use Rattle.node_ends.specs.declared.sending.Sending.{Sending};
 ghost use Rattle.node_ends.specs.declared.sending.Sending.TheVariants as sendings;
 ghost use Rattle.node_ends.specs.Ends.{AreEnds, SeesEnds, frame_at, hand_at, link_at, room_at, stands};
 ghost use Rattle.node_ends.specs.Sent.{text_of_sending};
-ghost use Rattle.driver_model.specs.Driver.{Driver, adds, at_first, piece_of, without_old_flights};
-ghost use Rattle.driver_model.specs.Turning.{makes, plain_look, store_after};
+ghost use Rattle.driver_model.specs.Driver.{Driver, Given, adds, at_first, piece_of, without_old_flights};
+ghost use Rattle.driver_model.specs.Sound.{IsSound};
+ghost use Rattle.driver_model.specs.Turning.{makes, plain_look, store_after, told_words};
 ghost use Rattle.link_flights.specs.Entries.{PostsAt, SendsInOrder, link_after};
 ghost use Rattle.link_flights.specs.Fleets.{AreAllCarried, AreEndsIn, AreOwnEndsIn, Posted};
-ghost use Rattle.link_flights.specs.Flights.{HasAtHand, IsEndIn, other_end};
+ghost use Rattle.driver_model.specs.Ways.{other_end};
+ghost use Rattle.driver_model.specs.WordsRead.{AgreeWhereRead};
+ghost use Rattle.link_flights.specs.Flights.{HasAtHand, IsEndIn};
+ghost use Rattle.race_core.specs.Jobs.{AnswersAsked, AreJobs, TakesAnswer};
+ghost use Rattle.link_flights.specs.Heard.{HeardSo, SameWords, WordsGoOn};
+ghost use Rattle.link_flights.specs.Words.{AreAllWorded, TellsWords};
 
+use driver_model::ends_have_small_numbers;
 use node_ends::ends_are_there;
+use race_core::steps_find_their_cause;
 
 /// A look at the ends of a repository, before or after they dropped what is old, finds the frames and the room that a plain look of
-/// the driver finds once it dropped the old flights (own). Where the ends of all repositories are as the flights tell, so are its. An
-/// end has room there while numbers are left for its frames and
-/// openings, which the driver doesn't count.
+/// the driver finds once it dropped the old flights. Where the ends of all repositories are as the flights tell, so are its. An end
+/// has room there while numbers are left for its frames and openings, which the driver doesn't count; they are left where the driver
+/// is sound and has made fewer than 2 ^ 30 entries (own).
 pub fn looks_see_the_flights()
     ensures at_hand { (links : List EndView) (s : SetUp) (st : State) (d : Driver) (k : Look) → AreEnds links s st
         → AreOwnEndsIn d.flights s links → SeesEnds links s k → k.at_hand ≡ (plain_look s (without_old_flights st s.number d)).at_hand }
@@ -41,9 +56,13 @@ pub fn looks_see_the_flights()
     ensures room { (links : List EndView) (s : SetUp) (st : State) (d : Driver) (a : EndName) (v : EndView) → Member a (all_ends s)
         → link_at links a ≡ Some v → IsEndIn d.flights s.number a v → v.sent + 1 < 2 ^ 62 → v.epoch < 2 ^ 32 - 1
         → room_at links a ≡ (plain_look s (without_old_flights st s.number d)).room a }
+    ensures in_runs { (g : Given) (links : List EndView) (s : SetUp) (d : Driver) (a : EndName) (v : EndView) → IsSound g d → length d.past < 2 ^ 30
+        → AreEnds links s (state_of s d.past) → Member a (all_ends s) → link_at links a ≡ Some v → IsEndIn d.flights s.number a v
+        → room_at links a ≡ (plain_look s (without_old_flights (state_of s d.past) s.number d)).room a }
 {
-    // For the proof, which cites it.
+    // For the proof, which cites them.
     ends_are_there();
+    ends_have_small_numbers();
 }
 
 /// What the driver drops before a turn of r is what the ends of r drop. At the ends of others the same frames stay at hand (own).
@@ -135,3 +154,61 @@ pub fn steps_are_posted()
         → bytes ≡ piece_of d st s.number f f.body)
         → Posted s st d sender word said was now e }
 {}
+
+/// The words beside the frames at hand at the clients' ends are those of the past: beside each line whose sender was asked for a word
+/// stands what that entry found. So it is at first; a turn, with an entry or without, keeps it, where what is said has its word; and so
+/// do a Close and a Crash of the script, and any entry that takes and sends nothing (own).
+pub fn words_stay_with_frames()
+    ensures first { (count : ℕ) → AreAllWorded [] count (λ q. replicate (count * 8) fresh) }
+    ensures moved { (s : SetUp) (d : Driver) (was now : ℕ → List EndView) (mine : List EndView) (e : Entry) (sender : EntryStamp)
+        (word : EndName → Sending → Option Word) (said : EndName → List Sending) → s.number < length s.repos
+        → AreEnds (was s.number) s (state_of s d.past) → AreEndsIn d.flights (length s.repos) was → AreAllWorded d.past (length s.repos) was
+        → e.repo ≡ Some s.number → TellsWords e word
+        → Posted s (state_of s d.past) (without_old_flights (state_of s d.past) s.number d) sender word said (map after_drop (was s.number)) mine e
+        → AreAllCarried (length s.repos) s.number mine was now → AreAllWorded (e ∷ d.past) (length s.repos) now }
+    ensures idle { (s : SetUp) (d : Driver) (was now : ℕ → List EndView) → s.number < length s.repos
+        → AreEnds (was s.number) s (state_of s d.past) → AreEndsIn d.flights (length s.repos) was → AreAllWorded d.past (length s.repos) was
+        → AreAllCarried (length s.repos) s.number (map after_drop (was s.number)) was now → AreAllWorded d.past (length s.repos) now }
+    ensures closed { (s : SetUp) (d : Driver) (was now : ℕ → List EndView) (mine : List EndView) (e : Entry) (sender : EntryStamp)
+        (word : EndName → Sending → Option Word) (said : EndName → List Sending) → s.number < length s.repos
+        → AreEnds (was s.number) s (state_of s d.past) → AreEndsIn d.flights (length s.repos) was → AreAllWorded d.past (length s.repos) was
+        → e.repo ≡ Some s.number → e.taken ≡ None → Each (λ f. is_opening f.body ≡ false) e.sent
+        → Posted s (state_of s d.past) d sender word said (was s.number) mine e
+        → AreAllCarried (length s.repos) s.number mine was now → AreAllWorded (e ∷ d.past) (length s.repos) now }
+    ensures quiet { (past : List Entry) (count : ℕ) (ends : ℕ → List EndView) (e : Entry) → e.taken ≡ None → e.sent ≡ []
+        → AreAllWorded past count ends → AreAllWorded (e ∷ past) count ends }
+{
+    // For the proof, which cites it.
+    ends_are_there();
+}
+
+/// The words that a repository's jobs were told, as its node keeps them, are those of the past, of each repository whose word the end
+/// of a job reads; so the words with which a job ends agree with the driver's where they are read. A step keeps it, where the node
+/// keeps the word beside the answer that a job takes, and where such an answer comes of an entry that was asked for a word; the job isn't
+/// as it was. So do entries of others, and those that no job makes or that begin one (own).
+pub fn heard_words_are_told()
+    ensures first { (r : ℕ) (words : ℕ → ℕ → Option Word) → HeardSo [] r words }
+    ensures stepped { (s : SetUp) (past : List Entry) (k : Look) (m : Made) (e : Entry) (ends : ℕ → List EndView) (was now : ℕ → ℕ → Option Word)
+        → s.number < length s.repos → AreEnds (ends s.number) s (state_of s past) → AreAllWorded past (length s.repos) ends
+        → k.at_hand ≡ flat_map (λ b. option_to_list (hand_at (map after_drop (ends s.number)) b)) (all_ends s)
+        → step s (state_of s past) k ≡ Some m → e.repo ≡ Some s.number → e.kind ≡ m.kind → e.taken ≡ m.taken
+        → AreJobs (works past s.number) → AnswersAsked past s.number e → WordsGoOn (map after_drop (ends s.number)) past s.number e was now
+        → HeardSo past s.number was → HeardSo (e ∷ past) s.number now }
+    ensures changed { (s : SetUp) (past : List Entry) (k : Look) (m : Made) (e : Entry) (w v : Work) (f : FrameView)
+        → step s (state_of s past) k ≡ Some m → e.repo ≡ Some s.number → e.kind ≡ m.kind → e.taken ≡ m.taken → e.sent ≡ m.sent
+        → AreJobs (works past s.number) → Member w (works past s.number) → Member v (works (e ∷ past) s.number) → v.number ≡ w.number
+        → TakesAnswer w e f → v.phase ≢ w.phase }
+    ensures other { (past : List Entry) (e : Entry) (r : ℕ) (words : ℕ → ℕ → Option Word) → is_of r e ≡ false → HeardSo past r words
+        → HeardSo (e ∷ past) r words }
+    ensures beside { (past : List Entry) (e : Entry) (r : ℕ) (was now : ℕ → ℕ → Option Word) → is_of r e ≡ true → job_of e.kind ≡ None
+        → SameWords past r was now → HeardSo past r was → HeardSo (e ∷ past) r now }
+    ensures begun { (past : List Entry) (e : Entry) (r job : ℕ) (what : Job) (was now : ℕ → ℕ → Option Word) → is_of r e ≡ true
+        → e.kind ≡ kinds.Begin job what → e.taken ≡ None → SameWords past r was now → HeardSo past r was → HeardSo (e ∷ past) r now }
+    ensures read { (s : SetUp) (past : List Entry) (m : Made) (words : ℕ → ℕ → Option Word) (own : ℕ → Option Word) → HeardSo past s.number words
+        → ((j : ℕ) (outcome : Outcome) → m.kind ≡ kinds.End j outcome → (c : ℕ) → own c ≡ words j c)
+        → AgreeWhereRead s (state_of s past) m own (told_words past s.number m.kind) }
+{
+    // For the proof, which cites them.
+    ends_are_there();
+    steps_find_their_cause();
+}

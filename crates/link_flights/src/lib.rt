@@ -5,5 +5,6 @@ mod laws;
 
 pub use laws::{
     dropped_ends_keep_their_flights, ends_begin_without_flights, entries_fly_over_connections,
-    looks_see_the_flights, steps_are_posted, steps_send_in_order, turns_keep_all_ends,
+    heard_words_are_told, looks_see_the_flights, steps_are_posted, steps_send_in_order,
+    turns_keep_all_ends, words_stay_with_frames,
 };

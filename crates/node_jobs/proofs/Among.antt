@@ -7,7 +7,7 @@ use Rattle.annex_base.specs.Lists.{Each, Member}
 use Rattle.annex_base.proofs.Conditions.{eqb_refl}
 use Rattle.annex_base.proofs.Lists.{Each-append, Each-left, Each-map, Each-member, Each-middle, Each-right, Each-weaker, filter_all, filter_no, filter_yes}
 use Rattle.node_model.specs.Jobs.{Work}
-use Rattle.node_jobs.specs.Changes.{kept}
+use Rattle.node_jobs.specs.Changes.{job_after}
 use Rattle.node_jobs.specs.Running.{AllApart, AreApart, DropJob, job_at, work_now}
 
 pub find_mapped : {X Y : Type 0} (f : X → Y) (p : Y → Bool) (xs : List X) → find p (map f xs) ≡ option_map f (find (λ x. p (f x)) xs)
@@ -61,7 +61,7 @@ none_by_number [] n others = refl
 none_by_number (x ∷ xs) n others = rw (not_same x.worker.number n others.0) (none_by_number xs n others.1)
 
 -- the others are found as they were, where one of them goes on or is off
-pub others_found : (n : ℕ) (front : List DropJob) (j j' : DropJob) (back : List DropJob) (ended : Bool) → j.worker.number ≢ n → j'.worker.number ≡ j.worker.number → job_at (front ++ (kept ended j' ++ back)) n ≡ job_at (front ++ j ∷ back) n
+pub others_found : (n : ℕ) (front : List DropJob) (j j' : DropJob) (back : List DropJob) (ended : Bool) → j.worker.number ≢ n → j'.worker.number ≡ j.worker.number → job_at (front ++ (job_after ended j' ++ back)) n ≡ job_at (front ++ j ∷ back) n
 others_found n [] j j' back true other same = rw (not_same j.worker.number n other) refl
 others_found n [] j j' back false other same = rw (not_same j.worker.number n other, not_same j'.worker.number n (λ e. other (sym same ∙ e))) refl
 others_found n (x ∷ front) j j' back ended other same = ap (λ (o : Option DropJob). if x.worker.number == n then Some x else o) (others_found n front j j' back ended other same)

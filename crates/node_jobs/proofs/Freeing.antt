@@ -36,7 +36,7 @@ use Rattle.drop_worker.specs.Leaving.{stands_on}
 use Rattle.drop_worker.specs.States.{IsSight, Keeps}
 use Rattle.drop_worker.specs.Worker.{Worker}
 use Rattle.drop_worker.specs.Working.{end_in, phase_as, sight, words_of}
-use Rattle.node_jobs.specs.Feeds.{Answers, PeersOf, SeesJob, told}
+use Rattle.node_jobs.specs.Feeds.{Answers, PeersOf, SeesJob, bare_feed}
 use Rattle.node_jobs.specs.Places.{IsPlace, PlaceView}
 use Rattle.node_jobs.specs.Reads.{Known, reading_of, standing_in}
 use Rattle.node_jobs.specs.Running.{DropJob, HasRead, place_reading, work_now}
@@ -79,7 +79,7 @@ module _ (p : PlaceView) (clock : ClockSet) (links : List EndView) (j : DropJob)
       subst (λ (q : Option ℕ). FindsAt (turn_of s st k (work_now j)) q None × FedAt (sight (place_reading p) (end_at links) time 0) j.worker.slot q None takens.Nothing) (sym at) (room, (refl, refl))
 
   -- a job at its first step sends nothing more than a Close
-  pub fresh_answers : j.worker.phase ≡ phases.Fresh → Answers p clock links j time (Some (told takens.Nothing))
+  pub fresh_answers : j.worker.phase ≡ phases.Fresh → Answers p clock links j time (Some (bare_feed takens.Nothing))
   fresh_answers fresh = λ rows c s st k sees keeps.
       free_by s st k (ap (λ (ph : Phase). list_all (has_room (turn_of s st k (work_now j))) (needs (turn_of s st k (work_now j)) (phase_as ph))) fresh)
 
@@ -95,7 +95,7 @@ module _ (p : PlaceView) (clock : ClockSet) (links : List EndView) (j : DropJob)
         (Each-weaker (IsOther (place_reading p)) (λ peer. has_room (turn_of s st k (work_now j)) peer ≡ room_at links (end_in j.worker.slot peer))
         (λ peer other. sees.sees.room (end_in j.worker.slot peer) (link_there links (length p.ids) j.worker.slot peer count other.0 below)) peers others)
 
-    pub roomy_answers : list_all (λ peer. room_at links (end_in j.worker.slot peer)) peers ≡ true → Answers p clock links j time (Some (told takens.Nothing))
+    pub roomy_answers : list_all (λ peer. room_at links (end_in j.worker.slot peer)) peers ≡ true → Answers p clock links j time (Some (bare_feed takens.Nothing))
     roomy_answers room = λ rows c s st k sees keeps. free_by s st k (rooms_are rows c s st k sees keeps ∙ room)
 
     pub full_answers : list_all (λ peer. room_at links (end_in j.worker.slot peer)) peers ≡ false → Answers p clock links j time None

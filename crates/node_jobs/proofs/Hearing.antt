@@ -45,7 +45,7 @@ use Rattle.drop_worker.specs.States.{Keeps}
 use Rattle.drop_worker.specs.Working.{end_in, phase_as, sight, taken_line, taken_of}
 use Rattle.node_jobs.specs.declared.feed.Feed.{Feed}
 use Rattle.node_jobs.specs.Acting.{WaitsFor, taken_by, word_at}
-use Rattle.node_jobs.specs.Feeds.{Answers, IsIdle, IsReady, SeesJob, IsFedAt, feed_at, feed_by, feed_of, told}
+use Rattle.node_jobs.specs.Feeds.{Answers, IsIdle, IsReady, SeesJob, IsFedAt, feed_at, feed_by, feed_of, bare_feed}
 use Rattle.node_jobs.specs.Places.{IsPlace, PlaceView}
 use Rattle.node_jobs.specs.Reads.{Known}
 use Rattle.node_jobs.specs.Running.{DropJob, Stands, place_reading, work_now}

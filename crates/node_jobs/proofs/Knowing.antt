@@ -39,9 +39,10 @@ use Rattle.drop_worker.specs.declared.turn.Taken.{Taken}
 use Rattle.drop_worker.specs.Feeding.{FedAt}
 use Rattle.drop_worker.specs.Leaving.{stands_on}
 use Rattle.drop_worker.specs.Sides.{IsNext}
-use Rattle.drop_worker.specs.States.{IsSight, StepsSo}
+use Rattle.drop_worker.specs.States.{IsSight, Sees, StepsSo}
 use Rattle.drop_worker.specs.Worker.{Worker}
-use Rattle.drop_worker.specs.Working.{phase_as, sight, words_of, work_of}
+use Rattle.drop_worker.specs.Working.{failed_in, phase_as, sight, words_of, work_of}
+use Rattle.node_jobs.specs.Calling.{Failing, JobMakes, WorkerMakes}
 use Rattle.node_jobs.specs.Doings.{Acts, ActsSo, Does, ReadsOn, SeesAct, Steps}
 use Rattle.node_jobs.specs.Places.{IsPlace, PlaceView}
 use Rattle.node_jobs.specs.Reads.{Known, need_in, reading_of, standing_at, standing_in, standings_by}
@@ -155,6 +156,19 @@ fed_as p clock links known time number slot None f taken fed = fed
 fed_as p clock links known time number slot (Some peer) None taken fed = fed
 fed_as p clock links known time number slot (Some peer) (Some f) taken fed = record { at = fed.at; live = fed.live; apart = fed.apart; is = fed.is }
 
+-- what its worker sees
+worker_sees : (p : PlaceView) (clock : ClockSet) (links : List EndView) (settings : Settings) (input : Input) (rows : Rows) (c : Contents) (j : DropJob) (known : Known) (out : Output) (s : SetUp) (st : State) (k : Look) (f : Option FrameView)
+    → Knows s st j known → SeesAct p clock links settings input rows c j out s st k f
+    → Sees (sight (reading_of p clock known) (end_at links) input.time input.number) rows c j.worker input.taken (failed_in out.kind) s st k (work_now j) f
+worker_sees p clock links settings input rows c j known out s st k f known_so sees =
+    record {
+      sight = sight_so p clock links s st k j known input.time input.number sees.job.place sees.job.ticks known_so sees.job.ends sees.number sees.job.at sees.words;
+      keeps = sees.keeps;
+      failing = sees.fails;
+      finds = sees.finds;
+      fed = fed_as p clock links known input.time input.number j.worker.slot (stands_on j.worker) f input.taken sees.fed;
+    }
+
 next_local : (side : Side) (r : Reading) (v v' : Work) → side ≡ Local → IsNext side r v v' → v ≡ v'
 next_local side r v v' local next = let P : Side → Type 0 = λ x. IsNext x r v v' in subst P local next
 
@@ -165,13 +179,7 @@ pub acts_so : (p : PlaceView) (clock : ClockSet) (links : List EndView) (setting
 acts_so p clock links settings input contents contents' rows rows' j w' known out side knows stands does steps = λ c is s st k f sees.
     let known_so : Knows s st j known = knows s st sees.job.place sees.job.read sees.logs sees.nameless in
     let so : StepsSo (sight (reading_of p clock known) (end_at links) input.time input.number) j.worker w' out s st k (work_now j) f =
-    does c is s st k (work_now j) f (record {
-      sight = sight_so p clock links s st k j known input.time input.number sees.job.place sees.job.ticks known_so sees.job.ends sees.number sees.job.at sees.words;
-      keeps = sees.keeps;
-      failing = sees.fails;
-      finds = sees.finds;
-      fed = fed_as p clock links known input.time input.number j.worker.slot (stands_on j.worker) f input.taken sees.fed;
-    }) in (
+    does c is s st k (work_now j) f (worker_sees p clock links settings input rows c j known out s st k f known_so sees) in (
       record { made = so.made; next = λ going. next_local (drop_side j.worker.job.kind j.worker.job.peer) (reading s st (work_now j)) (work_of plain w') _ side (so.next going) },
       λ going st' on. reads_on s st st' j w' known known_so on steps.number steps.job (has_begun p w'.phase ((steps.gone (can_stand p j.worker.phase j.known stands)).goes_on going)),
     )
@@ -182,6 +190,20 @@ pub acts_ok : (p : PlaceView) (clock : ClockSet) (links : List EndView) (setting
     → IfOk r (Acts p clock links settings input contents rows j (record { worker = w'; known = Some known }))
 acts_ok p clock links settings input contents contents' rows rows' j w' known (Ok out) side knows stands does steps = acts_so p clock links settings input contents contents' rows rows' j w' known out side knows stands does steps
 acts_ok p clock links settings input contents contents' rows rows' j w' known (Err e) side knows stands does steps = tt
+
+-- ---- its calls
+
+pub makes_so : (p : PlaceView) (clock : ClockSet) (links : List EndView) (settings : Settings) (input : Input) (contents : Option Contents) (rows : Rows) (j : DropJob) (known : Known) (before after : Failing) (out : Output)
+    → ((s : SetUp) (st : State) → IsPlace p s → HasRead s st j.worker j.known → st.logs ≡ settings → ((key : List ℕ) → standing_by settings key [] ≡ drops.Asked) → Knows s st j known)
+    → WorkerMakes p clock links known input contents rows j.worker before after out → JobMakes p clock links settings input contents rows before after j out
+makes_so p clock links settings input contents rows j known before after out knows makes = λ c is s st k f sees.
+    makes c is s st k (work_now j) f (worker_sees p clock links settings input rows c j known out s st k f (knows s st sees.job.place sees.job.read sees.logs sees.nameless) sees)
+
+pub makes_ok : (p : PlaceView) (clock : ClockSet) (links : List EndView) (settings : Settings) (input : Input) (contents : Option Contents) (rows : Rows) (j : DropJob) (known : Known) (before after : Failing) (r : Result Output NoMemory)
+    → ((s : SetUp) (st : State) → IsPlace p s → HasRead s st j.worker j.known → st.logs ≡ settings → ((key : List ℕ) → standing_by settings key [] ≡ drops.Asked) → Knows s st j known)
+    → IfOk r (WorkerMakes p clock links known input contents rows j.worker before after) → IfOk r (JobMakes p clock links settings input contents rows before after j)
+makes_ok p clock links settings input contents rows j known before after (Ok out) knows makes = makes_so p clock links settings input contents rows j known before after out knows makes
+makes_ok p clock links settings input contents rows j known before after (Err e) knows makes = tt
 
 -- it has read the logs with its first step
 pub stands_ok : (p : PlaceView) (contents contents' : Option Contents) (input : Input) (rows rows' : Rows) (j : DropJob) (w' : Worker) (known : Known) (r : Result Output NoMemory)

@@ -30,11 +30,11 @@ use Rattle.drop_worker.specs.Doing.{Grows, HasToken, OthersStay}
 use Rattle.node_jobs.specs.declared.acted.Acted.{Acted}
 use Rattle.node_jobs.specs.declared.finding.Found.{Found}
 use Rattle.node_jobs.specs.Acting.{new_worker, running_now, with_job, word_at}
-use Rattle.node_jobs.specs.Changes.{Changes, kept, output_of}
+use Rattle.node_jobs.specs.Changes.{Changes, job_after, output_of}
 use Rattle.node_jobs.specs.Leaving.{KeepsWord, Leaves, heard_at}
 use Rattle.node_jobs.specs.Running.{AllApart, AreApart, DropJob, IsDrop, IsOwn, Jobs, OwnAll, job_at, place_reading}
 use Rattle.node_jobs.specs.declared.feed.Feed.{Feed}
-use Rattle.node_jobs.specs.Feeds.{IsFedAt, feed_at, feed_by, feed_of, told}
+use Rattle.node_jobs.specs.Feeds.{IsFedAt, feed_at, feed_by, feed_of, bare_feed}
 use Rattle.node_jobs.proofs.Among.{found_by_number, apart_before, apart_behind, apart_with, apart_without, none_by_number, others_found}
 use Rattle.node_jobs.proofs.Knowing.{can_stand}
 use Rattle.drop_worker.specs.Begun.{HasBegun, HasGone}
@@ -72,7 +72,7 @@ module _ (links : List EndView) (clock : ClockSet) (settings : Settings) (jobs :
   later job key beyond =
       ch.others job key tokens.Nothing (λ e. let at : ch.j.worker.number ≤ jobs.begun = my_own.number in absurd (omega (arith, beyond, e, at))) (own.later job key beyond)
 
-  owns_by : (b : Bool) → a.ended ≡ b → OwnAll (record jobs { running = ch.front ++ (kept b ch.j' ++ ch.back) }) rows'
+  owns_by : (b : Bool) → a.ended ≡ b → OwnAll (record jobs { running = ch.front ++ (job_after b ch.j' ++ ch.back) }) rows'
   owns_by true ended =
       record {
         drops = Each-append (IsDrop jobs.place) ch.front ch.back (Each-left (IsDrop jobs.place) ch.front (ch.j ∷ ch.back) drops) (Each-right (IsDrop jobs.place) ch.front (ch.j ∷ ch.back) drops).1;
@@ -109,7 +109,7 @@ module _ (links : List EndView) (clock : ClockSet) (settings : Settings) (jobs :
 
   j'_found : a.ended ≡ false → find (λ x. x.worker.number == a.job) now ≡ Some ch.j'
   j'_found going =
-      ap (find (λ x. x.worker.number == a.job)) (ch.now_is ∙ ap (λ (b : Bool). ch.front ++ (kept b ch.j' ++ ch.back)) going)
+      ap (find (λ x. x.worker.number == a.job)) (ch.now_is ∙ ap (λ (b : Bool). ch.front ++ (job_after b ch.j' ++ ch.back)) going)
       ∙ (ap (λ (n : ℕ). find (λ x. x.worker.number == n) (ch.front ++ ch.j' ∷ ch.back)) (ch.job ∙ sym ch.steps.number)
       ∙ found_by_number (ch.front ++ ch.j' ∷ ch.back) ch.j' (apart_with ch.front ch.j ch.j' ch.back ch.steps.number gone.slot apart) (Member-append_right ch.front (ch.j' ∷ ch.back) ch.j' (inl refl)))
 
@@ -130,7 +130,7 @@ module _ (links : List EndView) (clock : ClockSet) (settings : Settings) (jobs :
       fed_so : (opened room : Bool) (o : Option FrameView) (f : FrameView) (peer : ℕ) (word : Option Word) (feed : Feed) → o ≡ Some f → Some feed ≡ feed_by opened room (feed_of peer word o) → feed.takes ≡ Some peer
           → (feed.taken ≡ taken_of f.body) × (feed.word ≡ word)
       fed_so false room o f peer word feed waits is takes =
-          absurd (let it : feed ≡ told takens.Closed = cc in let none : None ≡ Some peer = sym (ap (λ (x : Feed). x.takes) it) ∙ takes in some_none peer (sym none))
+          absurd (let it : feed ≡ bare_feed takens.Closed = cc in let none : None ≡ Some peer = sym (ap (λ (x : Feed). x.takes) it) ∙ takes in some_none peer (sym none))
       fed_so true false o f peer word feed waits is takes = absurd (some_none feed is)
       fed_so true true o f peer word feed waits is takes =
           let it : Some feed ≡ Some (record { taken = taken_of f.body; word = word; takes = Some peer }) = is ∙ ap (feed_of peer word) waits in
@@ -149,7 +149,7 @@ module _ (links : List EndView) (clock : ClockSet) (settings : Settings) (jobs :
 
   off_the_list : a.ended ≡ true → job_at now a.job ≡ None
   off_the_list ended =
-      ap (λ (js : List DropJob). job_at js a.job) (ch.now_is ∙ ap (λ (b : Bool). ch.front ++ (kept b ch.j' ++ ch.back)) ended)
+      ap (λ (js : List DropJob). job_at js a.job) (ch.now_is ∙ ap (λ (b : Bool). ch.front ++ (job_after b ch.j' ++ ch.back)) ended)
       ∙ (ap (job_at (ch.front ++ ch.back)) ch.job
       ∙ none_by_number (ch.front ++ ch.back) ch.j.worker.number (Each-append (λ x. x.worker.number ≢ ch.j.worker.number) ch.front ch.back
       (Each-weaker (λ x. AreApart x ch.j) (λ x. x.worker.number ≢ ch.j.worker.number) (λ x h. h.number) ch.front (apart_before ch.front ch.j ch.back apart))

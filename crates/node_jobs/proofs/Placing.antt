@@ -133,3 +133,6 @@ pub taken_there : {X : Type 0} (xs : List X) (i : ℕ) (x : X) → i < length xs
 taken_there xs i x within was =
     let len : length (take i xs) ≡ i = take_len i xs (omega (arith, within)) in
     ap (λ l. slice_get l i) was ∙ (ap (slice_get (take i xs ++ x ∷ drop (i + 1) xs)) (sym len) ∙ get_front (take i xs) x (drop (i + 1) xs))
+
+pub same_some : {X : Type 0} (x y : X) → Some x ≡ Some y → x ≡ y
+same_some x y is = cc

@@ -1,10 +1,11 @@
 -- The step of the first job that has one, and the works that follow.
 use Rattle.std.proofs.Common.{◌≡◌, ◌≢◌, inl, inr, ℕ, zero, suc, ◌+◌, ◌<◌, ◌≤◌, Bool, true, false, if◌then◌else◌, List, [], ◌∷◌, ◌++◌, length, filter, map, Option, Some, None, refl, sym, ap, subst, ◌∙◌, arith}
-use Rattle.std.specs.Prelude.{find, is_some, slice_get, ◌==◌, not}
+use Rattle.std.specs.Prelude.{find, is_some, nat_lt, slice_get, ◌==◌, not}
 use Rattle.std.proofs.lemmas.Option.{slice_get_cases}
 use Rattle.std.specs.Option.{ForSome, option_map, option_map_or}
 use Rattle.annex_base.specs.Lists.{Each, Member}
 use Rattle.annex_base.specs.Settings.{Settings}
+use Rattle.annex_base.specs.declared.kinds.Call.{Call}
 use Rattle.annex_base.specs.declared.kinds.Word.{Word}
 use Rattle.annex_base.proofs.Conditions.{eqb_refl}
 use Rattle.annex_base.proofs.Lists.{Each-append, Each-left, Each-member, Each-right, Each-weaker, Each-from_members, Member-append_left, Member-append_right, find_member}
@@ -28,6 +29,7 @@ use Rattle.node_model.specs.JobStep.{Turn, end_with, turn_of}
 use Rattle.node_model.specs.Turns.{by_partner, is_awaiting, job_step, slot_step}
 use Rattle.node_ends.specs.Ends.{end_at, room_at, wait_at}
 use Rattle.object_store.specs.Stores.{Contents}
+use Rattle.content_lock.specs.CallsMade.{MakesCalls, fewer}
 use Rattle.content_lock.specs.Rows.{Rows}
 use Rattle.run_data.specs.Repos.{id_of}
 use Rattle.drop_worker.specs.Begun.{HasGone, IsLast, IsOnward}
@@ -36,12 +38,15 @@ use Rattle.drop_worker.specs.declared.phase.Phase.TheVariants as phases
 use Rattle.drop_worker.specs.declared.turn.Taken.{Taken}
 use Rattle.drop_worker.specs.Feeding.{FedAt, FindsAt}
 use Rattle.drop_worker.specs.Leaving.{stands_on}
+use Rattle.drop_worker.specs.SlotCalls.{slot_calls}
 use Rattle.drop_worker.specs.States.{Keeps}
 use Rattle.drop_worker.specs.Working.{end_in, failed_in, frames_of, phase_as, sight, words_of}
 use Rattle.node_jobs.specs.declared.acted.Acted.{Acted}
 use Rattle.node_jobs.specs.declared.finding.Found.{Found}
 use Rattle.node_jobs.specs.Acting.{IsKindOf, SeesActed, SeesJobs, StepsJobs, WaitsFor, made_by, taken_by}
-use Rattle.node_jobs.specs.Changes.{Changes, input_of, kept, output_of}
+use Rattle.node_jobs.specs.Calling.{Failing, JobMakes}
+use Rattle.node_jobs.specs.Calls.{first_slot, job_calls, work_in}
+use Rattle.node_jobs.specs.Changes.{Changes, input_of, job_after, output_of}
 use Rattle.node_jobs.specs.Doings.{ActsSo, ReadsOn, SeesAct}
 use Rattle.node_jobs.specs.Feeds.{SeesJob}
 use Rattle.node_jobs.specs.Finding.{Finds, FindsFirst, IsFirst, IsSlotIdle, has_slot}
@@ -64,6 +69,16 @@ first_step f (suc (suc (suc (suc n)))) m below before at = absurd (omega (arith,
 
 pub no_step : (f : ℕ → Option Made) → ((i : ℕ) → i < 4 → f i ≡ None) → first_some f slots ≡ None
 no_step f none = rw (none 0 (omega arith), none 1 (omega arith), none 2 (omega arith), none 3 (omega arith)) refl
+
+pub first_found : (p : ℕ → Bool) (n : ℕ) → n < 4 → ((i : ℕ) → i < n → p i ≡ false) → p n ≡ true → find p slots ≡ Some n
+first_found p zero below before at = rw at refl
+first_found p (suc zero) below before at = rw (before 0 (omega arith), at) refl
+first_found p (suc (suc zero)) below before at = rw (before 0 (omega arith), before 1 (omega arith), at) refl
+first_found p (suc (suc (suc zero))) below before at = rw (before 0 (omega arith), before 1 (omega arith), before 2 (omega arith), at) refl
+first_found p (suc (suc (suc (suc n)))) below before at = absurd (omega (arith, below))
+
+pub none_found : (p : ℕ → Bool) → ((i : ℕ) → i < 4 → p i ≡ false) → find p slots ≡ None
+none_found p none = rw (none 0 (omega arith), none 1 (omega arith), none 2 (omega arith), none 3 (omega arith)) refl
 
 pub get_middle : {X : Type 0} (front : List X) (x : X) (back : List X) → slice_get (front ++ x ∷ back) (length front) ≡ Some x
 get_middle [] x back = refl
@@ -90,6 +105,20 @@ pub none_steps : (p : PlaceView) (clock : ClockSet) (links : List EndView) (js :
     → Each (λ j. SeesJob p clock links j time s st k) js → Keeps rows c st → st.works ≡ map work_now js → job_step s st k ≡ None
 none_steps p clock links js time rows c s st k idle sees keeps works =
     no_step (λ slot. slot_step s st k (find (λ w. w.slot == slot) st.works)) (λ slot below. slot_none p clock links js time slot rows c s st k (idle slot below) sees keeps works)
+
+-- so it makes no call
+pub none_calls : (p : PlaceView) (clock : ClockSet) (links : List EndView) (js : List DropJob) (time : ℕ) (rows : Rows) (c : Contents) (s : SetUp) (st : State) (k : Look) → Finds p clock links js time None
+    → Each (λ j. SeesJob p clock links j time s st k) js → Keeps rows c st → st.works ≡ map work_now js → job_calls s st k ≡ []
+none_calls p clock links js time rows c s st k idle sees keeps works =
+    ap (λ (o : Option ℕ). option_map_or (λ slot. slot_calls s st k (work_in st slot)) o [])
+    (none_found (λ slot. is_some (slot_step s st k (work_in st slot))) (λ slot below. ap (λ (m : Option Made). is_some m) (slot_none p clock links js time slot rows c s st k (idle slot below) sees keeps works)))
+
+pub all_left : (before : Failing) → before ≡ option_map (fewer None) before
+all_left None = refl
+all_left (Some failing) = refl
+
+pub none_made : (cs : List Call) (before : Failing) → cs ≡ [] → MakesCalls cs None before before
+none_made cs before none = record { first = λ failing told. ap (find (λ call. nat_lt 0 (failing call))) (sym none); left = all_left before }
 
 -- a job that is ready has a step
 -- the end is open where a frame is taken
@@ -174,8 +203,11 @@ module _ (links : List EndView) (clock : ClockSet) (settings : Settings) (jobs :
   among : Member ch.j jobs.running
   among = subst (Member ch.j) (sym ch.was_is) (middle_member ch.front ch.j ch.back)
 
+  job_there : slice_get jobs.running found.index ≡ Some ch.j
+  job_there = ap (λ (js : List DropJob). slice_get js found.index) ch.was_is ∙ (ap (slice_get (ch.front ++ ch.j ∷ ch.back)) (sym ch.place) ∙ get_middle ch.front ch.j ch.back)
+
   pub first_of_found : IsFirst jobs.place clock links jobs.running time found.feed ch.j
-  first_of_found = finds.job ch.j (ap (λ (js : List DropJob). slice_get js found.index) ch.was_is ∙ (ap (slice_get (ch.front ++ ch.j ∷ ch.back)) (sym ch.place) ∙ get_middle ch.front ch.j ch.back))
+  first_of_found = finds.job ch.j job_there
 
   drop : IsDrop jobs.place ch.j
   drop = Each-member (IsDrop jobs.place) jobs.running ch.j own.drops among
@@ -243,6 +275,26 @@ module _ (links : List EndView) (clock : ClockSet) (settings : Settings) (jobs :
         (ap (λ (ws : List Work). slot_step s st k (find (λ w. w.slot == ch.j.worker.slot) ws)) sees.works.works
         ∙ (ap (slot_step s st k) (find_mapped work_now (λ w. w.slot == ch.j.worker.slot) jobs.running ∙ ap (option_map work_now) first_of_found.found) ∙ (acts.made ∙ ap (λ (m : Made). Some m) made_is)))
 
+    -- ---- its calls
+
+    work_there : work_in st ch.j.worker.slot ≡ Some (work_now ch.j)
+    work_there =
+        ap (λ (ws : List Work). find (λ w. w.slot == ch.j.worker.slot) ws) sees.works.works
+        ∙ (find_mapped work_now (λ w. w.slot == ch.j.worker.slot) jobs.running ∙ ap (option_map work_now) first_of_found.found)
+
+    slot_there : first_slot s st k ≡ Some ch.j.worker.slot
+    slot_there =
+        first_found (λ slot. is_some (slot_step s st k (work_in st slot))) ch.j.worker.slot drop.slot
+        (λ slot below. ap (λ (m : Option Made). is_some m) (slot_none jobs.place clock links jobs.running time slot rows c s st k (first_of_found.before slot below) each keeps sees.works.works))
+        (ap (λ (o : Option Work). is_some (slot_step s st k o)) work_there ∙ ap (λ (m : Option Made). is_some m) acts.made)
+
+    calls_are : job_calls s st k ≡ slot_calls s st k (Some (work_now ch.j))
+    calls_are = ap (λ (o : Option ℕ). option_map_or (λ slot. slot_calls s st k (work_in st slot)) o []) slot_there ∙ ap (slot_calls s st k) work_there
+
+    pub calls_so : (before after : Failing) → ForSome (slice_get jobs.running found.index) (λ j. JobMakes jobs.place clock links settings (input_of found.feed time number) known rows before after j (output_of a))
+        → MakesCalls (job_calls s st k) (failed_in a.kind) before after
+    calls_so before after makes = subst (λ (cs : List Call). MakesCalls cs (failed_in a.kind) before after) (sym calls_are) (makes ch.j job_there c tells s st k f seen)
+
     -- ---- the works that follow
 
     module _ (st' : State) (follows : Follows s st (entry_of s.number k (made_by links a)) st') where
@@ -304,7 +356,7 @@ module _ (links : List EndView) (clock : ClockSet) (settings : Settings) (jobs :
       works_so : AreWorks s st' (record jobs { running = now })
       works_so = subst (λ (js : List DropJob). AreWorks s st' (record jobs { running = js })) (sym ch.now_is) (by_end a.ended refl)
         where
-          by_end : (b : Bool) → a.ended ≡ b → AreWorks s st' (record jobs { running = ch.front ++ (kept b ch.j' ++ ch.back) })
+          by_end : (b : Bool) → a.ended ≡ b → AreWorks s st' (record jobs { running = ch.front ++ (job_after b ch.j' ++ ch.back) })
           by_end false going = works_on_so (gone.onward going) going
           by_end true ended = works_off_so (gone.last ended)
 

@@ -15,10 +15,10 @@ use Rattle.node_jobs.specs.Doings.{Acts, Steps}
 use Rattle.node_jobs.specs.Places.{PlaceView}
 use Rattle.node_jobs.specs.Running.{DropJob, Stands}
 
--- a job that has ended is off the list
-abbrev pub kept : Bool → DropJob → List DropJob
-kept true j = []
-kept false j = j ∷ []
+-- the job on the list after its step: one that has ended is off
+abbrev pub job_after : Bool → DropJob → List DropJob
+job_after true j = []
+job_after false j = j ∷ []
 
 abbrev pub input_of : Feed → ℕ → ℕ → Input
 input_of feed time number = record { taken = feed.taken; time = time; number = number; word = feed.word }
@@ -34,7 +34,7 @@ pub record Changes (p : PlaceView) (clock : ClockSet) (links : List EndView) (se
   pub j' : DropJob
   pub place : length front ≡ found.index
   pub was_is : was ≡ front ++ j ∷ back
-  pub now_is : now ≡ front ++ (kept a.ended j' ++ back)
+  pub now_is : now ≡ front ++ (job_after a.ended j' ++ back)
   pub job : a.job ≡ j.worker.number
   pub slot : a.slot ≡ j.worker.slot
   pub takes : a.takes ≡ found.feed.takes

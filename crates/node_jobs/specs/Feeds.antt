@@ -28,8 +28,9 @@ use Rattle.node_jobs.specs.Reads.{Known, reading_of}
 use Rattle.node_jobs.specs.Places.{IsPlace, PlaceView}
 use Rattle.node_jobs.specs.Running.{DropJob, HasRead, place_reading, work_now}
 
-abbrev pub told : Taken → Feed
-told taken = record { taken = taken; word = None; takes = None }
+-- what is told, without a frame and a word
+abbrev pub bare_feed : Taken → Feed
+bare_feed taken = record { taken = taken; word = None; takes = None }
 
 abbrev pub feed_of : ℕ → Option Word → Option FrameView → Option Feed
 feed_of peer word None = None
@@ -37,7 +38,7 @@ feed_of peer word (Some f) = Some (record { taken = taken_of f.body; word = word
 
 -- what came at an end: that it is closed, or a frame where it has room
 abbrev pub feed_by : Bool → Bool → Option Feed → Option Feed
-feed_by false room feed = Some (told takens.Closed)
+feed_by false room feed = Some (bare_feed takens.Closed)
 feed_by true false feed = None
 feed_by true true feed = feed
 

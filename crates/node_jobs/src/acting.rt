@@ -1,13 +1,16 @@
 //! The step of a job.
 ghost use Rattle.std.specs.Prelude.{◌≡◌, ◌≤◌, ◌*◌, false, length, IfOk, IfSome, OnErr};
+ghost use Rattle.std.specs.Option.{option_map};
 ghost use Rattle.annex_base.specs.Causes.{Rose};
 ghost use Rattle.drop_proof.specs.declared.rule.Side.TheVariants as sides;
 ghost use Rattle.trust_groups.specs.View.{settings_of};
 ghost use Rattle.node_model.specs.Jobs.{drop_side};
+ghost use Rattle.content_lock.specs.CallsMade.{fewer};
 ghost use Rattle.drop_worker.specs.Doing.{HasToken, OthersStay};
 ghost use Rattle.drop_worker.specs.Feeding.{FitsLocal, ToldAt};
 ghost use Rattle.drop_worker.specs.Leaving.{stands_on};
 ghost use Rattle.drop_worker.specs.Working.{failed_in};
+ghost use Rattle.node_jobs.specs.Calling.{JobMakes, WorkerMakes};
 ghost use Rattle.node_jobs.specs.Doings.{Acts, Does, Steps};
 ghost use Rattle.node_jobs.specs.Running.{Stands};
 
@@ -43,6 +46,9 @@ pub(crate) fn act<K: Keeper>(
     requires stands { Stands place.now job.old.worker.phase job.old.known }
     requires count { length ends.now ≡ length place.now.ids * 8 }
     ensures acts { IfOk result (Acts place.now clock ends.now (settings_of settings.now) input.now (K.contents keeper.old) table.old job.old job.new) }
+    ensures calls { IfOk result (JobMakes place.now clock ends.now (settings_of settings.now) input.now (K.contents keeper.old) table.old (K.failing keeper.old) (K.failing keeper.new) job.old) }
+    ensures left { IfOk result (λ out. K.failing keeper.new ≡ option_map (fewer (failed_in out.kind)) (K.failing keeper.old)) }
+    ensures err_failing { OnErr result (K.failing keeper.new ≡ K.failing keeper.old) }
     ensures steps { IfOk result (Steps place.now (K.contents keeper.old) (K.contents keeper.new) input.now table.old table.new job.old.worker job.new.worker) }
     ensures stands { IfOk result (λ out. out.ended ≡ false → Stands place.now job.new.worker.phase job.new.known) }
     ensures owns { HasToken job.new.worker.number job.new.worker.job.key job.new.worker.token table.new }
@@ -104,6 +110,9 @@ fn advance<K: Keeper>(
     requires owns { HasToken worker.old.number worker.old.job.key worker.old.token table.old }
     requires count { length ends.now ≡ length place.now.ids * 8 }
     ensures does { IfOk result (Does place.now clock ends.now known.now input.now (K.contents keeper.old) table.old worker.old worker.new) }
+    ensures calls { IfOk result (WorkerMakes place.now clock ends.now known.now input.now (K.contents keeper.old) table.old worker.old (K.failing keeper.old) (K.failing keeper.new)) }
+    ensures left { IfOk result (λ out. K.failing keeper.new ≡ option_map (fewer (failed_in out.kind)) (K.failing keeper.old)) }
+    ensures err_failing { OnErr result (K.failing keeper.new ≡ K.failing keeper.old) }
     ensures steps { IfOk result (Steps place.now (K.contents keeper.old) (K.contents keeper.new) input.now table.old table.new worker.old worker.new) }
     ensures owns { HasToken worker.new.number worker.new.job.key worker.new.token table.new }
     ensures others { OthersStay worker.old.number table.old table.new }

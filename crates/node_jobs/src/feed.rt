@@ -20,7 +20,7 @@ pub(crate) struct Feed {
 }
 
 /// A job that awaits no frame, or whose connection was closed here.
-pub(crate) fn told(taken: Taken) -> Feed
+pub(crate) fn bare_feed(taken: Taken) -> Feed
     ensures { result ≡ record { taken = taken; word = None; takes = None } }
 {
     Feed {
@@ -37,7 +37,7 @@ pub(crate) fn heard(alloc: Global, ends: &mut Ends, end: EndId) -> Result<Option
     ensures same { ends.new ≡ ends.old }
 {
     if !ends.is_open(end) {
-        return Ok(Some(told(Taken::Closed)));
+        return Ok(Some(bare_feed(Taken::Closed)));
     }
     if !ends.room(end) {
         return Ok(None);

@@ -1,6 +1,6 @@
 //! The running jobs: which begin, and which has the next step.
 ghost use Rattle.std.specs.Prelude.{◌≡◌, ℕ, is_some, ◌≤◌, ◌<◌, ◌+◌, ◌-◌, ◌*◌, ◌^◌, [], length, map, IfOk, IfSome, IsErrOf, OnErr, OnOk};
-ghost use Rattle.std.specs.Option.{ForSome};
+ghost use Rattle.std.specs.Option.{ForSome, option_map};
 ghost use Rattle.annex_base.specs.Causes.{Rose};
 ghost use Rattle.annex_base.specs.Lists.{Each};
 ghost use Rattle.annex_base.specs.Settings.{Settings as SettingsView};
@@ -13,11 +13,13 @@ ghost use Rattle.node_model.specs.Slots.{free_slot, uses};
 ghost use Rattle.node_model.specs.State.{State};
 ghost use Rattle.node_model.specs.Turns.{job_step};
 ghost use Rattle.object_store.specs.Stores.{Contents};
+ghost use Rattle.content_lock.specs.CallsMade.{MakesCalls, fewer};
 ghost use Rattle.content_lock.specs.Rows.{AreAfter, Rows};
 ghost use Rattle.drop_worker.specs.Doing.{OthersStay, contents_after};
 ghost use Rattle.drop_worker.specs.States.{Keeps};
 ghost use Rattle.drop_worker.specs.Working.{failed_in};
 ghost use Rattle.node_jobs.specs.Acting.{IsKindOf, SeesActed, SeesJobs, StepsJobs, WaitsFor, running_now, with_job};
+ghost use Rattle.node_jobs.specs.Calls.{failed_by, job_calls};
 ghost use Rattle.node_jobs.specs.Leaving.{LeavesSo};
 ghost use Rattle.node_jobs.specs.Running.{AreWorks, Follows, IsDrop, OwnAll};
 
@@ -162,6 +164,12 @@ impl Jobs {
         // Of each state that these are, at a look at which the entry's call fails: the job's step is this one.
         ensures step { IfOk result (λ a. ForSome (K.contents keeper.old) (λ c. (s : SetUp) (st : State) (k : Look) → SeesJobs ends.old clock (settings_of settings.now) self.old number time s st k → Keeps table.old c st → SeesActed self.old k a
             → StepsJobs s st k ends.old self.old self.new a)) }
+
+        // It makes the calls of its store that the state's own step makes, and where one was to fail, it tells that call.
+        ensures calls { IfOk result (λ a. ForSome (K.contents keeper.old) (λ c. (s : SetUp) (st : State) (k : Look) → SeesJobs ends.old clock (settings_of settings.now) self.old number time s st k → Keeps table.old c st → SeesActed self.old k a
+            → MakesCalls (job_calls s st k) (failed_by a) (K.failing keeper.old) (K.failing keeper.new))) }
+        ensures left { IfOk result (λ a. K.failing keeper.new ≡ option_map (fewer (failed_by a)) (K.failing keeper.old)) }
+        ensures err_failing { OnErr result (K.failing keeper.new ≡ K.failing keeper.old) }
         ensures waits { IfOk result (λ a. IfSome a (λ it. WaitsFor ends.old it.slot it.takes)) }
         ensures slot { IfOk result (λ a. IfSome a (λ it. it.slot < 4)) }
         ensures kind { IfOk result (λ a. IfSome a (λ it. IsKindOf it.job it)) }

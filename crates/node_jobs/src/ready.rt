@@ -14,7 +14,7 @@ ghost use Rattle.node_jobs.specs.Feeds.{Answers, IsFedAt, PeersOf};
 ghost use Rattle.node_jobs.specs.Running.{Stands, place_reading};
 
 use crate::desk::Desk;
-use crate::feed::{Feed, heard, told};
+use crate::feed::{Feed, bare_feed, heard};
 use crate::job::DropJob;
 use crate::known::Known;
 use crate::place::{Clock, Place};
@@ -83,12 +83,12 @@ fn free(
     ensures same { ends.new ≡ ends.old }
 {
     match job.known() {
-        None => Ok(Some(told(Taken::Nothing))),
+        None => Ok(Some(bare_feed(Taken::Nothing))),
         Some(known) => {
             let peers = peers(job.worker(), alloc, place, clock, known, ends, time)?;
             let roomy = has_rooms(ends, job.worker().slot(), &peers);
             if roomy {
-                Ok(Some(told(Taken::Nothing)))
+                Ok(Some(bare_feed(Taken::Nothing)))
             } else {
                 Ok(None)
             }

@@ -1,15 +1,17 @@
 //! The step of one of the running jobs.
 ghost use Rattle.std.specs.Prelude.{◌≡◌, ◌≤◌, ◌<◌, ◌*◌, ◌++◌, true, drop, length, slice_get, take, vec_capacity, vec_len, IfOk, IfSome, OnErr};
-ghost use Rattle.std.specs.Option.{ForSome};
+ghost use Rattle.std.specs.Option.{ForSome, option_map};
 ghost use Rattle.annex_base.specs.Causes.{Rose};
 ghost use Rattle.annex_base.specs.Lists.{Each};
 ghost use Rattle.trust_groups.specs.View.{settings_of};
+ghost use Rattle.content_lock.specs.CallsMade.{fewer};
 ghost use Rattle.drop_worker.specs.declared.phase.Token.TheVariants as tokens;
 ghost use Rattle.drop_worker.specs.Doing.{HasToken};
 ghost use Rattle.drop_worker.specs.Feeding.{ToldAt};
 ghost use Rattle.drop_worker.specs.Leaving.{stands_on};
 ghost use Rattle.drop_worker.specs.Working.{failed_in};
-ghost use Rattle.node_jobs.specs.Changes.{Changes, kept};
+ghost use Rattle.node_jobs.specs.Calling.{JobMakes};
+ghost use Rattle.node_jobs.specs.Changes.{Changes, input_of, job_after, output_of};
 ghost use Rattle.node_jobs.specs.Running.{IsDrop};
 
 use crate::acted::Acted;
@@ -47,6 +49,9 @@ pub(crate) fn turn<K: Keeper>(
     requires owns { Each (λ j. HasToken j.worker.number j.worker.job.key j.worker.token table.old) running.old.items }
     requires count { length ends.now ≡ length place.now.ids * 8 }
     ensures changes { IfOk result (Changes place.now clock ends.now (settings_of settings.now) time number found (K.contents keeper.old) (K.contents keeper.new) table.old table.new running.old.items running.new.items) }
+    ensures calls { IfOk result (λ a. ForSome (slice_get running.old.items found.index) (λ j. JobMakes place.now clock ends.now (settings_of settings.now) (input_of found.feed time number) (K.contents keeper.old) table.old (K.failing keeper.old) (K.failing keeper.new) j (output_of a))) }
+    ensures left { IfOk result (λ a. K.failing keeper.new ≡ option_map (fewer (failed_in a.kind)) (K.failing keeper.old)) }
+    ensures err_failing { OnErr result (K.failing keeper.new ≡ K.failing keeper.old) }
     ensures holds { table.new.holds ≡ table.old.holds }
     ensures err { OnErr result ((running.new.items ≡ running.old.items) × (table.new ≡ table.old) × (K.contents keeper.new ≡ K.contents keeper.old)) }
     ensures records { K.records keeper.new ≡ K.records keeper.old }
@@ -100,7 +105,7 @@ fn settle(
     requires room { vec_len running.old < vec_capacity running.old }
     requires owns { HasToken job.worker.number job.worker.job.key job.worker.token table.old }
     requires spent { ended ≡ true → job.worker.token ≡ tokens.Nothing }
-    ensures list { running.new.items ≡ take index running.old.items ++ kept ended job ++ drop index running.old.items }
+    ensures list { running.new.items ≡ take index running.old.items ++ job_after ended job ++ drop index running.old.items }
     ensures table { table.new ≡ table.old }
 {
     if !ended {

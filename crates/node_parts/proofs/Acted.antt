@@ -2,28 +2,28 @@
 use Rattle.std.proofs.Common.{◌≡◌, ◌⊎◌, inl, inr, ℕ, ◌<◌, ◌+◌, ◌*◌, Bool, true, false, List, [], ◌∷◌, Option, Some, None, is_some, length, refl, sym, ap, subst, ◌∙◌, arith}
 use Rattle.std.specs.Prelude.{All, IfOk, Result, Ok, Err, bytes_eq, find, fold, not, ◌&&◌, ◌==◌, if◌then◌else◌}
 use Rattle.std.specs.List.{list_any}
-use Rattle.std.specs.Option.{ForSome, option_and_then, option_map, option_map_or}
+use Rattle.std.specs.Option.{ForSome, option_map, option_map_or}
 use Rattle.std.proofs.lemmas.Bool.{cases_Bool, true≢false}
 use Rattle.std.proofs.lemmas.List.Elements.{All-weaker}
 use Rattle.std.proofs.lemmas.Option.{same_Some}
 use Rattle.annex_base.specs.Lists.{Each}
 use Rattle.annex_base.specs.Settings.{Settings}
-use Rattle.annex_base.proofs.Options.{map_some, where_some}
+use Rattle.annex_base.specs.declared.kinds.Call.{Call}
 use Rattle.run_data.specs.declared.entry.By.{By}
 use Rattle.run_data.specs.declared.entry.Entry.{Entry}
 use Rattle.run_data.specs.declared.entry.EntryKind.{EntryKind}
 use Rattle.run_data.specs.declared.entry.EntryKind.TheVariants as kinds
 use Rattle.run_data.specs.declared.entry.FrameView.{FrameView}
 use Rattle.run_data.specs.declared.row.Hold.{Hold}
-use Rattle.object_store.specs.Stores.{Contents, with_at}
+use Rattle.object_store.specs.Stores.{Contents, Parts as StoredParts, with_at}
 use Rattle.p2p_wire.specs.declared.message.Message.TheVariants.{Failure}
 use Rattle.trust_groups.specs.Settings.{Lines, settings}
 use Rattle.content_lock.specs.Rows.{Rows, bar_at}
 use Rattle.content_lock.specs.Tokens.{Owns}
-use Rattle.link_ring.specs.Ends.{EndView, next_frame}
+use Rattle.link_ring.specs.Ends.{EndView}
 use Rattle.node_model.specs.After.{read_after, state_after}
 use Rattle.node_model.specs.Clocks.{ClockSet}
-use Rattle.node_model.specs.Ends.{End, EndName, end_sends, end_took, may_take, sent_at, taken_at}
+use Rattle.node_model.specs.Ends.{End, EndName, end_sends, end_took, sent_at, taken_at}
 use Rattle.node_model.specs.Evidence as drops
 use Rattle.node_model.specs.Evidence.{standing_by}
 use Rattle.node_model.specs.Look.{Look, Made, entry_of, first_of}
@@ -34,12 +34,15 @@ use Rattle.node_model.specs.SetUp.{SetUp}
 use Rattle.node_model.specs.Slots.{job_by, job_of}
 use Rattle.node_model.specs.State.{State}
 use Rattle.node_model.specs.Turns.{job_step}
-use Rattle.node_ends.specs.Ends.{AreEnds, SeesEnds, end_at, frame_at, hand_at, if_may, link_at, room_at, wait_at}
+use Rattle.content_lock.specs.CallsMade.{MakesCalls}
+use Rattle.node_ends.specs.Ends.{AreEnds, SeesEnds, end_at, link_at, room_at, wait_at}
 use Rattle.node_ends.specs.Going.{AreAfter}
 use Rattle.node_ends.specs.Joined.{StayPaired}
 use Rattle.p2p_server.specs.declared.session.Session.{Session}
-use Rattle.p2p_server.specs.Talking.{share_of}
+use Rattle.p2p_server.specs.Answers.{contents_after as contents_by_kind}
+use Rattle.p2p_server.specs.Talking.{session_of, share_of}
 use Rattle.node_sessions.specs.Sessions.{AreFilled, AreSessions, HaveEnds, OwnAll, owner_of}
+use Rattle.node_sessions.specs.Stored.{parts_after_taken}
 use Rattle.drop_worker.specs.declared.phase.Heard.TheVariants as heards
 use Rattle.drop_worker.specs.declared.phase.Phase.TheVariants as phases
 use Rattle.drop_worker.specs.declared.turn.Taken.TheVariants as takens
@@ -49,6 +52,7 @@ use Rattle.drop_worker.specs.States.{Keeps}
 use Rattle.drop_worker.specs.Working.{end_in, failed_in, frames_of, taken_of}
 use Rattle.node_jobs.specs.declared.acted.Acted.{Acted}
 use Rattle.node_jobs.specs.Acting.{IsKindOf, SeesActed, SeesJobs, StepsJobs, made_by, taken_by, word_at}
+use Rattle.node_jobs.specs.Calls.{failed_by as failed_by_acted, job_calls}
 use Rattle.node_jobs.specs.Leaving.{Leaves as LeavesJobs, heard_at, phase_at}
 use Rattle.node_jobs.specs.Places.{IsPlace, PlaceView}
 use Rattle.node_jobs.specs.Running.{AreWorks, Follows, IsDrop, Jobs, OwnAll as JobsOwn, job_at, words_at}
@@ -58,7 +62,9 @@ use Rattle.node_parts.specs.Jobs.{JobsGoOn}
 use Rattle.node_parts.specs.Kinds.{IsQuiet}
 use Rattle.node_parts.specs.Parts.{AreParts, HasContents, PartsView}
 use Rattle.node_parts.specs.Sound.{AreSound}
-use Rattle.node_parts.specs.Steps.{Acts, LeavesSo, SeesParts, Steps, made_of, words_heard}
+use Rattle.node_parts.specs.Steps.{Acts, LeavesSo, SeesParts, Steps, WhereActed, made_of, session_asked, words_heard}
+use Rattle.node_parts.specs.Stored.{bytes_taken, contents_then, parts_then}
+use Rattle.node_parts.proofs.Asked.{clients_ask_none, waits_there}
 use Rattle.node_parts.proofs.Going.{EndsGo, SessionsStay}
 use Rattle.node_parts.proofs.Sounding.{there_still}
 
@@ -200,6 +206,11 @@ pub record IsActed (was now : List EndView) (a : Acted) (d : Done) : Type 0 wher
 abbrev pub StepsThere : PartsView → Jobs → ClockSet → Settings → ℕ → ℕ → Contents → Option Acted → Type 0
 StepsThere was now clock view time number c o = (s : SetUp) (st : State) (k : Look) → SeesJobs was.links clock view was.jobs number time s st k → Keeps was.table c st → SeesActed was.jobs k o → StepsJobs s st k was.links was.jobs now o
 
+-- a look that finds what a step's entry tells, and what its job heard
+pub heard_of : (was : PartsView) (a : Acted) (d : Done) (k : Look) → d.kind ≡ a.kind → IsOfJob a.job a.kind → k.fails ≡ failed_in d.kind → k.words ≡ words_heard was (Some d) → SeesActed was.jobs k (Some a)
+heard_of was a d k same kind fails words =
+    (fails ∙ ap failed_in same, sym (words ∙ ap (λ (o : Option ℕ). option_map_or (words_at was.jobs.running) o (λ x. None)) (ap job_of same ∙ kind_job a.job a.kind kind)))
+
 module _ (asked : NamelessAsked) (room_there : RoomThere) (own_entries : OwnEntries) (go : EndsGo) (stay : SessionsStay)
     (was now : PartsView) (clock : ClockSet) (view : Settings) (time number : ℕ) (c : Contents) (contents : Option Contents) (sound : AreSound was)
     (s : SetUp) (st : State) (k : Look) (logs : st.logs ≡ view) (sees : SeesParts was c clock time number s st k) where
@@ -227,11 +238,15 @@ module _ (asked : NamelessAsked) (room_there : RoomThere) (own_entries : OwnEntr
     stored = subst (λ (o : Option Contents). ForSome o (λ x. HasContents x st)) (sym told) (λ x is. subst (λ (y : Contents). HasContents y st) (same_Some c x is) sees.stored);
   }
 
+  -- what is so wherever the jobs see such a state is so where the parts do
+  pub where_jobs : (P : Type 0) (o : Option Acted) → SeesActed was.jobs k o → (SeesJobs was.links clock view was.jobs number time s st k → Keeps was.table c st → SeesActed was.jobs k o → P) → P
+  where_jobs P o heard there = there (sees_jobs k.room sees.ends.room) keeps heard
+
   module _ (a : Acted) (d : Done) (step : StepsThere was now.jobs clock view time number c (Some a)) (acted : IsActed was.links now.links a d) (kind : IsOfJob a.job a.kind)
       (leaves : LeavesJobs was.links was.jobs now.jobs was.table now.table (Some c) contents a) (place : now.jobs.place ≡ was.jobs.place) (still : now.sessions ≡ was.sessions)
       (fails : k.fails ≡ failed_in d.kind) (words : k.words ≡ words_heard was (Some d)) where
     heard : SeesActed was.jobs k (Some a)
-    heard = (fails ∙ ap failed_in acted.kind, sym (words ∙ ap (λ (o : Option ℕ). option_map_or (words_at was.jobs.running) o (λ x. None)) (ap job_of acted.kind ∙ kind_job a.job a.kind kind)))
+    heard = heard_of was a d k acted.kind kind fails words
 
     steps : StepsJobs s st k was.links was.jobs now.jobs (Some a)
     steps = step s st k (sees_jobs k.room sees.ends.room) keeps heard
@@ -325,6 +340,61 @@ acts_some asked room owns go stay was now clock view time number known contents 
     steps_some asked room owns go stay was now clock view time number c contents sound s st k logs sees a d (step c is) acted kind
     (subst (λ (o : Option Contents). LeavesJobs was.links was.jobs now.jobs was.table now.table o contents a) is leaves) place still (fails d refl) (words d refl)
 
+-- ---- the calls of it
+
+-- what a step of the jobs tells of its calls, over a store with these contents
+abbrev pub CallsThere : PartsView → ClockSet → Settings → ℕ → ℕ → Contents → Option Acted → Option (Call → ℕ) → Option (Call → ℕ) → Type 0
+CallsThere was clock view time number c o before after = (s : SetUp) (st : State) (k : Look) → SeesJobs was.links clock view was.jobs number time s st k → Keeps was.table c st → SeesActed was.jobs k o
+    → MakesCalls (job_calls s st k) (failed_by_acted o) before after
+
+pub calls_none : NamelessAsked → RoomThere → OwnEntries → EndsGo → SessionsStay → (was now : PartsView) (clock : ClockSet) (view : Settings) (time number : ℕ) (known contents : Option Contents) (before after : Option (Call → ℕ)) → AreSound was
+    → ForSome known (λ c. CallsThere was clock view time number c None before after) → ForSome known (λ c. WhereActed was c clock view time number None (λ s st k. MakesCalls (job_calls s st k) None before after))
+calls_none asked room owns go stay was now clock view time number known contents before after sound calls = λ c is s st k logs sees fails words.
+    where_jobs asked room owns go stay was now clock view time number c contents sound s st k logs sees (MakesCalls (job_calls s st k) None before after) None tt
+    (λ there keeps heard. calls c is s st k there keeps heard)
+
+pub calls_some : NamelessAsked → RoomThere → OwnEntries → EndsGo → SessionsStay → (was now : PartsView) (clock : ClockSet) (view : Settings) (time number : ℕ) (known contents : Option Contents) (before after : Option (Call → ℕ)) → AreSound was
+    → (a : Acted) (d : Done) → d.kind ≡ a.kind → IsOfJob a.job a.kind → ForSome known (λ c. CallsThere was clock view time number c (Some a) before after)
+    → ForSome known (λ c. WhereActed was c clock view time number (Some d) (λ s st k. MakesCalls (job_calls s st k) (failed_in d.kind) before after))
+calls_some asked room owns go stay was now clock view time number known contents before after sound a d same kind calls = λ c is s st k logs sees fails words.
+    where_jobs asked room owns go stay was now clock view time number c contents sound s st k logs sees (MakesCalls (job_calls s st k) (failed_in d.kind) before after) (Some a) (heard_of was a d k same kind (fails d refl) (words d refl))
+    (λ there keeps heard. subst (λ (x : EntryKind). MakesCalls (job_calls s st k) (failed_in x) before after) (sym same) (calls c is s st k there keeps heard))
+
+-- ---- what is left of the store
+
+onward_left : (known : Option Contents) (parts : Option StoredParts) (job : ℕ) (kind : EntryKind) → IsOnward job kind → contents_after known kind ≡ contents_by_kind known parts kind
+onward_left known parts job (kinds.Share hold end owner key) h = refl
+onward_left known parts job (kinds.Bar j need key) h = refl
+onward_left known parts job (kinds.Order j target deadline need key) h = refl
+onward_left known parts job (kinds.Gone source key) h = refl
+onward_left known parts job (kinds.Talk j) h = refl
+onward_left known parts job (kinds.Fault call source) h = refl
+onward_left known parts job kind h = absurd h
+
+last_left : (known : Option Contents) (parts : Option StoredParts) (job : ℕ) (kind : EntryKind) → IsLast job kind → contents_after known kind ≡ contents_by_kind known parts kind
+last_left known parts job (kinds.End j outcome) h = refl
+last_left known parts job kind h = absurd h
+
+kind_left : (known : Option Contents) (parts : Option StoredParts) (job : ℕ) (kind : EntryKind) → IsOfJob job kind → contents_after known kind ≡ contents_by_kind known parts kind
+kind_left known parts job kind (inl h) = onward_left known parts job kind h
+kind_left known parts job kind (inr h) = last_left known parts job kind h
+
+pub contents_acted : (known contents : Option Contents) (parts : Option StoredParts) (a : Acted) (d : Done) → d.kind ≡ a.kind → IsOfJob a.job a.kind → contents ≡ contents_after known a.kind → contents ≡ contents_then known parts (Some d)
+contents_acted known contents parts a d same kind stored = stored ∙ kind_left known parts a.job a.kind kind ∙ ap (contents_by_kind known parts) (sym same)
+
+-- a frame that a job takes is that of the peer
+took_there : (links : List EndView) (slot : ℕ) (takes : Option ℕ) (f : FrameView) → taken_by links slot takes ≡ Some f → (peer : ℕ) × (takes ≡ Some peer) × (wait_at links (end_in slot peer) ≡ Some f)
+took_there links slot None f is = absurd cc
+took_there links slot (Some peer) f is = (peer, refl, is)
+
+-- a job takes frames at clients' ends alone
+pub acted_asks : (links : List EndView) (xs : List Session) (slot : ℕ) (takes : Option ℕ) (taken : Option FrameView) → taken ≡ taken_by links slot takes → session_asked xs taken ≡ None
+acted_asks links xs slot takes None is = refl
+acted_asks links xs slot takes (Some f) is = let took = took_there links slot takes f (sym is) in clients_ask_none links xs (end_in slot took.0) f refl took.2
+
+pub parts_acted : (p : PartsView) (d : Done) (known : Option StoredParts) → session_asked p.sessions d.taken ≡ None → known ≡ parts_then p known (Some d)
+parts_acted p d known asked = sym (ap (λ (x : Option Session). option_map_or (λ (y : Session). parts_after_taken (session_of y).doing d.taken (bytes_taken p.links d.taken) d.kind known) x known) asked)
+
 -- ---- what is left
 
 pub leaves_acted : (number : ℕ) (was now : PartsView) (known contents : Option Contents) (a : Acted) (d : Done) → IsActed was.links now.links a d → LeavesJobs was.links was.jobs now.jobs was.table now.table known contents a
@@ -340,22 +410,6 @@ pub quiet_acted : (was now : List EndView) (a : Acted) (d : Done) → IsActed wa
 quiet_acted was now a d acted is = subst IsQuiet (sym acted.kind) (kind_quiet a.job a.kind (kind_of a is))
 
 -- ---- what the jobs have heard
-
--- a frame that waits at an end is the end's
-waits_there : (links : List EndView) (b : EndName) (f : FrameView) → wait_at links b ≡ Some f → (f.peer ≡ b.peer) × (f.slot ≡ b.slot)
-waits_there links b f waits = go (hand_at links b) refl waits
-  where
-    go : (o : Option FrameView) → hand_at links b ≡ o → option_and_then (if_may (end_at links b)) o ≡ Some f → (f.peer ≡ b.peer) × (f.slot ≡ b.slot)
-    go None at is = absurd cc
-    go (Some g) at is =
-        let hand = map_some (option_and_then next_frame (link_at links b)) (frame_at b) g at in
-        let same : f ≡ frame_at b hand.0 = sym (same_Some g f (where_some (may_take (end_at links b) g) (Some g) f is).1) ∙ sym hand.2 in
-        (ap (λ (x : FrameView). x.peer) same, ap (λ (x : FrameView). x.slot) same)
-
--- so a frame that a job takes is that of the peer
-took_there : (links : List EndView) (slot : ℕ) (takes : Option ℕ) (f : FrameView) → taken_by links slot takes ≡ Some f → (peer : ℕ) × (takes ≡ Some peer) × (wait_at links (end_in slot peer) ≡ Some f)
-took_there links slot None f is = absurd cc
-took_there links slot (Some peer) f is = (peer, refl, is)
 
 module _ (was now : PartsView) (known contents : Option Contents) (a : Acted) (d : Done) (acted : IsActed was.links now.links a d) (kind : IsOfJob a.job a.kind)
     (leaves : LeavesJobs was.links was.jobs now.jobs was.table now.table known contents a) where

@@ -2,8 +2,10 @@
 pub mod Sounding
 pub mod Saying
 pub mod Going
+pub mod Asked
 pub mod Served
 pub mod Posting
 pub mod Posts
+pub mod Pieces
 pub mod Acted
 pub mod Staying

@@ -6,10 +6,11 @@ use Rattle.std.proofs.lemmas.Bool.{cases_Bool}
 use Rattle.std.proofs.lemmas.List.{map-append}
 use Rattle.std.proofs.lemmas.List.Elements.{filter-append}
 use Rattle.std.proofs.lemmas.List.Sums.{fold-append}
+use Rattle.annex_base.specs.Lists.{Member}
 use Rattle.annex_base.specs.declared.kinds.EntryStamp.{EntryStamp}
 use Rattle.annex_base.specs.declared.kinds.Word.{Word}
 use Rattle.annex_base.proofs.Conditions.{eqb_refl}
-use Rattle.annex_base.proofs.Lists.{cons_first}
+use Rattle.annex_base.proofs.Lists.{Member-append_cases, cons_first}
 use Rattle.annex_base.proofs.Options.{where_some}
 use Rattle.run_data.specs.declared.entry.EntryKind.{EntryKind}
 use Rattle.run_data.specs.declared.entry.FrameText.{FrameText}
@@ -22,11 +23,12 @@ use Rattle.node_ends.specs.declared.sending.Sending.TheVariants as sendings
 use Rattle.node_ends.specs.Ends.{end_at, frame_at, link_at, wait_at}
 use Rattle.node_ends.specs.Going.{IsSent}
 use Rattle.node_ends.specs.Sent.{link_sends, text_of_sending}
+use Rattle.node_sessions.specs.Pieces.{IsNoPiece}
 use Rattle.node_sessions.specs.Serving.{IsTalk}
 use Rattle.node_sessions.specs.Words.{word_to}
 use Rattle.node_parts.specs.declared.done.Done.{Done}
 use Rattle.node_parts.specs.declared.moment.Moment.{Moment}
-use Rattle.node_parts.specs.Posting.{Posts, PostsOn, after_step, stamp_of, taken_off, word_with}
+use Rattle.node_parts.specs.Posting.{Answer, PostsNothing, PostsOn, PostsOnly, after_step, stamp_of, taken_off, word_with}
 use Rattle.node_parts.proofs.Posting.{both, frame_end, same_bool_is, same_number, same_or_other, sends_its}
 
 -- ---- the word
@@ -85,12 +87,18 @@ same_link : (o : Option EndView) → o ≡ option_map (λ v. v) o
 same_link None = refl
 same_link (Some v) = refl
 
-pub posts_nothing : (sender : EntryStamp) (kind : EntryKind) (links now : List EndView) → now ≡ links → Posts sender kind links now None []
-posts_nothing sender kind links now same = subst (λ (l : List EndView). Posts sender kind links l None []) (sym same) (record { count = refl; took = λ a f none. absurd cc; said = λ a. []; listed = λ a. refl; links = λ a. same_link (link_at links a) })
+pub posts_nothing : (links now : List EndView) → now ≡ links → PostsNothing links now None
+posts_nothing links now same = λ answer sender kind. subst (λ (l : List EndView). PostsOnly answer sender kind links l None []) (sym same) (record {
+  posts = record { count = refl; took = λ a f none. absurd cc; said = λ a. []; listed = λ a. refl; links = λ a. same_link (link_at links a) };
+  pieces = λ a bytes among. absurd among;
+})
 
-pub posts_taken : (sender : EntryStamp) (kind : EntryKind) (was now : List EndView) (a : EndName) (frame : Frame) → Some (frame_at a frame) ≡ wait_at was a → link_at now a ≡ option_map after_take (link_at was a) → ((b : EndName) → b ≢ a → link_at now b ≡ link_at was b) → length now ≡ length was
-    → Posts sender kind was now (Some (frame_at a frame)) []
-posts_taken sender kind was now a frame waits link others count = record { count = count; took = took; said = λ b. []; listed = λ b. refl; links = links }
+pub posts_taken : (was now : List EndView) (a : EndName) (frame : Frame) → Some (frame_at a frame) ≡ wait_at was a → link_at now a ≡ option_map after_take (link_at was a) → ((b : EndName) → b ≢ a → link_at now b ≡ link_at was b) → length now ≡ length was
+    → PostsNothing was now (Some (frame_at a frame))
+posts_taken was now a frame waits link others count = λ answer sender kind. record {
+  posts = record { count = count; took = took; said = λ b. []; listed = λ b. refl; links = links sender kind };
+  pieces = λ b bytes among. absurd among;
+}
   where
     f : FrameView
     f = frame_at a frame
@@ -109,15 +117,22 @@ posts_taken sender kind was now a frame waits link others count = record { count
       | inr passes ↦ others b other ∙ (same_link (link_at was b) ∙ ap (λ (t : Bool). option_map (if_took t f) (link_at was b)) (sym passes))
     ]
 
-    links : (b : EndName) → link_at now b ≡ option_map (after_step sender kind b (Some f) []) (link_at was b)
-    links b = elim (same_or_other b a) [
+    links : (sender : EntryStamp) (kind : EntryKind) (b : EndName) → link_at now b ≡ option_map (after_step sender kind b (Some f) []) (link_at was b)
+    links sender kind b = elim (same_or_other b a) [
       | inl same ↦ subst (λ (x : EndName). link_at now x ≡ option_map (after_step sender kind x (Some f) []) (link_at was x)) (sym same) here
       | inr other ↦ elsewhere b other
     ]
 
 -- ---- what is sent
 
-module _ (sender : EntryStamp) (kind : EntryKind) (was now : List EndView) (taken : Option FrameView) (sent : List FrameView) (posts : Posts sender kind was now taken sent)
+-- where this is a piece, it is the answer
+abbrev IsOwn : Answer → EndName → Sending → Type 0
+IsOwn answer a said = (bytes : List ℕ) → said ≡ sendings.Bytes bytes → answer ≡ Some (a, sendings.Bytes bytes)
+
+none_own : (answer : Answer) (a : EndName) (said : Sending) → IsNoPiece said → IsOwn answer a said
+none_own answer a said plain = λ bytes is. absurd (subst IsNoPiece is plain)
+
+module _ (answer : Answer) (sender : EntryStamp) (kind : EntryKind) (was now : List EndView) (taken : Option FrameView) (sent : List FrameView) (only : PostsOnly answer sender kind was now taken sent)
     (next : List EndView) (a : EndName) (said : Sending) where
   module _ (f : FrameView) (is : IsSent a sender (word_with a taken kind said) said now next f) where
     sends : sends_at a f ≡ true
@@ -133,7 +148,7 @@ module _ (sender : EntryStamp) (kind : EntryKind) (was now : List EndView) (take
     if_said false = []
 
     abbrev said_at : EndName → List Sending
-    said_at b = posts.said b ++ if_said (sends_at b f)
+    said_at b = only.posts.said b ++ if_said (sends_at b f)
 
     one : (b : Bool) → map text_of_sending (if_said b) ≡ map (λ (g : FrameView). g.body) (if b then f ∷ [] else [])
     one true = ap (λ (t : FrameText). t ∷ []) body_is
@@ -141,29 +156,29 @@ module _ (sender : EntryStamp) (kind : EntryKind) (was now : List EndView) (take
 
     listed : (b : EndName) → map text_of_sending (said_at b) ≡ map (λ (g : FrameView). g.body) (sent_at b (sent ++ f ∷ []))
     listed b =
-        map-append text_of_sending (posts.said b) (if_said (sends_at b f))
-        ∙ (ap (λ (ts : List FrameText). ts ++ map text_of_sending (if_said (sends_at b f))) (posts.listed b)
+        map-append text_of_sending (only.posts.said b) (if_said (sends_at b f))
+        ∙ (ap (λ (ts : List FrameText). ts ++ map text_of_sending (if_said (sends_at b f))) (only.posts.listed b)
         ∙ (ap (λ (ts : List FrameText). map (λ (g : FrameView). g.body) (sent_at b sent) ++ ts) (one (sends_at b f))
         ∙ (sym (map-append (λ (g : FrameView). g.body) (sent_at b sent) (sent_at b (f ∷ [])))
         ∙ ap (map (λ (g : FrameView). g.body)) (sym (filter-append (sends_at b) sent (f ∷ []))))))
 
-    then_sends : (o : Option EndView) → option_map (link_sends sender (word_with a taken kind said) said) (option_map (after_step sender kind a taken (posts.said a)) o) ≡ option_map (after_step sender kind a taken (posts.said a ++ said ∷ [])) o
+    then_sends : (o : Option EndView) → option_map (link_sends sender (word_with a taken kind said) said) (option_map (after_step sender kind a taken (only.posts.said a)) o) ≡ option_map (after_step sender kind a taken (only.posts.said a ++ said ∷ [])) o
     then_sends None = refl
-    then_sends (Some v) = ap Some (sym (fold-append (λ w x. link_sends sender (word_with a taken kind x) x w) (taken_off a taken v) (posts.said a) (said ∷ [])))
+    then_sends (Some v) = ap Some (sym (fold-append (λ w x. link_sends sender (word_with a taken kind x) x w) (taken_off a taken v) (only.posts.said a) (said ∷ [])))
 
     here : link_at next a ≡ option_map (after_step sender kind a taken (said_at a)) (link_at was a)
     here =
         is.link
-        ∙ (ap (option_map (link_sends sender (word_with a taken kind said) said)) (posts.links a)
+        ∙ (ap (option_map (link_sends sender (word_with a taken kind said) said)) (only.posts.links a)
         ∙ (then_sends (link_at was a)
-        ∙ ap (λ (b : Bool). option_map (after_step sender kind a taken (posts.said a ++ if_said b)) (link_at was a)) (sym sends)))
+        ∙ ap (λ (b : Bool). option_map (after_step sender kind a taken (only.posts.said a ++ if_said b)) (link_at was a)) (sym sends)))
 
     elsewhere : (b : EndName) → b ≢ a → link_at next b ≡ option_map (after_step sender kind b taken (said_at b)) (link_at was b)
     elsewhere b other = elim (cases_Bool (sends_at b f)) [
       | inl does ↦ absurd (other (sends_only a b f sends does))
       | inr passes ↦
-          let same : said_at b ≡ posts.said b = ap (λ (t : Bool). posts.said b ++ if_said t) passes ∙ append-nil (posts.said b) in
-          is.others b other ∙ (posts.links b ∙ ap (λ (xs : List Sending). option_map (after_step sender kind b taken xs) (link_at was b)) (sym same))
+          let same : said_at b ≡ only.posts.said b = ap (λ (t : Bool). only.posts.said b ++ if_said t) passes ∙ append-nil (only.posts.said b) in
+          is.others b other ∙ (only.posts.links b ∙ ap (λ (xs : List Sending). option_map (after_step sender kind b taken xs) (link_at was b)) (sym same))
     ]
 
     links : (b : EndName) → link_at next b ≡ option_map (after_step sender kind b taken (said_at b)) (link_at was b)
@@ -172,30 +187,42 @@ module _ (sender : EntryStamp) (kind : EntryKind) (was now : List EndView) (take
       | inr other ↦ elsewhere b other
     ]
 
-    pub posts_more : Posts sender kind was next taken (sent ++ f ∷ [])
-    posts_more = record { count = is.count ∙ posts.count; took = posts.took; said = said_at; listed = listed; links = links }
+    -- a piece of these was said before, or is the one that is said now
+    pieces : IsOwn answer a said → (b : EndName) (bytes : List ℕ) → Member (sendings.Bytes bytes) (said_at b) → answer ≡ Some (b, sendings.Bytes bytes)
+    pieces own b bytes among = elim (Member-append_cases (only.posts.said b) (if_said (sends_at b f)) (sendings.Bytes bytes) among) [
+      | inl before ↦ only.pieces b bytes before
+      | inr now ↦ go (sends_at b f) refl now
+    ]
+      where
+        go : (t : Bool) → sends_at b f ≡ t → Member (sendings.Bytes bytes) (if_said t) → answer ≡ Some (b, sendings.Bytes bytes)
+        go true does (inl same) = subst (λ (x : EndName). answer ≡ Some (x, sendings.Bytes bytes)) (sym (sends_only a b f sends does)) (own bytes (sym same))
+        go true does (inr none) = absurd none
+        go false does none = absurd none
 
-  pub posts_word : (word : Option Word) → word ≡ word_with a taken kind said → (f : FrameView) → IsSent a sender word said now next f → Posts sender kind was next taken (sent ++ f ∷ [])
-  posts_word word same f is = posts_more f (subst (λ (w : Option Word). IsSent a sender w said now next f) same is)
+    pub posts_more : IsOwn answer a said → PostsOnly answer sender kind was next taken (sent ++ f ∷ [])
+    posts_more own = record { posts = record { count = is.count ∙ only.posts.count; took = only.posts.took; said = said_at; listed = listed; links = links }; pieces = pieces own }
+
+  pub posts_word : IsOwn answer a said → (word : Option Word) → word ≡ word_with a taken kind said → (f : FrameView) → IsSent a sender word said now next f → PostsOnly answer sender kind was next taken (sent ++ f ∷ [])
+  posts_word own word same f is = posts_more f (subst (λ (w : Option Word). IsSent a sender w said now next f) same is) own
 
   -- it is listed, where the end may send it
-  pub posts_by : a.client ≡ true → (o : Option FrameView) → ForSome o (IsSent a sender None said now next) → (o ≡ None → next ≡ now) → Posts sender kind was next taken (sent ++ option_to_list o)
-  posts_by client None is kept = subst (λ (l : List EndView). Posts sender kind was l taken (sent ++ [])) (sym (kept refl)) (subst (Posts sender kind was now taken) (sym (append-nil sent)) posts)
-  posts_by client (Some f) is kept = posts_word None (client_word a taken kind said client) f (is f refl)
+  pub posts_by : a.client ≡ true → IsNoPiece said → (o : Option FrameView) → ForSome o (IsSent a sender None said now next) → (o ≡ None → next ≡ now) → PostsOnly answer sender kind was next taken (sent ++ option_to_list o)
+  posts_by client plain None is kept = subst (λ (l : List EndView). PostsOnly answer sender kind was l taken (sent ++ [])) (sym (kept refl)) (subst (PostsOnly answer sender kind was now taken) (sym (append-nil sent)) only)
+  posts_by client plain (Some f) is kept = posts_word (none_own answer a said plain) None (client_word a taken kind said client) f (is f refl)
 
 -- ---- one behind the other
 
 pub posts_on : (sender : EntryStamp) (first mid last : List EndView) (sent sent' sent'' : List FrameView) → PostsOn sender first mid sent sent' → PostsOn sender mid last sent' sent'' → PostsOn sender first last sent sent''
-posts_on sender first mid last sent sent' sent'' before behind = λ kind was taken so_far. behind kind was taken (before kind was taken so_far)
+posts_on sender first mid last sent sent' sent'' before behind = λ answer kind was taken so_far. behind answer kind was taken (before answer kind was taken so_far)
 
 pub posts_still : (sender : EntryStamp) (links : List EndView) (sent : List FrameView) → PostsOn sender links links sent sent
-posts_still sender links sent = λ kind was taken so_far. so_far
+posts_still sender links sent = λ answer kind was taken so_far. so_far
 
 -- ---- a whole step
 
 -- of the stamp and the links that these are
-pub posts_at : (m : Moment) (own number : ℕ) (stamp : EntryStamp) (was mid now : List EndView) (d : Done) → stamp ≡ stamp_of m own → own ≡ number → mid ≡ was → Posts stamp d.kind mid now d.taken d.sent
-    → Posts (stamp_of m number) d.kind was now d.taken d.sent
-posts_at m own number stamp was mid now d is numbered same posts =
-    subst (λ (links : List EndView). Posts (stamp_of m number) d.kind links now d.taken d.sent) same
-    (subst (λ (s : EntryStamp). Posts s d.kind mid now d.taken d.sent) (is ∙ ap (stamp_of m) numbered) posts)
+pub posts_at : (answer : Answer) (m : Moment) (own number : ℕ) (stamp : EntryStamp) (was mid now : List EndView) (d : Done) → stamp ≡ stamp_of m own → own ≡ number → mid ≡ was → PostsOnly answer stamp d.kind mid now d.taken d.sent
+    → PostsOnly answer (stamp_of m number) d.kind was now d.taken d.sent
+posts_at answer m own number stamp was mid now d is numbered same posts =
+    subst (λ (links : List EndView). PostsOnly answer (stamp_of m number) d.kind links now d.taken d.sent) same
+    (subst (λ (s : EntryStamp). PostsOnly answer s d.kind mid now d.taken d.sent) (is ∙ ap (stamp_of m) numbered) posts)

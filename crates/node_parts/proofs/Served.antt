@@ -26,6 +26,7 @@ use Rattle.node_model.specs.SetUp.{SetUp}
 use Rattle.node_model.specs.Files.{lines_after}
 use Rattle.node_model.specs.Slots.{is_begin, job_of}
 use Rattle.node_model.specs.State.{State}
+use Rattle.content_lock.specs.CallsMade.{MakesCalls}
 use Rattle.node_ends.specs.Ends.{end_at}
 use Rattle.node_ends.specs.Going.{AreAfter}
 use Rattle.p2p_server.specs.declared.session.Session.{Session}
@@ -35,15 +36,17 @@ use Rattle.p2p_server.specs.Talking.{AreAfterStep}
 use Rattle.drop_worker.specs.Working.{failed_in}
 use Rattle.node_sessions.specs.declared.served.Served.{Served}
 use Rattle.node_sessions.specs.Kinds.{IsOfSession}
-use Rattle.node_sessions.specs.Sessions.{AreSessions, FedAll, fills_in}
-use Rattle.node_sessions.specs.Serving.{AreAfterIf, FailsBy, HasPart, Sees, SeesPartBy, ServesAt, ServesIf, StepsSo, end_by, ends_after, failed_by as failed_by_served, made_by, sessions_after}
+use Rattle.node_sessions.specs.Calls.{session_calls}
+use Rattle.node_sessions.specs.Sessions.{AreSessions, fills_in}
+use Rattle.node_sessions.specs.Serving.{AreAfterIf, FailsBy, Sees, SeesPartBy, ServesAt, ServesIf, StepsSo, end_by, ends_after, failed_by as failed_by_served, made_by, sessions_after}
 use Rattle.node_jobs.specs.Places.{IsPlace}
 use Rattle.node_jobs.specs.Running.{AreWorks, DropJob, Jobs, OwnAll as JobsOwn, work_now}
 use Rattle.node_parts.specs.declared.done.Done.{Done}
 use Rattle.node_parts.specs.Kinds.{IsQuiet}
 use Rattle.node_parts.specs.Parts.{AreParts, HasContents, PartsView}
 use Rattle.node_parts.specs.Sound.{AreSound}
-use Rattle.node_parts.specs.Steps.{EndsAfter, Fails, FindsPart, LeavesSo, SeesParts, Serves, Steps, failed_by, made_of}
+use Rattle.node_parts.specs.Steps.{EndsAfter, Fails, LeavesSo, SeesParts, Serves, Steps, WhereServed, failed_by, made_of}
+use Rattle.node_parts.proofs.Asked.{asks_of, kind_same}
 use Rattle.node_parts.proofs.Going.{EndsGo}
 
 -- ---- what laws say
@@ -61,9 +64,6 @@ JobsStay = (s : SetUp) (st : State) (e : Entry) (jobs : Jobs) (rows : Rows) → 
 
 abbrev pub OwnEntries : Type 0
 OwnEntries = (s : SetUp) (st : State) (k : Look) (m : Made) → session_step s st k ≡ Some m → IsOfSession m.kind × (m.lines ≡ [])
-
-abbrev pub LooksSee : Type 0
-LooksSee = (p : StoredParts) (xs : List Session) (links : List EndView) (o : Option Served) → FedAll p xs → HasPart (Some p) xs links o
 
 -- ---- what the state is
 
@@ -189,64 +189,55 @@ then_of go shuts stay own was now contents (Some v) (Some d) sound jobs serves s
 abbrev pub FailsSo : Option Served → Option Done → Type 0
 FailsSo o d = (k : Look) → Fails d k → FailsBy o k.fails
 
-kind_of : (links : List EndView) (v : Served) (d : Done) → option_map made_of (Some d) ≡ option_map (made_by links) (Some v) → d.kind ≡ v.kind
-kind_of links v d same = ap (λ (m : Made). m.kind) (same_Some (made_of d) (made_by links v) same)
-
 fails_of : (links : List EndView) (o : Option Served) (d : Option Done) → option_map made_of d ≡ option_map (made_by links) o → FailsSo o d
 fails_of links None d same k f = λ v is. absurd (some_none v (sym is))
 fails_of links (Some v) None same k f = absurd (some_none (made_by links v) (sym same))
 fails_of links (Some v) (Some d) same k f = λ w is.
-    f d refl ∙ (same_failure d.kind ∙ (ap failed_here (kind_of links v d same) ∙ ap (λ (x : Served). failed_here x.kind) (same_Some v w is)))
+    f d refl ∙ (same_failure d.kind ∙ (ap failed_here (kind_same links v d same) ∙ ap (λ (x : Served). failed_here x.kind) (same_Some v w is)))
 
--- the look finds the part of the step that the sessions have
-abbrev pub FindsSo : Option Served → Option Done → Type 0
-FindsSo o d = (part : ℕ) (right : Bool) (k : Look) → FindsPart d part right k → (v : Served) → o ≡ Some v → (k.part ≡ part) × (k.right ≡ right)
-
-finds_of : (links : List EndView) (o : Option Served) (d : Option Done) → option_map made_of d ≡ option_map (made_by links) o → FindsSo o d
-finds_of links None d same part right k finds = λ v is. absurd (some_none v (sym is))
-finds_of links (Some v) None same part right k finds = absurd (some_none (made_by links v) (sym same))
-finds_of links (Some v) (Some d) same part right k finds = λ w is. finds d refl
-
-failed_same : (links : List EndView) (o : Option Served) (d : Option Done) → option_map made_of d ≡ option_map (made_by links) o → failed_by d ≡ failed_by_served o
+pub failed_same : (links : List EndView) (o : Option Served) (d : Option Done) → option_map made_of d ≡ option_map (made_by links) o → failed_by d ≡ failed_by_served o
 failed_same links None None same = refl
 failed_same links None (Some d) same = absurd (some_none (made_of d) same)
 failed_same links (Some v) None same = absurd (some_none (made_by links v) (sym same))
-failed_same links (Some v) (Some d) same = same_failure d.kind ∙ ap failed_here (kind_of links v d same)
+failed_same links (Some v) (Some d) same = same_failure d.kind ∙ ap failed_here (kind_same links v d same)
 
 pub cause_of : (links : List EndView) (o : Option Served) (d : Option Done) → option_map made_of d ≡ option_map (made_by links) o → (R : Type 0) → IfSome (failed_by_served o) (λ call. R) → IfSome (failed_by d) (λ call. R)
 cause_of links o d same R cause = subst (λ (f : Option Call). IfSome f (λ call. R)) (sym (failed_same links o d same)) cause
 
-serves : FillsLaw → LooksSee → (was now : PartsView) (known contents : Option Contents) (parts : Option StoredParts) (clock : ClockSet) (time number : ℕ) (o : Option Served) (d : Option Done)
-    → AreSound was
-    → ((s : SetUp) (st : State) (k : Look) → Sees was.links was.table known parts (runs_on clock time) number was.sessions o s st k → StepsSo was.links o now.sessions now.table contents s st k)
-    → Then was now contents o d → FailsSo o d → FindsSo o d
-    → ForSome known (λ c. ForSome parts (λ q. FedAll q was.sessions → Serves was now c contents clock time number d))
-serves fills looks was now known contents parts clock time number o d sound step then_d fails finds_so = λ c told q told_parts fed.
-    let has = looks q was.sessions was.links o fed in
-    record {
-      part = has.part;
-      right = has.right;
-      steps = λ s st k sees fail finds.
-          let part : SeesPartBy parts was.sessions was.links o k.part k.right = (λ v is.
-          let found = finds_so has.part has.right k finds v is in
-          let there : SeesPartBy (Some q) was.sessions was.links (Some v) has.part has.right = subst (λ (y : Option Served). SeesPartBy (Some q) was.sessions was.links y has.part has.right) is has.sees in
-          subst (λ (x : Option StoredParts). SeesPartBy x was.sessions was.links (Some v) k.part k.right) (sym told_parts)
-          (subst (λ (n : ℕ). SeesPartBy (Some q) was.sessions was.links (Some v) n k.right) (sym found.0) (subst (λ (b : Bool). SeesPartBy (Some q) was.sessions was.links (Some v) has.part b) (sym found.1) there)) v refl) in
-          then_d s st k sees.parts (step s st k (sees_of fills was known parts c clock time number o s st k sound told sees part (fails k fail)));
-    }
+-- what is so wherever the sessions see such a state and look is so where the parts do
+where_served : FillsLaw → (was : PartsView) (known : Option Contents) (parts : Option StoredParts) (clock : ClockSet) (time number : ℕ) (o : Option Served) (d : Option Done) → AreSound was → option_map made_of d ≡ option_map (made_by was.links) o
+    → (P : SetUp → State → Look → Type 0) → ((s : SetUp) (st : State) (k : Look) → AreParts s st was → Sees was.links was.table known parts (runs_on clock time) number was.sessions o s st k → P s st k)
+    → ForSome known (λ c. WhereServed was c parts clock time number d P)
+where_served fills was known parts clock time number o d sound same P there = λ c told s st k sees fails asks.
+    there s st k sees.parts (sees_of fills was known parts c clock time number o s st k sound told sees (asks_of was parts o d same k.part k.right asks) (fails_of was.links o d same k fails))
 
--- the step, at ends that are those before it
-pub step_of : FillsLaw → LooksSee → EndsGo → ClosedLaw → JobsStay → OwnEntries → (was now : PartsView) (mid : List EndView) (known contents : Option Contents) (parts : Option StoredParts) (clock : ClockSet) (time number shows : ℕ) (o : Option Served) (d : Option Done)
+-- at ends that are those before the step
+pub made_at : (was mid : List EndView) (o : Option Served) (d : Option Done) → mid ≡ was → option_map made_of d ≡ option_map (made_by mid) o → option_map made_of d ≡ option_map (made_by was) o
+made_at was mid o d mid_is made = made ∙ ap (λ (links : List EndView). option_map (made_by links) o) mid_is
+
+-- the step
+pub step_of : FillsLaw → EndsGo → ClosedLaw → JobsStay → OwnEntries → (was now : PartsView) (mid : List EndView) (known contents : Option Contents) (parts : Option StoredParts) (clock : ClockSet) (time number shows : ℕ) (o : Option Served) (d : Option Done)
     → AreSound was → now.jobs ≡ was.jobs → mid ≡ was.links → shows ≡ runs_on clock time
     → ((s : SetUp) (st : State) (k : Look) → Sees was.links was.table known parts shows number was.sessions o s st k → StepsSo was.links o now.sessions now.table contents s st k)
     → ServesIf was.links o → option_map made_of d ≡ option_map (made_by mid) o → AreAfterIf o was.table now.table → EndsAfter mid now.links d → (o ≡ None → now.sessions ≡ was.sessions)
-    → ForSome known (λ c. ForSome parts (λ q. FedAll q was.sessions → Serves was now c contents clock time number d))
-step_of fills looks go shuts stay own was now mid known contents parts clock time number shows o d sound jobs mid_is shows_is step serves_if made after ends idle =
-    let same : option_map made_of d ≡ option_map (made_by was.links) o = made ∙ ap (λ (links : List EndView). option_map (made_by links) o) mid_is in
+    → ForSome known (λ c. Serves was now c parts contents clock time number d)
+step_of fills go shuts stay own was now mid known contents parts clock time number shows o d sound jobs mid_is shows_is step serves_if made after ends idle =
+    let same : option_map made_of d ≡ option_map (made_by was.links) o = made_at was.links mid o d mid_is made in
     let gone : EndsAfter was.links now.links d = subst (λ (links : List EndView). EndsAfter links now.links d) mid_is ends in
-    serves fills looks was now known contents parts clock time number o d sound
-    (λ s st k sees. step s st k (subst (λ (n : ℕ). Sees was.links was.table known parts n number was.sessions o s st k) (sym shows_is) sees))
-    (then_of go shuts stay own was now contents o d sound jobs serves_if same after gone idle) (fails_of was.links o d same) (finds_of was.links o d same)
+    where_served fills was known parts clock time number o d sound same (λ s st k. Steps session_step now contents s st k d)
+    (λ s st k are sees. then_of go shuts stay own was now contents o d sound jobs serves_if same after gone idle s st k are
+    (step s st k (subst (λ (n : ℕ). Sees was.links was.table known parts n number was.sessions o s st k) (sym shows_is) sees)))
+
+-- and its calls
+pub calls_of : FillsLaw → (was : PartsView) (mid : List EndView) (known : Option Contents) (parts : Option StoredParts) (clock : ClockSet) (time number shows : ℕ) (o : Option Served) (d : Option Done) (before after : Option (Call → ℕ))
+    → AreSound was → mid ≡ was.links → shows ≡ runs_on clock time → option_map made_of d ≡ option_map (made_by mid) o
+    → ((s : SetUp) (st : State) (k : Look) → Sees was.links was.table known parts shows number was.sessions o s st k → MakesCalls (session_calls s st k) (failed_by_served o) before after)
+    → ForSome known (λ c. WhereServed was c parts clock time number d (λ s st k. MakesCalls (session_calls s st k) (failed_by d) before after))
+calls_of fills was mid known parts clock time number shows o d before after sound mid_is shows_is made calls =
+    let same : option_map made_of d ≡ option_map (made_by was.links) o = made_at was.links mid o d mid_is made in
+    where_served fills was known parts clock time number o d sound same (λ s st k. MakesCalls (session_calls s st k) (failed_by d) before after)
+    (λ s st k are sees. subst (λ (f : Option Call). MakesCalls (session_calls s st k) f before after) (sym (failed_same was.links o d same))
+    (calls s st k (subst (λ (n : ℕ). Sees was.links was.table known parts n number was.sessions o s st k) (sym shows_is) sees)))
 
 -- ---- what is left
 
@@ -256,7 +247,7 @@ leaves_of number was now None None jobs same after numbers ends idle = same_part
 leaves_of number was now None (Some d) jobs same after numbers ends idle = absurd (some_none (made_of d) same)
 leaves_of number was now (Some v) None jobs same after numbers ends idle = absurd (some_none (made_by was.links v) (sym same))
 leaves_of number was now (Some v) (Some d) jobs same after numbers ends idle =
-    let kind : v.kind ≡ d.kind = sym (kind_of was.links v d same) in record {
+    let kind : v.kind ≡ d.kind = sym (kind_same was.links v d same) in record {
       holds = after.holds ∙ ap (holds_after was.table.holds) kind;
       bars = λ key. after.bars key ∙ ap (bar_after key (bar_at was.table key)) kind;
       numbers = numbers;
@@ -266,7 +257,7 @@ leaves_of number was now (Some v) (Some d) jobs same after numbers ends idle =
 pub leaves_at : (number : ℕ) (was now : PartsView) (mid : List EndView) (o : Option Served) (d : Option Done) → now.jobs ≡ was.jobs → mid ≡ was.links → option_map made_of d ≡ option_map (made_by mid) o → AreAfterIf o was.table now.table
     → All (λ h. h.number < number + 1) now.table.holds → EndsAfter mid now.links d → (o ≡ None → now.sessions ≡ was.sessions) → LeavesSo number was now d
 leaves_at number was now mid o d jobs mid_is made after numbers ends idle =
-    leaves_of number was now o d jobs (made ∙ ap (λ (links : List EndView). option_map (made_by links) o) mid_is) after numbers (subst (λ (links : List EndView). EndsAfter links now.links d) mid_is ends) idle
+    leaves_of number was now o d jobs (made_at was.links mid o d mid_is made) after numbers (subst (λ (links : List EndView). EndsAfter links now.links d) mid_is ends) idle
 
 -- ---- of what kind its entry is
 
@@ -280,7 +271,7 @@ no_begin kind none = refl
 pub quiet_served : KindLaw → (number : ℕ) (links : List EndView) (o : Option Served) (d : Option Done) → option_map made_of d ≡ option_map (made_by links) o → ForSome o (λ v. IsKind number v.kind) → ForSome d (λ x. IsQuiet x.kind)
 quiet_served law number links None d same kinds_are x is = absurd (some_none (made_of x) (sym (ap (option_map made_of) is) ∙ same))
 quiet_served law number links (Some v) d same kinds_are x is =
-    let kind : v.kind ≡ x.kind = sym (kind_of links v x (sym (ap (option_map made_of) is) ∙ same)) in
+    let kind : v.kind ≡ x.kind = sym (kind_same links v x (sym (ap (option_map made_of) is) ∙ same)) in
     let facts = law number x.kind (subst (IsKind number) kind (kinds_are v refl)) in
     record { begins = no_begin x.kind facts.0; crashes = facts.1; lines = facts.2 }
 

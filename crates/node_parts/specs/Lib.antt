@@ -6,3 +6,4 @@ pub mod Steps
 pub mod Direct
 pub mod Posting
 pub mod Jobs
+pub mod Stored

@@ -1,23 +1,30 @@
 -- The frames of a step, sent one behind the other after the step took one, or none (own).
-use Rattle.std.specs.Prelude.{◌≡◌, ℕ, true, if◌then◌else◌, List, [], ◌∷◌, ◌++◌, fold, length, map, Option, Some, None, is_some}
-use Rattle.std.specs.Option.{option_map}
+use Rattle.std.specs.Prelude.{◌≡◌, ℕ, true, false, if◌then◌else◌, List, [], ◌∷◌, ◌++◌, fold, length, map, Option, Some, None, is_some}
+use Rattle.std.specs.Option.{ForSome, option_map}
+use Rattle.annex_base.specs.Lists.{Member}
 use Rattle.annex_base.specs.declared.kinds.EntryStamp.{EntryStamp}
 use Rattle.annex_base.specs.declared.kinds.Word.{Word}
 use Rattle.run_data.specs.declared.entry.EntryKind.{EntryKind}
 use Rattle.run_data.specs.declared.entry.FrameText.{FrameText}
 use Rattle.run_data.specs.declared.entry.FrameView.{FrameView}
+use Rattle.object_store.specs.Stores.{Contents}
 use Rattle.link_ring.specs.Ends.{EndView, after_take}
 use Rattle.node_model.specs.Ends.{EndName, end_took, frames, sent_at, taken_at}
+use Rattle.node_model.specs.SetUp.{SetUp}
+use Rattle.node_model.specs.State.{State}
 use Rattle.node_ends.specs.declared.sending.Sending.{Sending}
 use Rattle.node_ends.specs.declared.sending.Sending.TheVariants as sendings
 use Rattle.node_ends.specs.Ends.{end_at, link_at, room_at, wait_at}
 use Rattle.node_ends.specs.Going.{AreAfter}
 use Rattle.node_ends.specs.Sent.{link_sends, text_of_sending}
+use Rattle.node_sessions.specs.Pieces.{IsPieceOf}
+use Rattle.node_sessions.specs.Sessions.{AreSessions}
 use Rattle.node_sessions.specs.Words.{word_to}
 use Rattle.drop_worker.specs.declared.turn.Parcel.{Parcel}
 use Rattle.drop_worker.specs.Working.{end_in, texts_of}
 use Rattle.node_jobs.specs.Sending.{HasPlace, TakesNoOpening, end_of}
 use Rattle.node_parts.specs.declared.moment.Moment.{Moment}
+use Rattle.node_parts.specs.Parts.{PartsView}
 
 -- ---- what becomes of the links
 
@@ -48,9 +55,34 @@ pub record Posts (sender : EntryStamp) (kind : EntryKind) (was now : List EndVie
   pub listed : (a : EndName) → map text_of_sending (said a) ≡ map (λ f. f.body) (sent_at a sent)
   pub links : (a : EndName) → link_at now a ≡ option_map (after_step sender kind a taken (said a)) (link_at was a)
 
+-- and each piece that was sent is a session's, at a server's end: of the content that the session was sending, from the place on
+-- to which it had come
+pub record PostsPieces (sender : EntryStamp) (kind : EntryKind) (was : PartsView) (contents : Option Contents) (now : List EndView) (taken : Option FrameView) (sent : List FrameView) : Type 0 where
+  pub posts : Posts sender kind was.links now taken sent
+  pub pieces : (a : EndName) (bytes : List ℕ) → Member (sendings.Bytes bytes) (posts.said a)
+      → (a.client ≡ false) × ForSome contents (λ c. (s : SetUp) (st : State) → AreSessions s st.sessions was.sessions → IsPieceOf c (st.sessions a).doing bytes)
+
+-- ---- how it comes about, frame by frame
+
+-- an answer, with the end that sends it, if there is one
+abbrev pub Answer : Type 0
+Answer = Option (EndName × Sending)
+
+abbrev pub answer_at : EndName → Option Sending → Answer
+answer_at a reply = option_map (λ said. (a, said)) reply
+
+-- and no piece was sent but this answer
+pub record PostsOnly (answer : Answer) (sender : EntryStamp) (kind : EntryKind) (was now : List EndView) (taken : Option FrameView) (sent : List FrameView) : Type 0 where
+  pub posts : Posts sender kind was now taken sent
+  pub pieces : (a : EndName) (bytes : List ℕ) → Member (sendings.Bytes bytes) (posts.said a) → answer ≡ Some (a, sendings.Bytes bytes)
+
+-- these ends took this frame, or none, and sent nothing
+abbrev pub PostsNothing : List EndView → List EndView → Option FrameView → Type 0
+PostsNothing was now taken = (answer : Answer) (sender : EntryStamp) (kind : EntryKind) → PostsOnly answer sender kind was now taken []
+
 -- what went on so from any ends goes on so
 abbrev pub PostsOn : EntryStamp → List EndView → List EndView → List FrameView → List FrameView → Type 0
-PostsOn sender ends ends' sent sent' = (kind : EntryKind) (was : List EndView) (taken : Option FrameView) → Posts sender kind was ends taken sent → Posts sender kind was ends' taken sent'
+PostsOn sender ends ends' sent sent' = (answer : Answer) (kind : EntryKind) (was : List EndView) (taken : Option FrameView) → PostsOnly answer sender kind was ends taken sent → PostsOnly answer sender kind was ends' taken sent'
 
 -- ---- their places
 

@@ -1,10 +1,12 @@
 -- What a step of a repository's parts makes, and what it leaves (own).
-use Rattle.std.specs.Prelude.{◌≡◌, ℕ, ◌+◌, ◌<◌, Bool, List, [], All, Option, Some, None, option_and_then}
+use Rattle.std.specs.Prelude.{◌≡◌, ℕ, ◌+◌, ◌<◌, Bool, if◌then◌else◌, List, [], All, find, Option, Some, None, option_and_then}
 use Rattle.std.specs.Option.{ForSome, option_map, option_map_or}
 use Rattle.annex_base.specs.Settings.{Settings}
 use Rattle.annex_base.specs.declared.kinds.Call.{Call}
 use Rattle.annex_base.specs.declared.kinds.Word.{Word}
-use Rattle.object_store.specs.Stores.{Contents}
+use Rattle.run_data.specs.declared.entry.By.TheVariants.{Peer}
+use Rattle.run_data.specs.declared.entry.FrameView.{FrameView}
+use Rattle.object_store.specs.Stores.{Contents, Parts as StoredParts}
 use Rattle.content_lock.specs.Rows.{bar_at}
 use Rattle.link_ring.specs.Ends.{EndView}
 use Rattle.node_ends.specs.Ends.{SeesEnds}
@@ -12,12 +14,15 @@ use Rattle.node_ends.specs.Going.{AreAfter}
 use Rattle.node_model.specs.After.{state_after}
 use Rattle.node_model.specs.Clocks.{ClockSet, runs_on}
 use Rattle.node_model.specs.Look.{Look, Made, entry_of}
-use Rattle.node_model.specs.Rows.{bar_after, holds_after}
+use Rattle.node_model.specs.Rows.{bar_after, holds_after, same_owner}
 use Rattle.node_model.specs.SetUp.{SetUp}
 use Rattle.node_model.specs.SessionStep.{session_step}
 use Rattle.node_model.specs.Slots.{job_of}
 use Rattle.node_model.specs.State.{State}
 use Rattle.node_model.specs.Turns.{job_step}
+use Rattle.p2p_server.specs.declared.session.Session.{Session}
+use Rattle.node_sessions.specs.Serving.{SeesPartAt}
+use Rattle.node_sessions.specs.Sessions.{owner_of}
 use Rattle.node_jobs.specs.Running.{words_at}
 use Rattle.drop_worker.specs.Working.{failed_in}
 use Rattle.node_parts.specs.declared.done.Done.{Done}
@@ -49,7 +54,28 @@ pub record SeesParts (p : PartsView) (c : Contents) (clock : ClockSet) (at n : �
 abbrev pub Fails : Option Done → Look → Type 0
 Fails o k = ForSome o (λ d. k.fails ≡ failed_in d.kind)
 
--- ---- what is left
+-- ---- the part that a step asks for
+
+-- the session at the server's end that this frame came to: a frame that goes up is a client's
+abbrev pub session_asked : List Session → Option FrameView → Option Session
+session_asked xs None = None
+session_asked xs (Some f) = if f.up then find (λ x. same_owner (owner_of x) (Peer f.peer f.slot)) xs else None
+
+-- where this frame asks a session for a part, the store's has this size, and matches its key or doesn't
+abbrev pub IsPartAsked : Option StoredParts → PartsView → Option FrameView → ℕ → Bool → Type 0
+IsPartAsked known p taken part right = SeesPartAt known (session_asked p.sessions taken) taken part right
+
+-- there is an answer to what it asks
+pub record HasPart (known : Option StoredParts) (p : PartsView) (taken : Option FrameView) : Type 0 where
+  pub part : ℕ
+  pub right : Bool
+  pub asked : IsPartAsked known p taken part right
+
+-- where a taken frame asks a session for a part, the look finds the store's
+abbrev pub AsksPart : Option StoredParts → PartsView → Option Done → Look → Type 0
+AsksPart known p o k = ForSome o (λ d. IsPartAsked known p d.taken k.part k.right)
+
+-- ---- what it leaves of a state
 
 -- the state after the step's entry; where there is no step, it stays
 abbrev pub state_then : SetUp → State → Look → Option Done → State
@@ -62,16 +88,16 @@ pub record Steps (step : SetUp → State → Look → Option Made) (now : PartsV
   pub parts : AreParts s (state_then s st k o) now
   pub stored : ForSome contents (λ c. HasContents c (state_then s st k o))
 
--- where there is a step, the look finds a part of this size that matches its key, or doesn't
-abbrev pub FindsPart : Option Done → ℕ → Bool → Look → Type 0
-FindsPart o part right k = ForSome o (λ d. (k.part ≡ part) × (k.right ≡ right))
+-- ---- at which looks
 
--- There is a part, as the store has it, with which this is the step of the sessions: of each state that the parts and the store are,
--- at a look that finds that part, and the step's store call to fail that its entry tells.
-pub record Serves (was now : PartsView) (c : Contents) (contents : Option Contents) (clock : ClockSet) (time number : ℕ) (o : Option Done) : Type 0 where
-  pub part : ℕ
-  pub right : Bool
-  pub steps : (s : SetUp) (st : State) (k : Look) → SeesParts was c clock time number s st k → Fails o k → FindsPart o part right k → Steps session_step now contents s st k o
+-- This is so of each state that the parts and the store are, at each look that finds the part that is asked for, and the step's store
+-- call to fail that its entry tells.
+abbrev pub WhereServed : PartsView → Contents → Option StoredParts → ClockSet → ℕ → ℕ → Option Done → (SetUp → State → Look → Type 0) → Type 0
+WhereServed p c known clock time number o P = (s : SetUp) (st : State) (k : Look) → SeesParts p c clock time number s st k → Fails o k → AsksPart known p o k → P s st k
+
+-- this is the step of the sessions, of each such state at each such look
+abbrev pub Serves : PartsView → PartsView → Contents → Option StoredParts → Option Contents → ClockSet → ℕ → ℕ → Option Done → Type 0
+Serves was now c known contents clock time number o = WhereServed was c known clock time number o (λ s st k. Steps session_step now contents s st k o)
 
 -- the words that the acting job heard beside its peers' answers
 abbrev pub words_heard : PartsView → Option Done → ℕ → Option Word
@@ -81,10 +107,15 @@ words_heard p o = option_map_or (words_at p.jobs.running) (option_and_then (λ (
 abbrev pub Hears : PartsView → Option Done → Look → Type 0
 Hears p o k = ForSome o (λ d. k.words ≡ words_heard p (Some d))
 
--- the step of the jobs, of each state that the parts and the store are, at a look that finds those words
+-- this is so of each state that the parts and the store are, with these settings, at each look that finds those words
+abbrev pub WhereActed : PartsView → Contents → ClockSet → Settings → ℕ → ℕ → Option Done → (SetUp → State → Look → Type 0) → Type 0
+WhereActed p c clock settings time number o P = (s : SetUp) (st : State) (k : Look) → st.logs ≡ settings → SeesParts p c clock time number s st k → Fails o k → Hears p o k → P s st k
+
+-- this is the step of the jobs, of each such state at each such look
 abbrev pub Acts : PartsView → PartsView → Contents → Option Contents → ClockSet → Settings → ℕ → ℕ → Option Done → Type 0
-Acts was now c contents clock settings time number o = (s : SetUp) (st : State) (k : Look)
-    → st.logs ≡ settings → SeesParts was c clock time number s st k → Fails o k → Hears was o k → Steps job_step now contents s st k o
+Acts was now c contents clock settings time number o = WhereActed was c clock settings time number o (λ s st k. Steps job_step now contents s st k o)
+
+-- ---- what is left of rows and ends
 
 -- the rows are those after the entry, and the ends took and sent its frames; also where the store doesn't tell its contents
 pub record Leaves (number : ℕ) (was now : PartsView) (d : Done) : Type 0 where

@@ -2,8 +2,6 @@
 ghost use Rattle.std.specs.Prelude.{◌≡◌, ◌≤◌, ◌<◌, ◌+◌, ◌*◌, ◌++◌, ◌∷◌, [], ℕ, List, true, None, Some, is_some, length, vec_capacity, vec_len};
 ghost use Rattle.std.specs.declared.option.Option.{Option};
 ghost use Rattle.std.specs.Option.{option_to_list};
-ghost use Rattle.annex_base.specs.declared.kinds.EntryStamp.{EntryStamp as AnyStamp};
-ghost use Rattle.run_data.specs.declared.entry.EntryKind.{EntryKind};
 ghost use Rattle.run_data.specs.declared.entry.FrameText.TheVariants as texts;
 ghost use Rattle.run_data.specs.declared.entry.FrameView.{FrameView};
 ghost use Rattle.p2p_wire.specs.Messages.{text_of};
@@ -16,7 +14,8 @@ ghost use Rattle.node_ends.specs.Sent.{IsListed, text_of_sending};
 ghost use Rattle.drop_worker.specs.Working.{end_in, frames_of};
 ghost use Rattle.node_jobs.specs.Acting.{WaitsFor, taken_by};
 ghost use Rattle.node_jobs.specs.Sending.{SendsWell, TakesNoOpening};
-ghost use Rattle.node_parts.specs.Posting.{ArePlaced, IsFrame, IsPlaced, IsPosted, Posts, PostsOn, frames_in};
+ghost use Rattle.node_sessions.specs.Pieces.{IsNoPiece};
+ghost use Rattle.node_parts.specs.Posting.{ArePlaced, IsFrame, IsPlaced, IsPosted, PostsNothing, PostsOn, PostsOnly, frames_in};
 
 use crate::done::Done;
 use crate::taking::take;
@@ -31,7 +30,7 @@ fn take_from(ends: &mut Ends, slot: u32, takes: Option<u32>) -> Option<FrameView
     requires waits { WaitsFor ends.old slot takes }
     ensures taken { result ≡ taken_by ends.old slot takes }
     ensures posted { IsPosted ends.old result ends.new [] }
-    ensures posts { (sender : AnyStamp) (kind : EntryKind) → Posts sender kind ends.old ends.new result [] }
+    ensures posts { PostsNothing ends.old ends.new result }
     ensures paired { StayPaired ends.old ends.new }
     ensures count { length ends.new ≡ length ends.old }
 {
@@ -63,6 +62,7 @@ fn post(ends: &mut Ends, id: EndId, stamp: EntryStamp, said: Sending, sent: &mut
     requires client { id.client ≡ true }
     requires there { is_some (link_at ends.old (name_of id)) ≡ true }
     requires listed { IsListed said }
+    requires line { IsNoPiece said }
     requires room { vec_len sent.old < vec_capacity sent.old }
     ensures posted { (was : List EndView) (taken : Option FrameView) → IsPosted was taken ends.old sent.old.items → IsPosted was taken ends.new sent.new.items }
     ensures posts { PostsOn stamp ends.old ends.new sent.old.items sent.new.items }
@@ -215,7 +215,7 @@ pub(crate) fn act(ends: &mut Ends, stamp: EntryStamp, repositories: u32, acted: 
     ensures sent { TakesNoOpening result.taken → SendsWell (λ a. end_took (end_at ends.old a) (taken_at a result.taken)) (room_at ends.old) (frames_of (end_at ends.old) acted.slot acted.sends.items)
         → result.sent ≡ frames_of (end_at ends.old) acted.slot acted.sends.items }
     ensures after { AreAfter ends.old ends.new result.taken result.sent }
-    ensures posts { Posts stamp result.kind ends.old ends.new result.taken result.sent }
+    ensures posts { PostsOnly None stamp result.kind ends.old ends.new result.taken result.sent }
     ensures paired { StayPaired ends.old ends.new }
     ensures count { length ends.new ≡ length ends.old }
 {

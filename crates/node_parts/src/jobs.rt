@@ -1,6 +1,6 @@
 //! The step of the running jobs, and whether there is one.
-ghost use Rattle.std.specs.Prelude.{◌≡◌, ℕ, ◌≤◌, ◌<◌, All, IfOk, IfSome, OnErr, is_some};
-ghost use Rattle.std.specs.Option.{ForSome};
+ghost use Rattle.std.specs.Prelude.{◌≡◌, ℕ, ◌≤◌, ◌<◌, All, None, IfOk, IfSome, OnErr, is_some};
+ghost use Rattle.std.specs.Option.{ForSome, option_map};
 ghost use Rattle.annex_base.specs.Causes.{Rose};
 ghost use Rattle.object_store.specs.Stores.{Contents};
 ghost use Rattle.trust_groups.specs.View.{settings_of};
@@ -10,11 +10,14 @@ ghost use Rattle.node_model.specs.SessionStep.{session_step};
 ghost use Rattle.node_model.specs.SetUp.{SetUp};
 ghost use Rattle.node_model.specs.State.{State};
 ghost use Rattle.node_model.specs.Turns.{job_step};
+ghost use Rattle.content_lock.specs.CallsMade.{MakesCalls, fewer};
 ghost use Rattle.node_ends.specs.Joined.{StayPaired};
+ghost use Rattle.node_jobs.specs.Calls.{job_calls};
 ghost use Rattle.node_parts.specs.Jobs.{JobsGoOn};
 ghost use Rattle.node_parts.specs.Kinds.{IsQuiet};
-ghost use Rattle.node_parts.specs.Posting.{Posts, stamp_of};
-ghost use Rattle.node_parts.specs.Steps.{Acts, LeavesSo, SeesParts, failed_by};
+ghost use Rattle.node_parts.specs.Posting.{PostsPieces, stamp_of};
+ghost use Rattle.node_parts.specs.Steps.{Acts, LeavesSo, SeesParts, WhereActed, failed_by, session_asked};
+ghost use Rattle.node_parts.specs.Stored.{contents_then, parts_then};
 
 use crate::acting::act;
 use crate::done::Done;
@@ -45,8 +48,16 @@ impl Parts {
 
         // Over a store that tells: of each state that these and the store are, with these settings, this is the step of its jobs.
         ensures step { IfOk result (λ o. ForSome (K.contents keeper.old) (λ c. Acts self.old self.new c (K.contents keeper.new) moment.clock (settings_of settings.now) moment.time moment.number o)) }
+
+        // It asks no session for a part. At the same looks it makes the calls of its store that the state's own step makes; where one
+        // was to fail, it tells that call.
+        ensures asked { IfOk result (λ o. ForSome o (λ d. session_asked self.old.sessions d.taken ≡ None)) }
+        ensures calls { IfOk result (λ o. ForSome (K.contents keeper.old) (λ c. WhereActed self.old c moment.clock (settings_of settings.now) moment.time moment.number o (λ s st k. MakesCalls (job_calls s st k) (failed_by o) (K.failing keeper.old) (K.failing keeper.new)))) }
+        ensures left { IfOk result (λ o. K.failing keeper.new ≡ option_map (fewer (failed_by o)) (K.failing keeper.old)) }
+        ensures contents { IfOk result (λ o. K.contents keeper.new ≡ contents_then (K.contents keeper.old) (K.parts keeper.old) o) }
+        ensures left_parts { IfOk result (λ o. K.parts keeper.new ≡ parts_then self.old (K.parts keeper.old) o) }
         ensures leaves { IfOk result (LeavesSo moment.number self.old self.new) }
-        ensures posts { IfOk result (λ o. ForSome o (λ d. Posts (stamp_of moment self.old.jobs.place.number) d.kind self.old.links self.new.links d.taken d.sent)) }
+        ensures posts { IfOk result (λ o. ForSome o (λ d. PostsPieces (stamp_of moment self.old.jobs.place.number) d.kind self.old (K.contents keeper.old) self.new.links d.taken d.sent)) }
         ensures jobs { IfOk result (λ o. ForSome o (JobsGoOn self.old self.new)) }
         ensures kind { IfOk result (λ o. ForSome o (λ d. IsQuiet d.kind)) }
         ensures sessions { self.new.sessions ≡ self.old.sessions }
@@ -62,6 +73,7 @@ impl Parts {
         ensures cause { IfOk result (λ o. IfSome (failed_by o) (λ call. Rose (K.faults keeper.old) (K.faults keeper.new))) }
         ensures unasked { IfOk result (λ o. o ≡ None → keeper.new ≡ keeper.old) }
         ensures err { OnErr result ((self.new ≡ self.old) × (K.contents keeper.new ≡ K.contents keeper.old)) }
+        ensures err_failing { OnErr result (K.failing keeper.new ≡ K.failing keeper.old) }
     {
         // Laws, for the proof.
         ends_go_on();

@@ -1,24 +1,27 @@
 //! The moving parts of a repository.
 ghost use Rattle.std.specs.Prelude.{◌≡◌, ℕ, ◌≤◌, ◌<◌, ◌+◌, ◌-◌, ◌*◌, ◌^◌, List, [], true, All, None, Some, IfOk, IfSome, IsErrOf, OnErr, OnOk, is_some, length, map, nat_lt, replicate, slice_get};
-ghost use Rattle.std.specs.Option.{ForSome};
+ghost use Rattle.std.specs.Option.{ForSome, option_map};
 ghost use Rattle.annex_base.specs.Causes.{Rose};
 ghost use Rattle.run_data.specs.declared.entry.Entry.{Entry};
 ghost use Rattle.run_data.specs.declared.entry.EntryKind.TheVariants.{Begin};
 ghost use Rattle.run_data.specs.declared.run.RepoView.{RepoView};
-ghost use Rattle.object_store.specs.Stores.{Parts as StoredParts};
+ghost use Rattle.object_store.specs.Stores.{AreSmallParts, Parts as StoredParts};
 ghost use Rattle.content_lock.specs.Stored.{Agrees};
 ghost use Rattle.link_ring.specs.Ends.{after_drop, fresh};
 ghost use Rattle.node_model.specs.After.{first_state, state_after};
 ghost use Rattle.node_model.specs.SetUp.{SetUp};
 ghost use Rattle.node_model.specs.State.{State};
+ghost use Rattle.content_lock.specs.CallsMade.{MakesCalls, fewer};
 ghost use Rattle.node_ends.specs.Joined.{AreCarried, AreJoined, StayPaired};
+ghost use Rattle.node_sessions.specs.Calls.{session_calls};
 ghost use Rattle.node_sessions.specs.Sessions.{FedAll, IsSetUp};
 ghost use Rattle.node_jobs.specs.Acting.{with_job};
 ghost use Rattle.node_parts.specs.Kinds.{IsQuiet};
 ghost use Rattle.node_parts.specs.Parts.{AreParts};
-ghost use Rattle.node_parts.specs.Posting.{Posts, stamp_of};
+ghost use Rattle.node_parts.specs.Posting.{PostsPieces, stamp_of};
 ghost use Rattle.node_parts.specs.Sound.{AreSound};
-ghost use Rattle.node_parts.specs.Steps.{LeavesSo, Serves, failed_by};
+ghost use Rattle.node_parts.specs.Steps.{HasPart, LeavesSo, Serves, WhereServed, failed_by};
+ghost use Rattle.node_parts.specs.Stored.{contents_then, parts_then};
 
 use crate::done::Done;
 use crate::moment::{Moment, stamp_at};
@@ -154,14 +157,23 @@ impl Parts {
         requires agrees { Agrees (K.records keeper.old) self.old.table.holds }
         requires fresh { All (λ h. h.number < moment.number) self.old.table.holds }
 
-        // Over a store that tells: of each state that these and the store are, this is the step of its sessions.
-        ensures step { IfOk result (λ o. ForSome (K.contents keeper.old) (λ c. ForSome (K.parts keeper.old) (λ q. FedAll q self.old.sessions → Serves self.old self.new c (K.contents keeper.new) moment.clock moment.time moment.number o))) }
+        // Over a store that tells: of each state that these and the store are, at each look that finds the part that is asked for,
+        // this is the step of its sessions; and there is such a part.
+        ensures step { IfOk result (λ o. ForSome (K.contents keeper.old) (λ c. Serves self.old self.new c (K.parts keeper.old) (K.contents keeper.new) moment.clock moment.time moment.number o)) }
+        ensures asked { IfOk result (λ o. ForSome (K.parts keeper.old) (λ q. FedAll q self.old.sessions → ForSome o (λ d. HasPart (Some q) self.old d.taken))) }
+
+        // At the same looks it makes the calls of its store that the state's own step makes; where one was to fail, it tells that call.
+        ensures calls { IfOk result (λ o. ForSome (K.contents keeper.old) (λ c. WhereServed self.old c (K.parts keeper.old) moment.clock moment.time moment.number o (λ s st k. MakesCalls (session_calls s st k) (failed_by o) (K.failing keeper.old) (K.failing keeper.new)))) }
+        ensures left { IfOk result (λ o. K.failing keeper.new ≡ option_map (fewer (failed_by o)) (K.failing keeper.old)) }
+        ensures contents { IfOk result (λ o. K.contents keeper.new ≡ contents_then (K.contents keeper.old) (K.parts keeper.old) o) }
+        ensures parts { IfOk result (λ o. K.parts keeper.new ≡ parts_then self.old (K.parts keeper.old) o) }
         ensures leaves { IfOk result (LeavesSo moment.number self.old self.new) }
-        ensures posts { IfOk result (λ o. ForSome o (λ d. Posts (stamp_of moment self.old.jobs.place.number) d.kind self.old.links self.new.links d.taken d.sent)) }
+        ensures posts { IfOk result (λ o. ForSome o (λ d. PostsPieces (stamp_of moment self.old.jobs.place.number) d.kind self.old (K.contents keeper.old) self.new.links d.taken d.sent)) }
         ensures kind { IfOk result (λ o. ForSome o (λ d. IsQuiet d.kind)) }
         ensures fed { ForSome (K.parts keeper.old) (λ q. FedAll q self.old.sessions → ForSome (K.parts keeper.new) (λ q'. FedAll q' self.new.sessions)) }
         ensures told_contents { is_some (K.parts keeper.old) ≡ true → is_some (K.contents keeper.new) ≡ is_some (K.contents keeper.old) }
         ensures told_parts { is_some (K.parts keeper.new) ≡ is_some (K.parts keeper.old) }
+        ensures small { AreSmallParts (K.parts keeper.old) → AreSmallParts (K.parts keeper.new) }
         ensures files { K.files keeper.new ≡ K.files keeper.old }
         ensures agrees { Agrees (K.records keeper.new) self.new.table.holds }
         ensures place { self.new.jobs ≡ self.old.jobs }
@@ -173,6 +185,7 @@ impl Parts {
         ensures err_contents { OnErr result (K.contents keeper.new ≡ K.contents keeper.old) }
         ensures err_parts { OnErr result (K.parts keeper.new ≡ K.parts keeper.old) }
         ensures err_records { OnErr result (K.records keeper.new ≡ K.records keeper.old) }
+        ensures err_failing { OnErr result (K.failing keeper.new ≡ K.failing keeper.old) }
     {
         let Moment {
             time,

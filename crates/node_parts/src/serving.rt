@@ -2,7 +2,6 @@
 ghost use Rattle.std.specs.Prelude.{◌≡◌, ◌≤◌, ◌<◌, ◌++◌, ◌∷◌, ℕ, List, [], true, false, None, IfOk, if◌then◌else◌, is_some, length, vec_capacity, vec_len};
 ghost use Rattle.std.specs.declared.option.Option.{Option};
 ghost use Rattle.std.specs.Option.{ForSome, option_map};
-ghost use Rattle.annex_base.specs.declared.kinds.EntryStamp.{EntryStamp as AnyStamp};
 ghost use Rattle.run_data.specs.declared.entry.EntryKind.{EntryKind};
 ghost use Rattle.run_data.specs.declared.entry.FrameText.TheVariants as texts;
 ghost use Rattle.run_data.specs.declared.entry.FrameView.{FrameView};
@@ -13,9 +12,9 @@ ghost use Rattle.node_ends.specs.Ends.{end_at, name_of, room_at, wait_at};
 ghost use Rattle.node_ends.specs.Going.{AreAfter};
 ghost use Rattle.node_ends.specs.Joined.{StayPaired};
 ghost use Rattle.node_ends.specs.Sent.{may_send};
-ghost use Rattle.node_sessions.specs.Serving.{IsTalk, ServesAt, ServesIf, made_by, says_in};
+ghost use Rattle.node_sessions.specs.Serving.{IsTalk, ServesAt, ServesIf, end_by, made_by, says_in};
 ghost use Rattle.node_sessions.specs.Words.{word_to};
-ghost use Rattle.node_parts.specs.Posting.{Posts, PostsOn};
+ghost use Rattle.node_parts.specs.Posting.{PostsNothing, PostsOn, PostsOnly, answer_at};
 ghost use Rattle.node_parts.specs.Steps.{EndsAfter, made_of};
 
 use crate::done::Done;
@@ -46,7 +45,7 @@ fn take_if(ends: &mut Ends, id: EndId, takes: bool) -> Option<FrameView>
     ensures line { (line : List ℕ) → may_send ends.new (name_of id) (texts.Line line) ≡ true }
     ensures bytes { (n : ℕ) → may_send ends.new (name_of id) (texts.Bytes n) ≡ true }
     ensures after { AreAfter ends.old ends.new result [] }
-    ensures posts { (sender : AnyStamp) (kind : EntryKind) → Posts sender kind ends.old ends.new result [] }
+    ensures posts { PostsNothing ends.old ends.new result }
     ensures paired { StayPaired ends.old ends.new }
     ensures count { length ends.new ≡ length ends.old }
 {
@@ -76,7 +75,7 @@ fn reply_with(
     ensures shut { frames (name_of id) (end_at ends.old (name_of id)) (says_in reply true) ≡ result.items ++ frames (name_of id) (end_at ends.new (name_of id)) (texts.Closing ∷ []) }
     ensures room { vec_len result < vec_capacity result }
     ensures after { (was : List EndView) (taken : Option FrameView) → AreAfter was ends.old taken [] → AreAfter was ends.new taken result.items }
-    ensures posts { (kind : EntryKind) (was : List EndView) (taken : Option FrameView) → word ≡ word_to taken kind → Posts stamp kind was ends.old taken [] → Posts stamp kind was ends.new taken result.items }
+    ensures posts { (kind : EntryKind) (was : List EndView) (taken : Option FrameView) → word ≡ word_to taken kind → PostsOnly (answer_at (name_of id) reply) stamp kind was ends.old taken [] → PostsOnly (answer_at (name_of id) reply) stamp kind was ends.new taken result.items }
     ensures paired { StayPaired ends.old ends.new }
     ensures count { length ends.new ≡ length ends.old }
 {
@@ -119,7 +118,7 @@ fn serve(ends: &mut Ends, stamp: EntryStamp, served: Served, listing: Vec<FrameV
     requires room { 2 ≤ vec_capacity listing }
     ensures made { made_of result ≡ made_by ends.old served }
     ensures after { AreAfter ends.old ends.new result.taken result.sent }
-    ensures posts { Posts stamp result.kind ends.old ends.new result.taken result.sent }
+    ensures posts { PostsOnly (answer_at (end_by served) served.reply) stamp result.kind ends.old ends.new result.taken result.sent }
     ensures paired { StayPaired ends.old ends.new }
     ensures count { length ends.new ≡ length ends.old }
 {
@@ -159,7 +158,7 @@ pub(crate) fn serve_if(
     requires room { 2 ≤ vec_capacity listing }
     ensures made { option_map made_of result ≡ option_map (made_by ends.old) served }
     ensures after { EndsAfter ends.old ends.new result }
-    ensures posts { ForSome result (λ d. Posts stamp d.kind ends.old ends.new d.taken d.sent) }
+    ensures posts { ForSome result (λ d. ForSome served (λ v. PostsOnly (answer_at (end_by v) v.reply) stamp d.kind ends.old ends.new d.taken d.sent)) }
     ensures paired { StayPaired ends.old ends.new }
     ensures count { length ends.new ≡ length ends.old }
 {

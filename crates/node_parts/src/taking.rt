@@ -1,14 +1,12 @@
 //! Frames are taken at an end.
 ghost use Rattle.std.specs.Prelude.{◌≡◌, ◌≢◌, ℕ, List, [], Some, true, is_some, length};
-ghost use Rattle.annex_base.specs.declared.kinds.EntryStamp.{EntryStamp};
-ghost use Rattle.run_data.specs.declared.entry.EntryKind.{EntryKind};
 ghost use Rattle.run_data.specs.declared.entry.FrameText.TheVariants as texts;
 ghost use Rattle.node_model.specs.Ends.{EndName, end_took};
 ghost use Rattle.node_ends.specs.Ends.{end_at, frame_at, link_at, name_of, room_at, text_in, wait_at};
 ghost use Rattle.node_ends.specs.Going.{AreAfter};
 ghost use Rattle.node_ends.specs.Joined.{StayPaired};
 ghost use Rattle.node_ends.specs.Sent.{may_send};
-ghost use Rattle.node_parts.specs.Posting.{Posts};
+ghost use Rattle.node_parts.specs.Posting.{PostsNothing};
 
 use link_ring::{Body, Frame};
 use node_ends::{EndId, Ends};
@@ -56,7 +54,7 @@ pub(crate) fn take(ends: &mut Ends, id: EndId) -> FrameView
     ensures line { (line : List ℕ) → may_send ends.new (name_of id) (texts.Line line) ≡ true }
     ensures bytes { (n : ℕ) → may_send ends.new (name_of id) (texts.Bytes n) ≡ true }
     ensures after { AreAfter ends.old ends.new (Some result) [] }
-    ensures posts { (sender : EntryStamp) (kind : EntryKind) → Posts sender kind ends.old ends.new (Some result) [] }
+    ensures posts { PostsNothing ends.old ends.new (Some result) }
     ensures paired { StayPaired ends.old ends.new }
     ensures count { length ends.new ≡ length ends.old }
 {

@@ -1,7 +1,7 @@
 -- What follows from what one among the sessions served.
 use Rattle.std.proofs.Common.{◌≡◌, ℕ, Bool, true, List, Option, Some, sym, ap, subst, ◌∙◌, map}
 use Rattle.std.specs.Prelude.{is_some, slice_get}
-use Rattle.std.specs.Option.{ForSome}
+use Rattle.std.specs.Option.{ForSome, option_map_or}
 use Rattle.annex_base.specs.Lists.{Member}
 use Rattle.run_data.specs.declared.entry.By.{By}
 use Rattle.object_store.specs.Stores.{Contents, Parts}
@@ -17,13 +17,16 @@ use Rattle.node_ends.specs.Ends.{link_at}
 use Rattle.p2p_server.specs.declared.place.Place.{Place}
 use Rattle.p2p_server.specs.declared.session.Session.{Session}
 use Rattle.p2p_server.specs.Bounds.{IsKind}
-use Rattle.p2p_server.specs.Talking.{IsJudgedOf, place_of}
+use Rattle.p2p_server.specs.Talking.{IsJudgedOf, place_of, session_of}
 use Rattle.node_sessions.specs.declared.served.Served.{Served}
 use Rattle.node_sessions.specs.Moments.{ServesAmong}
-use Rattle.node_sessions.specs.Serving.{JudgedBy, Sees, StepsSo, server_in, end_by}
+use Rattle.node_sessions.specs.Pieces.{PieceBy}
+use Rattle.node_sessions.specs.Serving.{JudgedBy, Sees, StepsSo, server_in, end_by, taken_by}
 use Rattle.node_sessions.specs.Sessions.{AreFilled, FedAll, HaveEnds, IsOther, LeavesPartsOf, OwnAll, end_of, connection_of}
+use Rattle.node_sessions.specs.Stored.{bytes_at, contents_left, parts_after_taken, parts_left}
 use Rattle.node_sessions.proofs.Listing.{Every-set, map_set}
-use Rattle.node_sessions.proofs.Standing.{FedStays, StepsAt, fed_set, filled_set, own_set, parts_left, server_is}
+use Rattle.node_sessions.proofs.Pieces.{piece_by}
+use Rattle.node_sessions.proofs.Standing.{FedStays, StepsAt, fed_set, filled_set, own_set, parts_stand, server_is}
 use Rattle.node_sessions.proofs.Stepping.{some_steps}
 use Rattle.node_sessions.proofs.Turning.{FramesWait, IdleBelow, at_member}
 
@@ -63,7 +66,17 @@ among_filled links clock number at xs xs' rows rows' contents contents' parts pa
 
 pub among_parts : (links : List EndView) (clock number at : ℕ) (xs xs' : List Session) (rows rows' : Rows) (contents contents' : Option Contents) (parts parts' : Option Parts) (records records' : Option (List HoldRecord)) (faults faults' : ℕ) (v : Served)
     → ServesAmong links clock number at xs xs' rows rows' contents contents' parts parts' records records' faults faults' v → LeavesPartsOf xs parts parts'
-among_parts links clock number at xs xs' rows rows' contents contents' parts parts' records records' faults faults' v a = parts_left xs at a.was parts parts' a.here a.serves.parts
+among_parts links clock number at xs xs' rows rows' contents contents' parts parts' records records' faults faults' v a = parts_stand xs at a.was parts parts' a.here a.serves.parts
+
+pub among_contents : (links : List EndView) (clock number at : ℕ) (xs xs' : List Session) (rows rows' : Rows) (contents contents' : Option Contents) (parts parts' : Option Parts) (records records' : Option (List HoldRecord)) (faults faults' : ℕ) (v : Served)
+    → ServesAmong links clock number at xs xs' rows rows' contents contents' parts parts' records records' faults faults' v → contents' ≡ contents_left contents parts (Some v)
+among_contents links clock number at xs xs' rows rows' contents contents' parts parts' records records' faults faults' v a = a.serves.contents
+
+pub among_left_parts : (links : List EndView) (clock number at : ℕ) (xs xs' : List Session) (rows rows' : Rows) (contents contents' : Option Contents) (parts parts' : Option Parts) (records records' : Option (List HoldRecord)) (faults faults' : ℕ) (v : Served)
+    → ServesAmong links clock number at xs xs' rows rows' contents contents' parts parts' records records' faults faults' v → OwnAll rows xs → parts' ≡ parts_left xs links (Some v) parts
+among_left_parts links clock number at xs xs' rows rows' contents contents' parts parts' records records' faults faults' v a own =
+    a.serves.left_parts
+    ∙ sym (ap (λ (o : Option Session). option_map_or (λ (x : Session). parts_after_taken (session_of x).doing (taken_by links v) (bytes_at links (end_by v)) v.kind parts) o parts) (server_is xs at a.was v a.here own.apart a.serves.at))
 
 pub among_fed : FedStays → (links : List EndView) (clock number at : ℕ) (xs xs' : List Session) (rows rows' : Rows) (contents contents' : Option Contents) (parts parts' : Option Parts) (records records' : Option (List HoldRecord)) (faults faults' : ℕ) (v : Served)
     → ServesAmong links clock number at xs xs' rows rows' contents contents' parts parts' records records' faults faults' v → OwnAll rows xs → ForSome parts (λ p. FedAll p xs → ForSome parts' (λ p'. FedAll p' xs'))
@@ -94,6 +107,10 @@ pub among_judged : (links : List EndView) (clock number at : ℕ) (xs xs' : List
     → ServesAmong links clock number at xs xs' rows rows' contents contents' parts parts' records records' faults faults' v → OwnAll rows xs → JudgedBy xs (Some v)
 among_judged links clock number at xs xs' rows rows' contents contents' parts parts' records records' faults faults' v a own =
     λ w e x found. judged_one xs a.was v w x (server_is xs at a.was v a.here own.apart a.serves.at) a.serves.judged e found
+
+pub among_piece : (links : List EndView) (clock number at : ℕ) (xs xs' : List Session) (rows rows' : Rows) (contents contents' : Option Contents) (parts parts' : Option Parts) (records records' : Option (List HoldRecord)) (faults faults' : ℕ) (v : Served)
+    → ServesAmong links clock number at xs xs' rows rows' contents contents' parts parts' records records' faults faults' v → OwnAll rows xs → PieceBy contents xs (Some v)
+among_piece links clock number at xs xs' rows rows' contents contents' parts parts' records records' faults faults' v a own = piece_by contents xs a.was v (server_is xs at a.was v a.here own.apart a.serves.at) a.serves.piece
 
 member_one : (xs : List Session) (at : ℕ) (was : Session) (v w : Served) → slice_get xs at ≡ Some was → end_by v ≡ end_of was → Some v ≡ Some w → Member (w.peer, w.slot) (map connection_of xs)
 member_one xs at was v w here end e =

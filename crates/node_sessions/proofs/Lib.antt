@@ -3,6 +3,7 @@ pub mod Listing
 pub mod Framing
 pub mod Filling
 pub mod Standing
+pub mod Pieces
 pub mod Turning
 pub mod Stepping
 pub mod Answering
@@ -14,3 +15,7 @@ pub mod Seeing
 pub mod Keys
 pub mod Shutting
 pub mod Making
+pub mod Called
+pub mod Storing
+pub mod Telling
+pub mod Rising

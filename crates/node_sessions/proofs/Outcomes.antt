@@ -1,8 +1,9 @@
 -- What is served by an answer to a Close, by that to another frame, and by a piece that is given.
 use Rattle.std.proofs.Common.{◌≡◌, ℕ, ◌<◌, ◌≤◌, Bool, true, false, List, [], Option, Some, None, All, IfSome, refl, sym, ap, subst, ◌∙◌, arith, true≢false}
-use Rattle.std.specs.Prelude.{is_some}
-use Rattle.std.specs.Option.{ForSome}
+use Rattle.std.specs.Prelude.{if◌then◌else◌, is_some}
+use Rattle.std.specs.Option.{ForSome, option_map, option_map_or}
 use Rattle.annex_base.specs.Causes.{Rose}
+use Rattle.annex_base.specs.declared.kinds.Call.{Call}
 use Rattle.run_data.specs.declared.entry.EntryKind.{EntryKind}
 use Rattle.run_data.specs.declared.entry.EntryKind.TheVariants as kinds
 use Rattle.run_data.specs.declared.entry.FrameText.{FrameText}
@@ -10,6 +11,7 @@ use Rattle.run_data.specs.declared.entry.FrameText.TheVariants.{Closing}
 use Rattle.run_data.specs.declared.entry.FrameView.{FrameView}
 use Rattle.object_store.specs.Stores.{Contents, Parts}
 use Rattle.object_store.specs.declared.keeper.HoldRecord.{HoldRecord}
+use Rattle.content_lock.specs.CallsMade.{MakesCalls, fewer}
 use Rattle.content_lock.specs.Rows.{Rows, bar_at, is_filling}
 use Rattle.content_lock.specs.Stored.{Agrees}
 use Rattle.content_lock.specs.Tokens.{Owns, ShareView}
@@ -30,23 +32,34 @@ use Rattle.p2p_server.specs.declared.more.More.{More}
 use Rattle.p2p_server.specs.declared.place.Place.{Place}
 use Rattle.p2p_server.specs.declared.session.Session.{Session}
 use Rattle.p2p_server.specs.declared.step.Step.{Step}
-use Rattle.p2p_server.specs.Answers.{failed_in, owner_at, reply_of, size_in}
+use Rattle.p2p_server.specs.Answers.{LeavesContents, contents_after, failed_in, owner_at, reply_of, size_in}
 use Rattle.p2p_server.specs.Bounds.{IsKind, IsReplyIf}
-use Rattle.p2p_server.specs.Giving.{failed_more, reply_more, session_sent}
+use Rattle.p2p_server.specs.Giving.{IsPieceOf, failed_more, reply_more, session_sent}
+use Rattle.p2p_server.specs.SessionCalls.{calls_frame, calls_next}
 use Rattle.p2p_server.specs.States.{IsScene, Keeps, Stand, stand_after, stand_of}
 use Rattle.p2p_server.specs.Stepping.{LeavesOthers, moment_of}
 use Rattle.p2p_server.specs.Talking.{AreAfterStep, Brings, FillsSo, HasFillOf, IsFedOf, IsJudgedOf, SaysSo, SeesPartOf, SeesSize, parts_after_of, place_of, session_of, share_of}
 use Rattle.node_sessions.specs.declared.served.Served.{Served}
 use Rattle.node_sessions.specs.Built.{IsClosed}
-use Rattle.node_sessions.specs.Moments.{GivesAt, IsReady, LeavesParts, Makes, SeesOne, Serves, WaitsAt}
+use Rattle.node_sessions.specs.Calls.{end_calls}
+use Rattle.node_sessions.specs.Moments.{GivesAt, IsReady, LeavesParts, Makes, MakesSo, SeesOne, Serves, WaitsAt, bytes_heard}
+use Rattle.node_sessions.specs.Pieces.{IsNoPiece, SaysGiven}
 use Rattle.node_sessions.specs.Serving.{IsTalk, SeesPartAt, ServesAt, end_by, made_by, reply_by, says_by, taken_by}
 use Rattle.node_sessions.specs.Sessions.{end_of, owner_of}
+use Rattle.node_sessions.specs.Stored.{bytes_at, bytes_of, parts_after_frame, parts_after_taken}
 use Rattle.node_sessions.specs.Words.{word_beside, word_to}
 use Rattle.node_sessions.proofs.Answering.{KindSo, RepliesAreLines, given_kind, given_next, gives_made_so, giving_bare, giving_fills_so, keeps_on, parts_kept, parts_stay, says_so, sees_size, still_below, still_open, taken_is, taken_none, takes_made}
+use Rattle.node_sessions.proofs.Called.{makes_none}
 use Rattle.node_sessions.proofs.Framing.{IsFrameAt, waits_form}
+use Rattle.node_sessions.proofs.Pieces.{given_piece, no_piece}
+use Rattle.node_sessions.proofs.Storing.{close_leaves, parts_answered}
 
 pub end_is : (peer slot : ℕ) (q p : Place) → peer ≡ q.peer → slot ≡ q.slot → q ≡ p → server_end peer slot ≡ server_end p.peer p.slot
 end_is peer slot q p e1 e2 e3 = ap (λ (x : ℕ). server_end x slot) e1 ∙ ap (λ (x : ℕ). server_end q.peer x) e2 ∙ ap (λ (x : Place). server_end x.peer x.slot) e3
+
+-- the bytes of the frame that waits
+bytes_are : (links : List EndView) (x : Session) (frame : Frame) → WaitsAt links x frame → bytes_at links (end_of x) ≡ bytes_of frame.body
+bytes_are links x frame w = ap (λ (o : Option Frame). option_map_or (λ (f : Frame). bytes_of f.body) o []) w.first
 
 -- ---- the answer to a Close
 
@@ -60,12 +73,15 @@ hung_up links clock number was now rows rows' frame contents parts records fault
   place = h.place;
   at = refl;
   stands = stands;
+  piece = λ c told. tt;
   makes = makes;
   after = h.after;
   bars = h.after.bars;
   kind = tt;
   numbers = λ n more. h.numbers n (still_below number n rows.holds more fresh);
   filled = subst (λ (x : sessions.Session). FillsSo (session_of was).doing x.doing (is_filling rows) (is_filling rows')) (sym h.session) h.filled;
+  contents = refl;
+  left_parts = sym (left w.waits is);
   parts = parts_kept (session_of was).doing parts parts refl;
   fed = λ p is fed p' is'. h.fed p';
   judged = tt;
@@ -82,6 +98,13 @@ hung_up links clock number was now rows rows' frame contents parts records fault
 
     v : Served
     v = closing_at (place_of was)
+
+    left : wait_at links (end_of was) ≡ Some (frame_at (end_of was) frame) → frame.body ≡ bodies.Close
+        → parts_after_taken (session_of was).doing (wait_at links (end_of was)) (bytes_at links (end_of was)) (kinds.Close (place_of was).peer (place_of was).slot false) parts ≡ parts
+    left waits close =
+        ap (λ (o : Option FrameView). parts_after_taken (session_of was).doing o (bytes_at links (end_of was)) (kinds.Close (place_of was).peer (place_of was).slot false) parts) waits
+        ∙ ap (λ (b : Body). parts_after_frame (session_of was).doing (text_in b) (bytes_at links (end_of was)) (kinds.Close (place_of was).peer (place_of was).slot false) parts) close
+        ∙ close_leaves (session_of was).doing (bytes_at links (end_of was)) (kinds.Close (place_of was).peer (place_of was).slot false) parts
 
     kind : EntryKind
     kind = kinds.Close (place_of was).peer (place_of was).slot false
@@ -107,6 +130,19 @@ hung_up links clock number was now rows rows' frame contents parts records fault
       keeps = keeps_on (kinds.Close (place_of was).peer (place_of was).slot false) rows rows' contents (stand_of st) (record { present = λ key b. refl; content = λ key o. refl }) h.after sees.keeps;
     }
 
+-- a Close makes no call
+pub hung_up_makes : (links : List EndView) (clock number : ℕ) (was : Session) (rows : Rows) (frame : Frame) (contents : Option Contents) (parts : Option Parts) (records : Option (List HoldRecord)) (faults : ℕ) (failing : Option (Call → ℕ))
+    → frame.body ≡ bodies.Close → WaitsAt links was frame → MakesSo links clock number (moment_of was rows contents parts records faults) (closing_at (place_of was)) failing failing
+hung_up_makes links clock number was rows frame contents parts records faults failing is w = record {
+  at = refl;
+  calls = λ s st k sees.
+      let h = here s st k (end_of was) in
+      let session = st.sessions (end_of was) in
+      subst (λ (cs : List Call). MakesCalls cs None failing failing)
+      (sym (ap (end_calls h (end_at links (end_of was)) session) w.waits ∙ ap (λ (b : Body). calls_frame h session (text_in b)) is)) (makes_none failing);
+  left = (makes_none failing).left;
+}
+
 -- ---- the answer to another frame
 
 pub record TookSo (clock number : ℕ) (i : Incoming) (was now : Session) (rows rows' : Rows) (contents contents' : Option Contents) (parts parts' : Option Parts) (records' : Option (List HoldRecord)) (faults faults' : ℕ) (x : Step) : Type 0 where
@@ -120,6 +156,7 @@ pub record TookSo (clock number : ℕ) (i : Incoming) (was now : Session) (rows 
   pub reply : IsReplyIf x.reply
   pub numbers : (n : ℕ) → number < n → All (λ h. h.number < n) rows'.holds
   pub next : (size : List ℕ → Option ℕ) (sent : List FrameView) (f : FrameView) → Brings f.body i → SaysSo x sent → SeesSize contents i size → session_of now ≡ session_after size x.kind (session_of was) sent (Some f)
+  pub contents_are : contents' ≡ contents_after contents parts x.kind
   pub parts_are : parts' ≡ parts_after_of was i x.kind parts
   pub fed : ForSome parts (λ p. IsFedOf p was → ForSome parts' (λ p'. IsFedOf p' now))
   pub judged : IsJudgedOf was x.kind
@@ -139,6 +176,7 @@ pub record AnsweredSo (p : Place) (i : Incoming) (x : Step) (v : Served) : Type 
   pub kind : v.kind ≡ x.kind
   pub reply : reply_by v ≡ reply_of x
   pub talk : ForSome v.reply IsTalk
+  pub line : ForSome v.reply IsNoPiece
   pub word : (body : FrameText) → Brings body i → v.word ≡ word_beside body x.kind
 
 closing_only : (b : Body) → text_in b ≡ Closing → b ≡ bodies.Close
@@ -148,19 +186,22 @@ closing_only (bodies.Bytes bytes) e = absurd cc
 closing_only bodies.Close e = refl
 
 pub replies : RepliesAreLines → (links : List EndView) (clock number : ℕ) (i : Incoming) (frame : Frame) (was now : Session) (rows rows' : Rows) (contents contents' : Option Contents) (parts parts' : Option Parts) (records records' : Option (List HoldRecord)) (faults faults' : ℕ)
-    (x : Step) (p : Place) (v : Served) → (frame.body ≡ bodies.Close → ⊥) → Brings (text_in frame.body) i → WaitsAt links was frame → p ≡ place_of was
+    (x : Step) (p : Place) (v : Served) → (frame.body ≡ bodies.Close → ⊥) → Brings (text_in frame.body) i → bytes_heard i ≡ bytes_of frame.body → WaitsAt links was frame → p ≡ place_of was
     → TookSo clock number i was now rows rows' contents contents' parts parts' records' faults faults' x → AnsweredSo p i x v
     → Serves links clock number (moment_of was rows contents parts records faults) (moment_of now rows' contents' parts' records' faults') v
-replies law links clock number i frame was now rows rows' contents contents' parts parts' records records' faults faults' x p v other brings w place t y = record {
+replies law links clock number i frame was now rows rows' contents contents' parts parts' records records' faults faults' x p v other brings bytes w place t y = record {
   place = t.place;
   at = end;
   stands = stands;
+  piece = λ c told. no_piece c (session_of was).doing v.reply y.line;
   makes = makes;
   after = subst (λ (kind : EntryKind). AreAfterStep kind rows rows') (sym y.kind) t.after;
   bars = t.bars;
   kind = subst (IsKind number) (sym y.kind) t.kind;
   numbers = t.numbers;
   filled = t.filled;
+  contents = t.contents_are ∙ ap (contents_after contents parts) (sym y.kind);
+  left_parts = left;
   parts = subst (λ (o : Option Parts). LeavesParts (session_of was).doing parts o) (sym t.parts_are) (parts_stay was.doing i x.kind parts);
   fed = t.fed;
   judged = subst (IsJudgedOf was) (sym y.kind) t.judged;
@@ -177,6 +218,12 @@ replies law links clock number i frame was now rows rows' contents contents' par
 
     took : taken_by links v ≡ Some (frame_at (end_of was) frame)
     took = taken_is links v (end_of was) (end_is v.peer v.slot p (place_of was) y.peer y.slot place) y.takes ∙ w.waits
+
+    left : parts' ≡ parts_after_taken (session_of was).doing (taken_by links v) (bytes_at links (end_by v)) v.kind parts
+    left = t.parts_are ∙ parts_answered was.doing i frame.body x.kind parts brings bytes
+        ∙ ap (λ (bs : List ℕ). parts_after_taken (session_of was).doing (Some (frame_at (end_of was) frame)) bs x.kind parts) (sym (ap (bytes_at links) end ∙ bytes_are links was frame w))
+        ∙ ap (λ (kind : EntryKind). parts_after_taken (session_of was).doing (Some (frame_at (end_of was) frame)) (bytes_at links (end_by v)) kind parts) (sym y.kind)
+        ∙ ap (λ (o : Option FrameView). parts_after_taken (session_of was).doing o (bytes_at links (end_by v)) v.kind parts) (sym took)
 
     form : IsFrameAt (end_of was) (end_at links (end_of was)) (frame_at (end_of was) frame)
     form = waits_form links (end_of was) (frame_at (end_of was) frame) w.waits
@@ -207,11 +254,39 @@ replies law links clock number i frame was now rows rows' contents contents' par
           keeps = subst (λ (kind : EntryKind). Keeps rows' contents' (stand_after kind (stand_of st))) (sym y.kind) (t.keeps (stand_of st) k.part k.right sees.keeps part);
         }
 
+-- and it makes the calls of the answer
+pub replies_make : (links : List EndView) (clock number : ℕ) (i : Incoming) (frame : Frame) (was : Session) (rows : Rows) (contents : Option Contents) (parts : Option Parts) (records : Option (List HoldRecord)) (faults : ℕ) (before after : Option (Call → ℕ)) (x : Step) (p : Place) (v : Served)
+    → Brings (text_in frame.body) i → WaitsAt links was frame → p ≡ place_of was → AnsweredSo p i x v
+    → ((s : SetUp) (st : State) (k : Look) (a : EndName) (body : FrameText) → IsScene (record { place = place_of was; clock = clock; number = number }) s st k a → Keeps rows contents (stand_of st)
+    → ((key : List ℕ) → is_filled s st key ≡ is_filling rows key) → st.sessions a ≡ session_of was → Brings body i → SeesPartOf parts was i k.part k.right → k.fails ≡ failed_in x.kind
+    → MakesCalls (calls_frame (here s st k a) (st.sessions a) body) k.fails before after)
+    → after ≡ option_map (fewer (failed_in x.kind)) before → MakesSo links clock number (moment_of was rows contents parts records faults) v before after
+replies_make links clock number i frame was rows contents parts records faults before after x p v brings w place y made left = record {
+  at = end;
+  calls = calls;
+  left = left ∙ ap (λ (kind : EntryKind). option_map (fewer (failed_in kind)) before) (sym y.kind);
+}
+  where
+    end : end_by v ≡ end_of was
+    end = end_is v.peer v.slot p (place_of was) y.peer y.slot place
+
+    took : taken_by links v ≡ Some (frame_at (end_of was) frame)
+    took = taken_is links v (end_of was) (end_is v.peer v.slot p (place_of was) y.peer y.slot place) y.takes ∙ w.waits
+
+    calls : (s : SetUp) (st : State) (k : Look) → SeesOne links clock number (moment_of was rows contents parts records faults) v s st k
+        → MakesCalls (end_calls (here s st k (end_of was)) (end_at links (end_of was)) (st.sessions (end_of was)) (wait_at links (end_of was))) (failed_in v.kind) before after
+    calls s st k sees =
+        let part : SeesPartOf parts was i k.part k.right = subst (λ (o : Option FrameView). SeesPartAt parts (Some was) o k.part k.right) took sees.part i brings in
+        subst (λ (o : Option FrameView). MakesCalls (end_calls (here s st k (end_of was)) (end_at links (end_of was)) (st.sessions (end_of was)) o) (failed_in v.kind) before after) (sym w.waits)
+        (subst (λ (fails : Option Call). MakesCalls (calls_frame (here s st k (end_of was)) (st.sessions (end_of was)) (text_in frame.body)) fails before after) sees.fails
+        (made s st k (end_of was) (text_in frame.body) sees.scene sees.keeps sees.filled sees.session brings part (sees.fails ∙ ap failed_in y.kind)))
+
 -- ---- a piece
 
 pub record GaveSo (was now : Session) (contents contents' : Option Contents) (parts parts' : Option Parts) (records records' : Option (List HoldRecord)) (faults faults' : ℕ) (m : More) : Type 0 where
   pub step : (s : SetUp) (st : State) (k : Look) (a : EndName) (c : Contents) → a ≡ server_end (place_of was).peer (place_of was).slot → contents ≡ Some c → ((key : List ℕ) → size_in c key ≡ st.content key)
       → st.sessions a ≡ session_of was → k.fails ≡ failed_more m → gives_next (here s st k a) (st.sessions a).doing ≡ reply_more (place_of was) m
+  pub bytes : ForSome contents (λ c. IsPieceOf c (session_of was).doing m)
   pub next : session_of now ≡ session_sent m (session_of was)
   pub place : place_of now ≡ place_of was
   pub share : share_of now ≡ share_of was
@@ -230,7 +305,9 @@ pub record GivenSo (p : Place) (m : More) (v : Served) : Type 0 where
   pub reply : reply_more p m ≡ Some (reply_by v)
   pub fails : failed_in v.kind ≡ failed_more m
   pub kind : (n : ℕ) → IsKind n v.kind
+  pub leaves : LeavesContents v.kind
   pub talk : ForSome v.reply IsTalk
+  pub piece : SaysGiven m v.reply
   pub word : v.word ≡ None
 
 fed_same : (parts parts' : Option Parts) (p p' : Parts) (now : Session) → parts' ≡ parts → parts ≡ Some p → parts' ≡ Some p' → IsFedOf p now → IsFedOf p' now
@@ -244,12 +321,15 @@ gives_so links clock number was now rows contents contents' parts parts' records
   place = t.place;
   at = end;
   stands = stands;
+  piece = λ c told. given_piece c (session_of was).doing m v.reply w.gives (t.bytes c told) y.piece;
   makes = makes;
   after = so.1;
   bars = λ key. refl;
   kind = y.kind number;
   numbers = λ n more. still_below number n rows.holds more ready.fresh;
   filled = giving_fills_so m (session_of was) (session_of now) (is_filling rows) w.gives t.next;
+  contents = t.same_contents ∙ sym (y.leaves contents parts);
+  left_parts = t.same_parts ∙ sym (ap (λ (o : Option FrameView). parts_after_taken (session_of was).doing o (bytes_at links (end_by v)) v.kind parts) (taken_none links v y.takes));
   parts = parts_kept (session_of was).doing parts parts' t.same_parts;
   fed = λ q is fed q' is'. fed_same parts parts' q q' now t.same_parts is is' (t.fed q fed);
   judged = so.2 was;
@@ -292,3 +372,20 @@ gives_so links clock number was now rows contents contents' parts parts' records
       next = t.next ∙ given_next (place_of was) m v st.content (session_of was) (end_by v) _ said ∙ ap (λ (o : Option FrameView). session_after st.content v.kind (session_of was) (made_by links v).sent o) (sym took);
       keeps = subst (λ (o : Option Contents). Keeps rows o (stand_after v.kind (stand_of st))) (sym t.same_contents) (keeps_on v.kind rows rows contents (stand_of st) so.0 so.1 sees.keeps);
     }
+
+-- and it makes the call of a piece
+pub gives_make : (links : List EndView) (clock number : ℕ) (was : Session) (rows : Rows) (contents : Option Contents) (parts : Option Parts) (records : Option (List HoldRecord)) (faults : ℕ) (before after : Option (Call → ℕ)) (m : More) (p : Place) (v : Served)
+    → GivesAt links was → p ≡ place_of was → GivenSo p m v → MakesCalls (calls_next (session_of was).doing) (failed_more m) before after
+    → MakesSo links clock number (moment_of was rows contents parts records faults) v before after
+gives_make links clock number was rows contents parts records faults before after m p v w place y made = record {
+  at = end_is v.peer v.slot p (place_of was) y.peer y.slot place;
+  calls = λ s st k sees.
+      let h = here s st k (end_of was) in
+      let c = end_at links (end_of was) in
+      let session = st.sessions (end_of was) in
+      let list : end_calls h c session (wait_at links (end_of was)) ≡ calls_next (session_of was).doing =
+      ap (end_calls h c session) w.none ∙ ap (λ (b : Bool). if b then calls_next session.doing else []) w.opened ∙ ap (λ (x : sessions.Session). calls_next x.doing) sees.session in
+      subst (λ (cs : List Call). MakesCalls cs (failed_in v.kind) before after) (sym list)
+      (subst (λ (fails : Option Call). MakesCalls (calls_next (session_of was).doing) fails before after) (sym y.fails) made);
+  left = made.left ∙ ap (λ (fails : Option Call). option_map (fewer fails) before) (sym y.fails);
+}

@@ -127,8 +127,8 @@ filled_set xs i was now rows rows' others at apart h f =
 
 -- ---- the parts
 
-pub parts_left : (xs : List Session) (i : ℕ) (was : Session) (known known' : Option Parts) → slice_get xs i ≡ Some was → LeavesParts (session_of was).doing known known' → LeavesPartsOf xs known known'
-parts_left xs i was known known' at h = record {
+pub parts_stand : (xs : List Session) (i : ℕ) (was : Session) (known known' : Option Parts) → slice_get xs i ≡ Some was → LeavesParts (session_of was).doing known known' → LeavesPartsOf xs known known'
+parts_stand xs i was known known' at h = record {
   told = h.told;
   same = λ p is p' is' key none. h.same p is p' is' key (none_any (session_fills key) xs none i was at);
 }

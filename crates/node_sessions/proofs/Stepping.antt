@@ -40,11 +40,11 @@ pub record SeesSessions (links : List EndView) (xs : List Session) (s : SetUp) (
   pub look : SeesEnds links s k
   pub sessions : AreSessions s st.sessions xs
 
-sessions_seen : (links : List EndView) (rows : Rows) (contents : Option Contents) (parts : Option Parts) (clock number : ℕ) (xs : List Session) (o : Option Served) (s : SetUp) (st : State) (k : Look)
+pub sessions_seen : (links : List EndView) (rows : Rows) (contents : Option Contents) (parts : Option Parts) (clock number : ℕ) (xs : List Session) (o : Option Served) (s : SetUp) (st : State) (k : Look)
     → Sees links rows contents parts clock number xs o s st k → SeesSessions links xs s st k
 sessions_seen links rows contents parts clock number xs o s st k sees = record { ends = sees.ends; look = sees.look; sessions = sees.sessions }
 
-idle_step : FramesWait → (links : List EndView) (xs : List Session) (s : SetUp) (st : State) (k : Look)
+pub idle_step : FramesWait → (links : List EndView) (xs : List Session) (s : SetUp) (st : State) (k : Look)
     → HaveEnds links xs → SeesSessions links xs s st k → (i : ℕ) (x : Session) → slice_get xs i ≡ Some x → turn_at links x ≡ None → session_at s st k (end_of x) ≡ None
 idle_step law links xs s st k there sees i x at none =
     step_at law links s st k (end_of x) sees.ends sees.look (end_among s xs i x sees.sessions.connections at) (there i x at)
@@ -57,7 +57,7 @@ none_made law links xs s st k there none sees =
     ∙ first_none (λ c. session_at s st k (server_end c.0 c.1)) connection_of xs (λ i x at. idle_step law links xs s st k there sees i x at (none i x at))
 
 -- a session with a turn has a step
-busy_step : FramesWait → (links : List EndView) (xs : List Session) (s : SetUp) (st : State) (k : Look)
+pub busy_step : FramesWait → (links : List EndView) (xs : List Session) (s : SetUp) (st : State) (k : Look)
     → HaveEnds links xs → SeesSessions links xs s st k → (i : ℕ) (x : Session) (turn : Turn) → slice_get xs i ≡ Some x → turn_at links x ≡ Some turn → is_some (session_at s st k (end_of x)) ≡ true
 busy_step law links xs s st k there sees i x turn at is =
     ap is_some (step_at law links s st k (end_of x) sees.ends sees.look (end_among s xs i x sees.sessions.connections at) (there i x at))
@@ -86,7 +86,7 @@ none_steps law links rows contents parts clock number xs s st k there none sees 
 
 -- ---- the session that serves
 
-sees_one : (links : List EndView) (rows : Rows) (contents : Option Contents) (parts : Option Parts) (records : Option (List HoldRecord)) (faults : ℕ) (clock number : ℕ) (xs : List Session) (i : ℕ) (was : Session) (v : Served) (s : SetUp) (st : State) (k : Look)
+pub sees_one : (links : List EndView) (rows : Rows) (contents : Option Contents) (parts : Option Parts) (records : Option (List HoldRecord)) (faults : ℕ) (clock number : ℕ) (xs : List Session) (i : ℕ) (was : Session) (v : Served) (s : SetUp) (st : State) (k : Look)
     → slice_get xs i ≡ Some was → EveryTwo Differ xs → end_by v ≡ end_of was → Sees links rows contents parts clock number xs (Some v) s st k → SeesOne links clock number (moment_of was rows contents parts records faults) v s st k
 sees_one links rows contents parts records faults clock number xs i was v s st k at apart end sees =
     let mine : IsSessionOf s st.sessions was = sees.sessions.each i was at in record {

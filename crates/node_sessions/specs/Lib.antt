@@ -3,6 +3,9 @@ pub mod Sessions
 pub mod Words
 pub mod Kinds
 pub mod Serving
+pub mod Pieces
 pub mod Turns
+pub mod Calls
+pub mod Stored
 pub mod Moments
 pub mod Built

@@ -1,6 +1,7 @@
 //! The answer to a frame.
 ghost use Rattle.std.specs.Prelude.{◌≡◌, ◌≤◌, ◌+◌, ◌<◌, ◌^◌, ℕ, Bool, List, All, true, false, Some, None, IfOk, OnErr, is_some};
 ghost use Rattle.std.specs.Option.{ForSome};
+ghost use Rattle.annex_base.specs.declared.kinds.Call.{Call};
 ghost use Rattle.link_ring.specs.Ends.{EndView};
 ghost use Rattle.content_lock.specs.Stored.{Agrees};
 ghost use Rattle.content_lock.specs.Tokens.{Owns};
@@ -12,9 +13,10 @@ ghost use Rattle.p2p_server.specs.Bounds.{IsReplyIf};
 ghost use Rattle.p2p_server.specs.Stepping.{moment_of};
 ghost use Rattle.p2p_server.specs.Talking.{Brings, HasFillOf, share_of};
 ghost use Rattle.object_store.specs.declared.keeper.HoldRecord.{HoldRecord};
-ghost use Rattle.object_store.specs.Stores.{Contents, Parts};
+ghost use Rattle.object_store.specs.Stores.{AreSmallParts, Contents, Parts};
 ghost use Rattle.std.specs.declared.option.Option.{Option};
-ghost use Rattle.node_sessions.specs.Moments.{Serves, WaitsAt};
+ghost use Rattle.node_sessions.specs.Moments.{MakesSo, Serves, WaitsAt};
+ghost use Rattle.node_sessions.specs.Pieces.{IsNoPiece};
 ghost use Rattle.node_sessions.specs.Serving.{IsTalk, reply_by};
 ghost use Rattle.node_sessions.specs.Sessions.{owner_of};
 ghost use Rattle.node_sessions.specs.Words.{word_beside};
@@ -40,6 +42,7 @@ fn answered(place: &Place, incoming: &Incoming, room: Room, step: Step) -> Serve
     ensures close { result.close ≡ step.close }
     ensures reply { reply_by result ≡ reply_of step }
     ensures talk { ForSome result.reply IsTalk }
+    ensures line { ForSome result.reply IsNoPiece }
     ensures word { (body : FrameText) → Brings body incoming.now → result.word ≡ word_beside body step.kind }
 {
     let Step { kind, reply, close } = step;
@@ -60,9 +63,11 @@ fn answered(place: &Place, incoming: &Incoming, room: Room, step: Step) -> Serve
 fn hang_up(session: &mut Session, table: &mut LockTable) -> Served
     requires owns { Owns (owner_of session.old) (share_of session.old) table.old.holds }
     requires fills { HasFillOf table.old session.old }
-    ensures { (links : List EndView) (clock number : ℕ) (frame : Frame) (contents : Option Contents) (parts : Option Parts) (records : Option (List HoldRecord)) (faults : ℕ)
+    ensures serves { (links : List EndView) (clock number : ℕ) (frame : Frame) (contents : Option Contents) (parts : Option Parts) (records : Option (List HoldRecord)) (faults : ℕ)
         → frame.body ≡ bodies.Close → WaitsAt links session.old frame → Agrees records table.old.holds → All (λ h. h.number < number) table.old.holds
         → Serves links clock number (moment_of session.old table.old contents parts records faults) (moment_of session.new table.new contents parts records faults) result }
+    ensures calls { (links : List EndView) (clock number : ℕ) (frame : Frame) (contents : Option Contents) (parts : Option Parts) (records : Option (List HoldRecord)) (faults : ℕ) (failing : Option (Call → ℕ))
+        → frame.body ≡ bodies.Close → WaitsAt links session.old frame → MakesSo links clock number (moment_of session.old table.old contents parts records faults) result failing failing }
 {
     let place = session.place();
     session.closed(table);
@@ -100,10 +105,14 @@ fn reply_to<K: Keeper>(
     ensures serves { IfOk result (λ v. (links : List EndView) → WaitsAt links session.old frame.now → Serves links clock number
         (moment_of session.old table.old (K.contents keeper.old) (K.parts keeper.old) (K.records keeper.old) (K.faults keeper.old))
         (moment_of session.new table.new (K.contents keeper.new) (K.parts keeper.new) (K.records keeper.new) (K.faults keeper.new)) v) }
+    ensures calls { IfOk result (λ v. (links : List EndView) → WaitsAt links session.old frame.now → MakesSo links clock number
+        (moment_of session.old table.old (K.contents keeper.old) (K.parts keeper.old) (K.records keeper.old) (K.faults keeper.old)) v (K.failing keeper.old) (K.failing keeper.new)) }
     ensures err { OnErr result ((session.new ≡ session.old) × (table.new ≡ table.old)) }
     ensures err_contents { OnErr result (K.contents keeper.new ≡ K.contents keeper.old) }
     ensures err_parts { OnErr result (K.parts keeper.new ≡ K.parts keeper.old) }
     ensures err_records { OnErr result (K.records keeper.new ≡ K.records keeper.old) }
+    ensures err_failing { OnErr result (K.failing keeper.new ≡ K.failing keeper.old) }
+    ensures small { AreSmallParts (K.parts keeper.old) → AreSmallParts (K.parts keeper.new) }
     ensures files { K.files keeper.new ≡ K.files keeper.old }
     ensures told { is_some (K.parts keeper.old) ≡ true → is_some (K.contents keeper.new) ≡ is_some (K.contents keeper.old) }
     ensures later { K.faults keeper.old ≤ K.faults keeper.new }
@@ -135,10 +144,14 @@ pub(crate) fn answer<K: Keeper>(
     ensures serves { IfOk result (λ v. (links : List EndView) → WaitsAt links session.old frame.now → Serves links clock number
         (moment_of session.old table.old (K.contents keeper.old) (K.parts keeper.old) (K.records keeper.old) (K.faults keeper.old))
         (moment_of session.new table.new (K.contents keeper.new) (K.parts keeper.new) (K.records keeper.new) (K.faults keeper.new)) v) }
+    ensures calls { IfOk result (λ v. (links : List EndView) → WaitsAt links session.old frame.now → MakesSo links clock number
+        (moment_of session.old table.old (K.contents keeper.old) (K.parts keeper.old) (K.records keeper.old) (K.faults keeper.old)) v (K.failing keeper.old) (K.failing keeper.new)) }
     ensures err { OnErr result ((session.new ≡ session.old) × (table.new ≡ table.old)) }
     ensures err_contents { OnErr result (K.contents keeper.new ≡ K.contents keeper.old) }
     ensures err_parts { OnErr result (K.parts keeper.new ≡ K.parts keeper.old) }
     ensures err_records { OnErr result (K.records keeper.new ≡ K.records keeper.old) }
+    ensures err_failing { OnErr result (K.failing keeper.new ≡ K.failing keeper.old) }
+    ensures small { AreSmallParts (K.parts keeper.old) → AreSmallParts (K.parts keeper.new) }
     ensures files { K.files keeper.new ≡ K.files keeper.old }
     ensures told { is_some (K.parts keeper.old) ≡ true → is_some (K.contents keeper.new) ≡ is_some (K.contents keeper.old) }
     ensures later { K.faults keeper.old ≤ K.faults keeper.new }

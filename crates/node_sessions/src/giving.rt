@@ -3,12 +3,13 @@ ghost use Rattle.std.specs.Prelude.{◌≡◌, ◌≤◌, ◌+◌, ◌<◌, ◌^
 ghost use Rattle.std.specs.Option.{ForSome};
 ghost use Rattle.link_ring.specs.Ends.{EndView};
 ghost use Rattle.content_lock.specs.Rows.{Rows};
-ghost use Rattle.p2p_server.specs.Answers.{failed_in};
+ghost use Rattle.p2p_server.specs.Answers.{LeavesContents, failed_in};
 ghost use Rattle.p2p_server.specs.Bounds.{FitsMore, IsKind};
 ghost use Rattle.p2p_server.specs.Giving.{failed_more, is_giving, reply_more};
 ghost use Rattle.p2p_server.specs.Stepping.{moment_of};
 ghost use Rattle.p2p_server.specs.Talking.{session_of};
-ghost use Rattle.node_sessions.specs.Moments.{GivesAt, IsReady, Serves};
+ghost use Rattle.node_sessions.specs.Moments.{GivesAt, IsReady, MakesSo, Serves};
+ghost use Rattle.node_sessions.specs.Pieces.{SaysGiven};
 ghost use Rattle.node_sessions.specs.Serving.{IsTalk, reply_by};
 
 use crate::room::Room;
@@ -44,7 +45,9 @@ fn given(place: &Place, room: Room, more: More) -> Served
     ensures reply { reply_more place.now more ≡ Some (reply_by result) }
     ensures fails { failed_in result.kind ≡ failed_more more }
     ensures kind { (number : ℕ) → IsKind number result.kind }
+    ensures leaves { LeavesContents result.kind }
     ensures talk { ForSome result.reply IsTalk }
+    ensures piece { SaysGiven more result.reply }
     ensures word { result.word ≡ None }
 {
     match more {
@@ -83,7 +86,10 @@ pub(crate) fn give<K: Keeper>(
         → IsReady number (moment_of session.old rows (K.contents keeper.old) (K.parts keeper.old) (K.records keeper.old) (K.faults keeper.old)) → Serves links clock number
         (moment_of session.old rows (K.contents keeper.old) (K.parts keeper.old) (K.records keeper.old) (K.faults keeper.old))
         (moment_of session.new rows (K.contents keeper.new) (K.parts keeper.new) (K.records keeper.new) (K.faults keeper.new)) v) }
+    ensures calls { IfOk result (λ v. (links : List EndView) (rows : Rows) (clock number : ℕ) → GivesAt links session.old → MakesSo links clock number
+        (moment_of session.old rows (K.contents keeper.old) (K.parts keeper.old) (K.records keeper.old) (K.faults keeper.old)) v (K.failing keeper.old) (K.failing keeper.new)) }
     ensures err { OnErr result (session.new ≡ session.old) }
+    ensures err_failing { OnErr result (K.failing keeper.new ≡ K.failing keeper.old) }
     ensures contents { K.contents keeper.new ≡ K.contents keeper.old }
     ensures parts { K.parts keeper.new ≡ K.parts keeper.old }
     ensures records { K.records keeper.new ≡ K.records keeper.old }

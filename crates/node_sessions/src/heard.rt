@@ -1,8 +1,10 @@
 //! What a frame brings to a session.
-ghost use Rattle.std.specs.Prelude.{IfOk};
+ghost use Rattle.std.specs.Prelude.{◌≡◌, IfOk, []};
 ghost use Rattle.run_data.specs.declared.entry.FrameText.TheVariants as texts;
 ghost use Rattle.node_ends.specs.Ends.{text_in};
 ghost use Rattle.p2p_server.specs.Talking.{Brings};
+ghost use Rattle.node_sessions.specs.Moments.{bytes_heard};
+ghost use Rattle.node_sessions.specs.Stored.{bytes_of};
 
 use annex_base::NoMemory;
 use link_ring::Body;
@@ -12,7 +14,8 @@ use std::alloc::Global;
 
 /// What a line brings: a message, or what is none.
 fn line_heard(alloc: Global, line: &[u8]) -> Result<Incoming, NoMemory>
-    ensures { IfOk result (λ i. Brings (texts.Line line.now) i) }
+    ensures brings { IfOk result (λ i. Brings (texts.Line line.now) i) }
+    ensures bytes { IfOk result (λ i. bytes_heard i ≡ []) }
 {
     match Message::read(alloc, line)? {
         Some(message) => Ok(Incoming::Message(message)),
@@ -22,7 +25,8 @@ fn line_heard(alloc: Global, line: &[u8]) -> Result<Incoming, NoMemory>
 
 /// What a frame with this body brings.
 pub(crate) fn heard(alloc: Global, body: &Body) -> Result<Incoming, NoMemory>
-    ensures { IfOk result (λ i. Brings (text_in body.now) i) }
+    ensures brings { IfOk result (λ i. Brings (text_in body.now) i) }
+    ensures bytes { IfOk result (λ i. bytes_heard i ≡ bytes_of body.now) }
 {
     match body {
         Body::Open => Ok(Incoming::Opening),

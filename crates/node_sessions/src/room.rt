@@ -6,6 +6,7 @@ ghost use Rattle.p2p_wire.specs.Messages.{text_of};
 ghost use Rattle.p2p_wire.specs.Streams.{IsLine};
 ghost use Rattle.p2p_server.specs.Answers.{closes, says};
 ghost use Rattle.p2p_server.specs.Bounds.{IsReply, IsReplyIf};
+ghost use Rattle.node_sessions.specs.Pieces.{IsNoPiece};
 ghost use Rattle.node_sessions.specs.Serving.{IsTalk, says_in};
 
 use annex_base::{NoMemory, Text};
@@ -66,6 +67,7 @@ impl Room {
         requires { IsReplyIf message.now }
         ensures says { (close : Bool) → says_in result close ≡ says message.now (closes close) }
         ensures talk { ForSome result IsTalk }
+        ensures line { ForSome result IsNoPiece }
     {
         match message {
             None => None,

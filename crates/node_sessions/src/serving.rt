@@ -3,9 +3,10 @@ ghost use Rattle.std.specs.Prelude.{◌≡◌, ◌≤◌, ◌+◌, ◌<◌, ◌^
 ghost use Rattle.content_lock.specs.Stored.{Agrees};
 ghost use Rattle.content_lock.specs.Tokens.{Owns};
 ghost use Rattle.node_ends.specs.Ends.{link_at};
+ghost use Rattle.object_store.specs.Stores.{AreSmallParts};
 ghost use Rattle.p2p_server.specs.Stepping.{moment_of};
 ghost use Rattle.p2p_server.specs.Talking.{HasFillOf, share_of};
-ghost use Rattle.node_sessions.specs.Moments.{Serves, ServesAmong};
+ghost use Rattle.node_sessions.specs.Moments.{MakesAmong, MakesSo, Serves, ServesAmong};
 ghost use Rattle.node_sessions.specs.Sessions.{HaveEnds, OwnAll, end_of, owner_of};
 ghost use Rattle.node_sessions.specs.Turns.{IsFirstAt, turn_at};
 
@@ -41,10 +42,14 @@ fn act<K: Keeper>(
     ensures serves { IfOk result (λ v. Serves ends.now clock number
         (moment_of session.old table.old (K.contents keeper.old) (K.parts keeper.old) (K.records keeper.old) (K.faults keeper.old))
         (moment_of session.new table.new (K.contents keeper.new) (K.parts keeper.new) (K.records keeper.new) (K.faults keeper.new)) v) }
+    ensures calls { IfOk result (λ v. MakesSo ends.now clock number
+        (moment_of session.old table.old (K.contents keeper.old) (K.parts keeper.old) (K.records keeper.old) (K.faults keeper.old)) v (K.failing keeper.old) (K.failing keeper.new)) }
     ensures err { OnErr result ((session.new ≡ session.old) × (table.new ≡ table.old)) }
     ensures err_contents { OnErr result (K.contents keeper.new ≡ K.contents keeper.old) }
     ensures err_parts { OnErr result (K.parts keeper.new ≡ K.parts keeper.old) }
     ensures err_records { OnErr result (K.records keeper.new ≡ K.records keeper.old) }
+    ensures err_failing { OnErr result (K.failing keeper.new ≡ K.failing keeper.old) }
+    ensures small { AreSmallParts (K.parts keeper.old) → AreSmallParts (K.parts keeper.new) }
     ensures files { K.files keeper.new ≡ K.files keeper.old }
     ensures told { is_some (K.parts keeper.old) ≡ true → is_some (K.contents keeper.new) ≡ is_some (K.contents keeper.old) }
     ensures later { K.faults keeper.old ≤ K.faults keeper.new }
@@ -81,10 +86,14 @@ pub(crate) fn serve<K: Keeper>(
     requires first { IsFirstAt ends.now sessions.old.items first }
     ensures serves { IfOk result (λ v. ServesAmong ends.now clock number first.at sessions.old.items sessions.new.items table.old table.new
         (K.contents keeper.old) (K.contents keeper.new) (K.parts keeper.old) (K.parts keeper.new) (K.records keeper.old) (K.records keeper.new) (K.faults keeper.old) (K.faults keeper.new) v) }
+    ensures calls { IfOk result (λ v. MakesAmong ends.now clock number first.at sessions.old.items table.old
+        (K.contents keeper.old) (K.parts keeper.old) (K.records keeper.old) (K.faults keeper.old) v (K.failing keeper.old) (K.failing keeper.new)) }
     ensures err { OnErr result ((sessions.new.items ≡ sessions.old.items) × (table.new ≡ table.old)) }
     ensures err_contents { OnErr result (K.contents keeper.new ≡ K.contents keeper.old) }
     ensures err_parts { OnErr result (K.parts keeper.new ≡ K.parts keeper.old) }
     ensures err_records { OnErr result (K.records keeper.new ≡ K.records keeper.old) }
+    ensures err_failing { OnErr result (K.failing keeper.new ≡ K.failing keeper.old) }
+    ensures small { AreSmallParts (K.parts keeper.old) → AreSmallParts (K.parts keeper.new) }
     ensures files { K.files keeper.new ≡ K.files keeper.old }
     ensures told { is_some (K.parts keeper.old) ≡ true → is_some (K.contents keeper.new) ≡ is_some (K.contents keeper.old) }
     ensures later { K.faults keeper.old ≤ K.faults keeper.new }

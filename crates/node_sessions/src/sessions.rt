@@ -1,13 +1,14 @@
 //! The sessions of a repository.
 ghost use Rattle.std.specs.Prelude.{◌≡◌, ◌≤◌, ◌+◌, ◌*◌, ◌<◌, ◌^◌, ◌||◌, ℕ, Bool, List, All, true, false, Some, None, IfOk, IfSome, OnErr, is_some, length, map};
 ghost use Rattle.std.specs.declared.option.Option.{Option};
-ghost use Rattle.std.specs.Option.{ForSome};
+ghost use Rattle.std.specs.Option.{ForSome, option_map};
 ghost use Rattle.annex_base.specs.Causes.{Rose};
 ghost use Rattle.annex_base.specs.Lists.{Member};
 ghost use Rattle.run_data.specs.declared.entry.By.{By};
 ghost use Rattle.run_data.specs.declared.entry.EntryKind.TheVariants.{Close, Crash};
-ghost use Rattle.object_store.specs.Stores.{Parts};
+ghost use Rattle.object_store.specs.Stores.{AreSmallParts, Parts};
 ghost use Rattle.object_store.specs.declared.keeper.HoldRecord.{HoldRecord};
+ghost use Rattle.content_lock.specs.CallsMade.{MakesCalls, fewer};
 ghost use Rattle.content_lock.specs.Rows.{Rows, bar_at, is_filling};
 ghost use Rattle.content_lock.specs.Stored.{Agrees};
 ghost use Rattle.content_lock.specs.Tokens.{Owns, ShareView};
@@ -22,8 +23,11 @@ ghost use Rattle.node_model.specs.State.{State};
 ghost use Rattle.node_ends.specs.Ends.{AreEnds, SeesEnds};
 ghost use Rattle.p2p_server.specs.Bounds.{IsKind};
 ghost use Rattle.p2p_server.specs.Talking.{AreAfterStep, place_of};
+ghost use Rattle.node_sessions.specs.Calls.{session_calls};
+ghost use Rattle.node_sessions.specs.Pieces.{PieceBy};
 ghost use Rattle.node_sessions.specs.Serving.{AreAfterIf, JudgedBy, Sees, ServesIf, StepsSo, closing_made, failed_by, sessions_after};
 ghost use Rattle.node_sessions.specs.Sessions.{AreFilled, AreSessions, FedAll, HaveEnds, IsOther, IsSetUp, LeavesPartsOf, OwnAll, connection_of, fills_in};
+ghost use Rattle.node_sessions.specs.Stored.{contents_left, parts_left};
 
 use crate::beginning::all_sessions;
 use crate::ending::{close_at, end_all, find_session};
@@ -152,6 +156,15 @@ impl Sessions {
         ensures step { IfOk result (λ o. (s : SetUp) (st : State) (k : Look)
             → Sees ends.old table.old (K.contents keeper.old) (K.parts keeper.old) clock number self.old o s st k
             → StepsSo ends.old o self.new table.new (K.contents keeper.new) s st k) }
+
+        // It makes the calls of its store that the state's own step makes, and where one was to fail, it tells that call.
+        ensures calls { IfOk result (λ o. (s : SetUp) (st : State) (k : Look)
+            → Sees ends.old table.old (K.contents keeper.old) (K.parts keeper.old) clock number self.old o s st k
+            → MakesCalls (session_calls s st k) (failed_by o) (K.failing keeper.old) (K.failing keeper.new)) }
+        ensures left { IfOk result (λ o. K.failing keeper.new ≡ option_map (fewer (failed_by o)) (K.failing keeper.old)) }
+        ensures contents { IfOk result (λ o. K.contents keeper.new ≡ contents_left (K.contents keeper.old) (K.parts keeper.old) o) }
+        ensures left_parts { IfOk result (λ o. K.parts keeper.new ≡ parts_left self.old ends.old o (K.parts keeper.old)) }
+        ensures small { AreSmallParts (K.parts keeper.old) → AreSmallParts (K.parts keeper.new) }
         ensures serves { IfOk result (ServesIf ends.old) }
         ensures among { IfOk result (λ o. ForSome o (λ v. Member (v.peer, v.slot) (map connection_of self.old))) }
         ensures same { ends.new ≡ ends.old }
@@ -179,6 +192,9 @@ impl Sessions {
         ensures told { is_some (K.parts keeper.old) ≡ true → is_some (K.contents keeper.new) ≡ is_some (K.contents keeper.old) }
 
         ensures judged { IfOk result (JudgedBy self.old) }
+
+        // A piece that is said is of the content that its session is sending, from the place on to which it has come.
+        ensures pieces { IfOk result (PieceBy (K.contents keeper.old) self.old) }
         ensures agrees { Agrees (K.records keeper.new) table.new.holds }
         ensures later { K.faults keeper.old ≤ K.faults keeper.new }
         ensures cause { IfOk result (λ o. IfSome (failed_by o) (λ call. Rose (K.faults keeper.old) (K.faults keeper.new))) }
@@ -186,6 +202,7 @@ impl Sessions {
         ensures err_contents { OnErr result (K.contents keeper.new ≡ K.contents keeper.old) }
         ensures err_parts { OnErr result (K.parts keeper.new ≡ K.parts keeper.old) }
         ensures err_records { OnErr result (K.records keeper.new ≡ K.records keeper.old) }
+        ensures err_failing { OnErr result (K.failing keeper.new ≡ K.failing keeper.old) }
     {
         // For the proof, which cites them.
         frames_wait_at_ends();

@@ -1,4 +1,8 @@
 -- A table after what was had in a phase was let go of.
+use Rattle.std.specs.Prelude.{Result, Ok, Err, IfOk}
+use Rattle.object_store.specs.Stores.{Contents, Parts}
+use Rattle.p2p_server.specs.declared.step.Step.{Step}
+use Rattle.p2p_server.specs.Answers.{LeavesContents, contents_after}
 use Rattle.std.proofs.Common.{◌≡◌, ℕ, false, List, Option, Some, None, map, refl, sym, ap, subst, ◌∙◌}
 use Rattle.std.specs.Prelude.{bytes_eq, not, ◌&&◌}
 use Rattle.std.specs.Map.{lookup}
@@ -62,3 +66,8 @@ guarded_goes place d share was now is own after owns others stored =
 pub same_goes : (place : Place) (d d' : Doing) (was now : Rows) → d' ≡ d → (Owns (owner_at place) (share_in d') was.holds → IsLetGo place d' was now) → Owns (owner_at place) (share_in d) was.holds → IsLetGo place d was now
 same_goes place d d' was now is goes own =
     subst (λ (w : Doing). IsLetGo place w was now) is (goes (subst (λ (w : Doing). Owns (owner_at place) (share_in w) was.holds) (sym is) own))
+
+-- an answer that leaves the contents
+pub contents_left : {E : Type 0} (known : Option Contents) (parts : Option Parts) (r : Result Step E) → IfOk r (λ step. LeavesContents step.kind) → IfOk r (λ step. known ≡ contents_after known parts step.kind)
+contents_left known parts (Ok step) leaves = sym (leaves known parts)
+contents_left known parts (Err e) leaves = tt

@@ -2,6 +2,8 @@
 pub mod Replies
 pub mod Doings
 pub mod Agreeing
+pub mod AnswerCalls
+pub mod Calling
 pub mod Calm
 pub mod StateFacts
 pub mod Transfers
@@ -11,8 +13,11 @@ pub mod Leaving
 pub mod Phases
 pub mod ReplyLines
 pub mod Sending
+pub mod Making
 pub mod Moves
 pub mod Reading
+pub mod RowCalls
+pub mod Small
 pub mod Stepping
 pub mod Taking
 pub mod Telling

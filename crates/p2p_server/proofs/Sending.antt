@@ -12,7 +12,7 @@ use Rattle.p2p_server.specs.declared.more.More.TheVariants as more
 use Rattle.p2p_server.specs.declared.place.Place.{Place}
 use Rattle.p2p_server.specs.Giving.{reply_more}
 
-some_left : (left : ℕ) → 0 < left → (left == 0) ≡ false
+pub some_left : (left : ℕ) → 0 < left → (left == 0) ≡ false
 some_left left some = grind arith
 
 pub piece_is : (h : Here) (key : List ℕ) (at left n m : ℕ) (good : Bool) → 0 < left → min 32768 left ≡ n → m ≡ n → h.fails ≡ None → reaches (h.content key) (at + n) ≡ true

@@ -5,16 +5,17 @@ use Rattle.annex_base.specs.declared.kinds.Call.{Call}
 use Rattle.run_data.specs.declared.entry.By.{By}
 use Rattle.run_data.specs.declared.entry.By.TheVariants.{Peer}
 use Rattle.run_data.specs.declared.entry.EntryKind.{EntryKind}
-use Rattle.run_data.specs.declared.entry.EntryKind.TheVariants.{Fault}
+use Rattle.run_data.specs.declared.entry.EntryKind.TheVariants.{Fault, Gain, Gone}
 use Rattle.run_data.specs.declared.entry.FrameText.{FrameText}
 use Rattle.run_data.specs.declared.entry.FrameText.TheVariants.{Closing, Line}
 use Rattle.p2p_wire.specs.declared.message.Message.{Message}
 use Rattle.p2p_wire.specs.Messages.{text_of}
-use Rattle.object_store.specs.Stores.{Contents}
+use Rattle.object_store.specs.Stores.{Contents, Parts, contents_after_commit}
 use Rattle.node_model.specs.Rows.{content_after, present_after}
 use Rattle.node_model.specs.Ends.{server_end}
 use Rattle.node_model.specs.SessionStep.{Here, Reply}
 use Rattle.content_lock.specs.Rows.{Rows, bar_at, is_filling}
+use Rattle.content_lock.specs.Stored.{without_content}
 use Rattle.p2p_server.specs.declared.step.Step.{Step}
 use Rattle.p2p_server.specs.declared.place.Place.{Place}
 use Rattle.p2p_server.specs.declared.place.Scene.{Scene}
@@ -75,6 +76,16 @@ pub record Changes (known : Option Contents) (was : Contents) (kind : EntryKind)
   pub told : known ≡ Some contents
   pub present : (key : List ℕ) → is_in contents key ≡ present_after key (is_in was key) kind
   pub sizes : (key : List ℕ) → size_in contents key ≡ content_after key (size_in was key) kind
+
+-- the contents after an entry of this kind: those without one that is gone, or with one that its part became
+abbrev pub contents_after : Option Contents → Option Parts → EntryKind → Option Contents
+contents_after known parts (Gone by key) = without_content known key
+contents_after known parts (Gain by size key) = contents_after_commit known parts key
+contents_after known parts kind = known
+
+-- an entry of this kind leaves the contents
+abbrev pub LeavesContents : EntryKind → Type 0
+LeavesContents kind = (known : Option Contents) (parts : Option Parts) → contents_after known parts kind ≡ known
 
 -- a step over rows and contents: it answers so, and its entry changes the contents
 pub record Does (x : Scene) (rows : Rows) (contents : Contents) (known : Option Contents) (part : ℕ) (right : Bool) (asked : Here → Reply) (step : Step) : Type 0 where

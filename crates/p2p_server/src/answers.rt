@@ -1,18 +1,20 @@
 //! Answers by the row of a key: whether its content is there, a hold on it, and its removal.
-ghost use Rattle.std.specs.Prelude.{◌≡◌, ◌≤◌, ◌+◌, ◌/◌, ◌<◌, ◌^◌, ℕ, Bool, List, [], ◌∷◌, false, Some, None, All, IfOk, OnOk, OnErr, IfSome, IfNone, is_some};
+ghost use Rattle.std.specs.Prelude.{◌≡◌, ◌≤◌, ◌+◌, ◌/◌, ◌<◌, ◌^◌, ◌*◌, ℕ, Bool, List, [], ◌∷◌, false, Some, None, All, IfOk, OnOk, OnErr, IfSome, IfNone, is_some, nat_lt, if◌then◌else◌};
 ghost use Rattle.std.specs.declared.option.Option.{Option};
-ghost use Rattle.std.specs.Option.{ForSome};
+ghost use Rattle.std.specs.Option.{ForSome, option_map};
 ghost use Rattle.annex_base.specs.Causes.{Rose};
 ghost use Rattle.annex_base.specs.declared.kinds.Call.TheVariants as calls;
 ghost use Rattle.run_data.specs.declared.entry.By.{By};
 ghost use Rattle.node_model.specs.SessionStep.{tries, refuses, check_answer, is_here, bar_on, on_lock, on_remove, on_remove_before};
-ghost use Rattle.node_model.specs.Rows.{same_owner};
+ghost use Rattle.node_model.specs.Calls.{to_lock, to_remove};
+ghost use Rattle.node_model.specs.Rows.{is_blocked, same_owner};
 ghost use Rattle.node_model.specs.Sessions.{guards, Waits};
 ghost use Rattle.content_lock.specs.Rows.{AreAfter, bar_at};
 ghost use Rattle.content_lock.specs.Stored.{Agrees};
 ghost use Rattle.content_lock.specs.Tokens.{Owns, ShareView};
-ghost use Rattle.p2p_server.specs.Answers.{Does, failed_in, owner_of};
+ghost use Rattle.p2p_server.specs.Answers.{Does, contents_after, failed_in, is_in, owner_of};
 ghost use Rattle.p2p_server.specs.Bounds.{Fits};
+ghost use Rattle.content_lock.specs.CallsMade.{MakesCalls, fewer};
 ghost use Rattle.p2p_server.specs.Phases.{IsNoGain};
 ghost use Rattle.p2p_server.specs.Talking.{IsPlain};
 
@@ -92,6 +94,8 @@ pub(crate) fn check_present<K: Keeper>(
     ensures told { is_some (K.contents keeper.new) ≡ is_some (K.contents keeper.old) }
     ensures later { K.faults keeper.old ≤ K.faults keeper.new }
     ensures cause { IfSome (failed_in result.kind) (λ call. Rose (K.faults keeper.old) (K.faults keeper.new)) }
+    ensures calls { MakesCalls (calls.Has ∷ []) (failed_in result.kind) (K.failing keeper.old) (K.failing keeper.new) }
+    ensures contents { K.contents keeper.new ≡ contents_after (K.contents keeper.old) (K.parts keeper.old) result.kind }
 {
     match table.check(keeper, &key) {
         Ok(Look::Present) => granted(EntryKind::Check {
@@ -117,6 +121,9 @@ pub(crate) fn remove<K: Keeper>(scene: Scene, table: &LockTable, keeper: &mut K,
     ensures told { is_some (K.contents keeper.new) ≡ is_some (K.contents keeper.old) }
     ensures later { K.faults keeper.old ≤ K.faults keeper.new }
     ensures cause { IfSome (failed_in result.kind) (λ call. Rose (K.faults keeper.old) (K.faults keeper.new)) }
+    ensures calls { ForSome (K.contents keeper.old) (λ c. MakesCalls (to_remove (is_in c key) (bar_at table.now key) (is_blocked table.now.holds key scene.clock)) (failed_in result.kind) (K.failing keeper.old) (K.failing keeper.new)) }
+    ensures left { K.failing keeper.new ≡ option_map (fewer (failed_in result.kind)) (K.failing keeper.old) }
+    ensures contents { K.contents keeper.new ≡ contents_after (K.contents keeper.old) (K.parts keeper.old) result.kind }
 {
     match table.remove_now(keeper, &key, scene.clock) {
         Ok(Removed::Gone) => granted(EntryKind::Gone {
@@ -152,6 +159,9 @@ pub(crate) fn remove_before<K: Keeper>(
     ensures told { is_some (K.contents keeper.new) ≡ is_some (K.contents keeper.old) }
     ensures later { K.faults keeper.old ≤ K.faults keeper.new }
     ensures cause { IfSome (failed_in result.kind) (λ call. Rose (K.faults keeper.old) (K.faults keeper.new)) }
+    ensures calls { ForSome (K.contents keeper.old) (λ c. MakesCalls (if nat_lt scene.clock (1000 * before) then to_remove (is_in c key) (bar_at table.now key) (is_blocked table.now.holds key scene.clock) else []) (failed_in result.kind) (K.failing keeper.old) (K.failing keeper.new)) }
+    ensures left { K.failing keeper.new ≡ option_map (fewer (failed_in result.kind)) (K.failing keeper.old) }
+    ensures contents { K.contents keeper.new ≡ contents_after (K.contents keeper.old) (K.parts keeper.old) result.kind }
 {
     if scene.clock / 1000 < before {
         remove(scene, table, keeper, key)
@@ -190,6 +200,10 @@ pub(crate) fn lock<K: Keeper>(
     ensures agrees { Agrees (K.records keeper.new) table.new.holds }
     ensures later { K.faults keeper.old ≤ K.faults keeper.new }
     ensures cause { IfOk result (λ r. IfSome (failed_in r.0.kind) (λ call. Rose (K.faults keeper.old) (K.faults keeper.new))) }
+    ensures calls { IfOk result (λ r. ForSome (K.contents keeper.old) (λ c. MakesCalls (to_lock scene.place.locks (is_in c key) (bar_at table.old key)) (failed_in r.0.kind) (K.failing keeper.old) (K.failing keeper.new))) }
+    ensures left { IfOk result (λ r. K.failing keeper.new ≡ option_map (fewer (failed_in r.0.kind)) (K.failing keeper.old)) }
+    ensures err_failing { OnErr result (K.failing keeper.new ≡ K.failing keeper.old) }
+    ensures contents { IfOk result (λ r. K.contents keeper.new ≡ contents_after (K.contents keeper.old) (K.parts keeper.old) r.0.kind) }
 {
     if !scene.place.locks {
         return Ok((denied(Found::Nolock, key), None));

@@ -1,5 +1,5 @@
 //! The bytes of a content that is sent, piece by piece.
-ghost use Rattle.std.specs.Prelude.{◌≡◌, ◌≤◌, ◌-◌, if◌then◌else◌, IfOk, IfSome};
+ghost use Rattle.std.specs.Prelude.{◌≡◌, ◌≤◌, ◌-◌, if◌then◌else◌, IfOk, OnErr, IfSome};
 ghost use Rattle.std.specs.Option.{ForSome};
 ghost use Rattle.annex_base.specs.Causes.{Rose};
 ghost use Rattle.node_model.specs.Ends.{server_end};
@@ -7,7 +7,9 @@ ghost use Rattle.node_model.specs.Sessions as sessions;
 ghost use Rattle.node_model.specs.SessionStep.{Here, gives_next};
 ghost use Rattle.p2p_server.specs.Answers.{size_in};
 ghost use Rattle.p2p_server.specs.Bounds.{FitsMore};
+ghost use Rattle.content_lock.specs.CallsMade.{MakesCalls};
 ghost use Rattle.p2p_server.specs.Giving.{IsPiece, IsWithin, failed_more, reply_more};
+ghost use Rattle.p2p_server.specs.SessionCalls.{calls_next};
 
 use crate::doing::Giving;
 use crate::place::Place;
@@ -61,6 +63,8 @@ pub(crate) fn next_of<K: Keeper>(
     ensures files { K.files keeper.new ≡ K.files keeper.old }
     ensures later { K.faults keeper.old ≤ K.faults keeper.new }
     ensures cause { IfOk result (λ more. IfSome (failed_more more) (λ call. Rose (K.faults keeper.old) (K.faults keeper.new))) }
+    ensures calls { IfOk result (λ more. MakesCalls (calls_next (sessions.Gives giving.now.key giving.now.at (giving.now.end - giving.now.at) giving.now.good)) (failed_more more) (K.failing keeper.old) (K.failing keeper.new)) }
+    ensures err_failing { OnErr result (K.failing keeper.new ≡ K.failing keeper.old) }
 {
     let left = giving.end - giving.at;
     if left == 0 {

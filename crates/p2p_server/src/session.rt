@@ -1,12 +1,13 @@
 //! A session at a server's end of a connection.
 ghost use Rattle.std.specs.Prelude.{◌≡◌, ◌≤◌, ◌+◌, ◌<◌, ◌^◌, ℕ, Bool, List, length, All, min, codes, true, false, Some, None, IfOk, OnOk, OnErr, IfSome, is_some};
 ghost use Rattle.std.specs.declared.option.Option.{Option};
-ghost use Rattle.std.specs.Option.{ForSome};
+ghost use Rattle.std.specs.Option.{ForSome, option_map};
 ghost use Rattle.annex_base.specs.Causes.{Rose};
+ghost use Rattle.annex_base.specs.declared.kinds.Call.{Call};
 ghost use Rattle.run_data.specs.declared.entry.By.{By};
 ghost use Rattle.run_data.specs.declared.entry.FrameText.{FrameText};
 ghost use Rattle.run_data.specs.declared.entry.FrameView.{FrameView};
-ghost use Rattle.object_store.specs.Stores.{Contents, Parts};
+ghost use Rattle.object_store.specs.Stores.{AreSmallParts, Contents, Parts};
 ghost use Rattle.object_store.specs.declared.keeper.HoldRecord.{HoldRecord};
 ghost use Rattle.node_model.specs.Ends.{EndName, server_end};
 ghost use Rattle.node_model.specs.Look.{Look};
@@ -19,10 +20,12 @@ ghost use Rattle.node_model.specs.State.{State};
 ghost use Rattle.content_lock.specs.Rows.{Rows, bar_at, is_filling};
 ghost use Rattle.content_lock.specs.Stored.{Agrees};
 ghost use Rattle.content_lock.specs.Tokens.{Owns, ShareView, given_in};
-ghost use Rattle.p2p_server.specs.Answers.{failed_in, owner_at, reply_of, size_in};
+ghost use Rattle.p2p_server.specs.Answers.{LeavesContents, contents_after, failed_in, owner_at, reply_of, size_in};
 ghost use Rattle.p2p_server.specs.Bounds.{Fits, FitsMore, IsKind, IsReplyIf};
+ghost use Rattle.content_lock.specs.CallsMade.{MakesCalls, fewer};
 ghost use Rattle.p2p_server.specs.Giving.{IsPieceOf, failed_more, is_giving, reply_more, session_sent};
 ghost use Rattle.p2p_server.specs.Phases.{HasLeft, HasRoom, IsBare, IsGave, IsGuarding, IsLonger, IsMoving, IsTook, IsWanting, WithinOf};
+ghost use Rattle.p2p_server.specs.SessionCalls.{Makes, MakesStep, calls_frame, calls_next};
 ghost use Rattle.p2p_server.specs.States.{IsScene, Keeps, Stand, stand_after, stand_of};
 ghost use Rattle.p2p_server.specs.Stepping.{Goes, IsAt, IsLetGo, IsStep, IsUnexpected, guards_key, moment_of};
 ghost use Rattle.p2p_server.specs.Talking.{AreAfterStep, Brings, FillsSo, HasFill, HasFillOf, IsFed, IsFedOf, IsJudgedOf, SaysSo, SeesPartOf, SeesSize, doing_of, guarded_in, label_in, parts_after_of, place_of, session_of, share_in, share_of};
@@ -44,10 +47,10 @@ use std::mem;
 
 /// A session at a server's end of a connection (git-annex P2P protocol). That of a closed one is new.
 pub struct Session {
-    place: Place,
+    pub(crate) place: Place,
     // The version that was agreed on; 0 before.
-    spoken: u64,
-    doing: Doing,
+    pub(crate) spoken: u64,
+    pub(crate) doing: Doing,
 }
 
 impl Session {
@@ -84,7 +87,7 @@ impl Session {
     }
 
     /// Lets go of what it has: a hold that it guards is kept, and a part that it fills stays.
-    fn let_go(&mut self, table: &mut LockTable)
+    pub(crate) fn let_go(&mut self, table: &mut LockTable)
         requires owns { Owns (owner_at self.old.place) (share_in self.old.doing) table.old.holds }
         requires fills { HasFill table.old self.old.doing }
         ensures session { self.new ≡ record { place = self.old.place; spoken = self.old.spoken; doing = Doing.Waits } }
@@ -95,7 +98,7 @@ impl Session {
     }
 
     /// Makes it new.
-    fn reset(&mut self, table: &mut LockTable)
+    pub(crate) fn reset(&mut self, table: &mut LockTable)
         requires owns { Owns (owner_at self.old.place) (share_in self.old.doing) table.old.holds }
         requires fills { HasFill table.old self.old.doing }
         ensures session { self.new ≡ record { place = self.old.place; spoken = 0; doing = Doing.Waits } }
@@ -106,13 +109,15 @@ impl Session {
     }
 
     /// Closes the connection on what isn't expected.
-    fn refuse(&mut self, alloc: Global, table: &mut LockTable) -> Result<Step, NoMemory>
+    pub(crate) fn refuse(&mut self, alloc: Global, table: &mut LockTable) -> Result<Step, NoMemory>
         requires owns { Owns (owner_at self.old.place) (share_in self.old.doing) table.old.holds }
         requires fills { HasFill table.old self.old.doing }
-        ensures { (x : Scene) (i : Incoming) (contents : Option Contents) (parts : Option Parts) (records : Option (List HoldRecord)) (faults : ℕ) → x.place ≡ self.old.place → IsUnexpected i self.old → Agrees records table.old.holds
+        ensures goes { (x : Scene) (i : Incoming) (contents : Option Contents) (parts : Option Parts) (records : Option (List HoldRecord)) (faults : ℕ) → x.place ≡ self.old.place → IsUnexpected i self.old → Agrees records table.old.holds
             → Goes x i
             (moment_of self.old table.old contents parts records faults)
             (moment_of self.new table.new contents parts records faults) result }
+        ensures calls { (x : Scene) (i : Incoming) (contents : Option Contents) (parts : Option Parts) (failing : Option (Call → ℕ)) → IsUnexpected i self.old → Makes x i self.old table.old contents parts failing failing result }
+        ensures leaves { IfOk result (λ step. LeavesContents step.kind) }
     {
         let text = Text::new(alloc, b"unexpected")?;
         self.reset(table);
@@ -120,13 +125,15 @@ impl Session {
     }
 
     /// ERROR: closes the connection.
-    fn give_up(&mut self, table: &mut LockTable) -> Step
+    pub(crate) fn give_up(&mut self, table: &mut LockTable) -> Step
         requires owns { Owns (owner_at self.old.place) (share_in self.old.doing) table.old.holds }
         requires fills { HasFill table.old self.old.doing }
-        ensures { (x : Scene) (text : List ℕ) (contents : Option Contents) (parts : Option Parts) (records : Option (List HoldRecord)) (faults : ℕ) → x.place ≡ self.old.place → Agrees records table.old.holds
+        ensures goes { (x : Scene) (text : List ℕ) (contents : Option Contents) (parts : Option Parts) (records : Option (List HoldRecord)) (faults : ℕ) → x.place ≡ self.old.place → Agrees records table.old.holds
             → IsStep x (Incoming.Message (Message.Error text))
             (moment_of self.old table.old contents parts records faults)
             (moment_of self.new table.new contents parts records faults) result }
+        ensures calls { (x : Scene) (text : List ℕ) (contents : Option Contents) (parts : Option Parts) (failing : Option (Call → ℕ)) → MakesStep x (Incoming.Message (Message.Error text)) self.old table.old contents parts failing failing result }
+        ensures leaves { LeavesContents result.kind }
     {
         self.reset(table);
         Step::closes(self.place.close_kind(), None)
@@ -160,6 +167,8 @@ impl Session {
             (moment_of self.new table.new (K.contents keeper.new) (K.parts keeper.new) (K.records keeper.new) (K.faults keeper.new)) result }
         ensures files { K.files keeper.new ≡ K.files keeper.old }
         ensures told { is_some (K.contents keeper.new) ≡ is_some (K.contents keeper.old) }
+        ensures calls { Makes scene (Incoming.Message (Message.LockContent key.now)) self.old table.old (K.contents keeper.old) (K.parts keeper.old) (K.failing keeper.old) (K.failing keeper.new) result }
+        ensures contents { IfOk result (λ step. K.contents keeper.new ≡ contents_after (K.contents keeper.old) (K.parts keeper.old) step.kind) }
     {
         let key = key.copy()?;
         let (step, share) = answers::lock(scene, table, keeper, key)?;
@@ -169,67 +178,6 @@ impl Session {
                 begin(&mut self.doing, Doing::Guards { share });
                 Ok(step)
             }
-        }
-    }
-
-    /// GET: the content's bytes from a place on are sent next.
-    fn get<K: Keeper>(
-        &mut self,
-        table: &LockTable,
-        keeper: &mut K,
-        start: u64,
-        key: &Key,
-        scene: Scene,
-    ) -> Result<Step, NoMemory>
-        requires at { IsAt scene self.old table.now }
-        requires agrees { Agrees (K.records keeper.old) table.now.holds }
-        requires waits { self.old.doing ≡ Doing.Waits }
-        requires spoken { 1 ≤ self.old.spoken }
-        ensures goes { (file : List ℕ) → Goes scene (Incoming.Message (Message.Get start file key.now))
-            (moment_of self.old table.now (K.contents keeper.old) (K.parts keeper.old) (K.records keeper.old) (K.faults keeper.old))
-            (moment_of self.new table.now (K.contents keeper.new) (K.parts keeper.new) (K.records keeper.new) (K.faults keeper.new)) result }
-        ensures files { K.files keeper.new ≡ K.files keeper.old }
-        ensures told { is_some (K.contents keeper.new) ≡ is_some (K.contents keeper.old) }
-    {
-        let (step, giving) = transfer::get(scene, keeper, start, key)?;
-        match giving {
-            Some(giving) => {
-                begin(&mut self.doing, Doing::Gives(giving));
-                Ok(step)
-            }
-            None => {
-                self.spoken = 0;
-                Ok(step)
-            }
-        }
-    }
-
-    /// PUT: the part's bytes are asked for.
-    fn put<K: Keeper>(
-        &mut self,
-        alloc: Global,
-        table: &mut LockTable,
-        keeper: &mut K,
-        key: &Key,
-        scene: Scene,
-    ) -> Result<Step, NoMemory>
-        requires at { IsAt scene self.old table.old }
-        requires agrees { Agrees (K.records keeper.old) table.old.holds }
-        requires waits { self.old.doing ≡ Doing.Waits }
-        requires spoken { 1 ≤ self.old.spoken }
-        ensures goes { (file : List ℕ) → Goes scene (Incoming.Message (Message.Put file key.now))
-            (moment_of self.old table.old (K.contents keeper.old) (K.parts keeper.old) (K.records keeper.old) (K.faults keeper.old))
-            (moment_of self.new table.new (K.contents keeper.new) (K.parts keeper.new) (K.records keeper.new) (K.faults keeper.new)) result }
-        ensures files { K.files keeper.new ≡ K.files keeper.old }
-        ensures told { is_some (K.contents keeper.new) ≡ is_some (K.contents keeper.old) }
-    {
-        let (step, wanting) = transfer::put(scene, alloc, table, keeper, key)?;
-        match wanting {
-            Some(wanting) => {
-                begin(&mut self.doing, Doing::Wants(wanting));
-                Ok(step)
-            }
-            None => Ok(step),
         }
     }
 
@@ -252,6 +200,8 @@ impl Session {
             (moment_of self.new table.new (K.contents keeper.new) (K.parts keeper.new) (K.records keeper.new) (K.faults keeper.new)) result }
         ensures files { K.files keeper.new ≡ K.files keeper.old }
         ensures told { is_some (K.contents keeper.new) ≡ is_some (K.contents keeper.old) }
+        ensures calls { Makes scene (Incoming.Message message.now) self.old table.old (K.contents keeper.old) (K.parts keeper.old) (K.failing keeper.old) (K.failing keeper.new) result }
+        ensures contents { IfOk result (λ step. K.contents keeper.new ≡ contents_after (K.contents keeper.old) (K.parts keeper.old) step.kind) }
     {
         match message {
             Message::Error(_) => Ok(self.give_up(table)),
@@ -315,6 +265,8 @@ impl Session {
             (moment_of self.new table.new (K.contents keeper.new) (K.parts keeper.new) (K.records keeper.new) (K.faults keeper.new)) result }
         ensures files { K.files keeper.new ≡ K.files keeper.old }
         ensures told { is_some (K.contents keeper.new) ≡ is_some (K.contents keeper.old) }
+        ensures calls { Makes scene (Incoming.Message message.now) self.old table.old (K.contents keeper.old) (K.parts keeper.old) (K.failing keeper.old) (K.failing keeper.new) result }
+        ensures contents { IfOk result (λ step. K.contents keeper.new ≡ contents_after (K.contents keeper.old) (K.parts keeper.old) step.kind) }
     {
         match message {
             Message::Error(_) => Ok(self.give_up(table)),
@@ -345,6 +297,9 @@ impl Session {
             (moment_of self.new table.new (K.contents keeper.new) (K.parts keeper.new) (K.records keeper.new) (K.faults keeper.new)) result }
         ensures files { K.files keeper.new ≡ K.files keeper.old }
         ensures told { is_some (K.contents keeper.new) ≡ is_some (K.contents keeper.old) }
+        ensures calls { MakesStep scene (Incoming.Message (Message.UnlockContent key)) self.old table.old (K.contents keeper.old) (K.parts keeper.old) (K.failing keeper.old) (K.failing keeper.new) result }
+        ensures leaves { LeavesContents result.kind }
+        ensures contents { K.contents keeper.new ≡ K.contents keeper.old }
     {
         let share = unguard(&mut self.doing);
         let hold = share.number();
@@ -370,9 +325,11 @@ impl Session {
     ) -> Result<Step, NoMemory>
         requires at { IsAt scene self.old table.old }
         requires phase { IsMoving self.old.doing }
-        ensures { (contents : Option Contents) (parts : Option Parts) (records : Option (List HoldRecord)) (faults : ℕ) → Agrees records table.old.holds → Goes scene (Incoming.Message message.now)
+        ensures goes { (contents : Option Contents) (parts : Option Parts) (records : Option (List HoldRecord)) (faults : ℕ) → Agrees records table.old.holds → Goes scene (Incoming.Message message.now)
             (moment_of self.old table.old contents parts records faults)
             (moment_of self.new table.new contents parts records faults) result }
+        ensures calls { (contents : Option Contents) (parts : Option Parts) (failing : Option (Call → ℕ)) → Makes scene (Incoming.Message message.now) self.old table.old contents parts failing failing result }
+        ensures leaves { IfOk result (λ step. LeavesContents step.kind) }
     {
         match message {
             Message::Error(_) => Ok(self.give_up(table)),
@@ -390,9 +347,11 @@ impl Session {
     ) -> Result<Step, NoMemory>
         requires at { IsAt scene self.old table.old }
         requires phase { IsGave self.old.doing }
-        ensures { (contents : Option Contents) (parts : Option Parts) (records : Option (List HoldRecord)) (faults : ℕ) → Agrees records table.old.holds → Goes scene (Incoming.Message message.now)
+        ensures goes { (contents : Option Contents) (parts : Option Parts) (records : Option (List HoldRecord)) (faults : ℕ) → Agrees records table.old.holds → Goes scene (Incoming.Message message.now)
             (moment_of self.old table.old contents parts records faults)
             (moment_of self.new table.new contents parts records faults) result }
+        ensures calls { (contents : Option Contents) (parts : Option Parts) (failing : Option (Call → ℕ)) → Makes scene (Incoming.Message message.now) self.old table.old contents parts failing failing result }
+        ensures leaves { IfOk result (λ step. LeavesContents step.kind) }
     {
         match message {
             Message::Error(_) => Ok(self.give_up(table)),
@@ -402,120 +361,6 @@ impl Session {
             }
             _ => self.refuse(alloc, table),
         }
-    }
-
-    /// The answer to a message, of a session that asked for bytes: how many come.
-    fn announced(
-        &mut self,
-        alloc: Global,
-        table: &mut LockTable,
-        message: &Message,
-        scene: Scene,
-    ) -> Result<Step, NoMemory>
-        requires at { IsAt scene self.old table.old }
-        requires phase { IsWanting self.old.doing }
-        ensures { (contents : Option Contents) (parts : Option Parts) (records : Option (List HoldRecord)) (faults : ℕ) → Agrees records table.old.holds → Goes scene (Incoming.Message message.now)
-            (moment_of self.old table.old contents parts records faults)
-            (moment_of self.new table.new contents parts records faults) result }
-    {
-        match message {
-            Message::Error(_) => Ok(self.give_up(table)),
-            Message::Data(count) => {
-                expect(&mut self.doing, *count);
-                Ok(Step::silent(EntryKind::Talk { job: None }))
-            }
-            _ => self.refuse(alloc, table),
-        }
-    }
-
-    /// A piece of a part.
-    fn piece<K: Keeper>(
-        &mut self,
-        alloc: Global,
-        table: &mut LockTable,
-        keeper: &mut K,
-        bytes: &Vec<u8>,
-        scene: Scene,
-    ) -> Result<Step, NoMemory>
-        requires at { IsAt scene self.old table.old }
-        requires agrees { Agrees (K.records keeper.old) table.old.holds }
-        ensures goes { Goes scene (Incoming.Bytes bytes.now)
-            (moment_of self.old table.old (K.contents keeper.old) (K.parts keeper.old) (K.records keeper.old) (K.faults keeper.old))
-            (moment_of self.new table.new (K.contents keeper.new) (K.parts keeper.new) (K.records keeper.new) (K.faults keeper.new)) result }
-        ensures files { K.files keeper.new ≡ K.files keeper.old }
-        ensures told { is_some (K.contents keeper.new) ≡ is_some (K.contents keeper.old) }
-    {
-        let Doing::Takes(taking) = &self.doing else {
-            return self.refuse(alloc, table);
-        };
-        let count = bytes.len() as u64;
-        if !taking.awaits(count) {
-            return self.refuse(alloc, table);
-        }
-        match keeper.append_part(taking.fill.key(), bytes) {
-            Ok(()) => {
-                append(&mut self.doing, bytes);
-                Ok(Step::silent(EntryKind::Talk { job: None }))
-            }
-            Err(KeeperFault::Failed) => {
-                self.reset(table);
-                Ok(transfer::lost(scene, Call::Append))
-            }
-            Err(KeeperFault::NoMemory) => Err(NoMemory),
-        }
-    }
-
-    /// The answer to a message, of a session that has all bytes of a part: whether they are good.
-    fn received<K: Keeper>(
-        &mut self,
-        alloc: Global,
-        table: &mut LockTable,
-        keeper: &mut K,
-        message: &Message,
-        scene: Scene,
-    ) -> Result<Step, NoMemory>
-        requires at { IsAt scene self.old table.old }
-        requires agrees { Agrees (K.records keeper.old) table.old.holds }
-        requires phase { IsTook self.old.doing }
-        ensures goes { Goes scene (Incoming.Message message.now)
-            (moment_of self.old table.old (K.contents keeper.old) (K.parts keeper.old) (K.records keeper.old) (K.faults keeper.old))
-            (moment_of self.new table.new (K.contents keeper.new) (K.parts keeper.new) (K.records keeper.new) (K.faults keeper.new)) result }
-        ensures files { K.files keeper.new ≡ K.files keeper.old }
-        ensures told { is_some (K.parts keeper.old) ≡ true → is_some (K.contents keeper.new) ≡ is_some (K.contents keeper.old) }
-    {
-        match message {
-            Message::Error(_) => Ok(self.give_up(table)),
-            Message::Valid => self.verify(alloc, table, keeper, scene),
-            Message::Invalid => {
-                self.let_go(table);
-                Ok(Step::says(EntryKind::Talk { job: None }, Message::Failure))
-            }
-            _ => self.refuse(alloc, table),
-        }
-    }
-
-    /// VALID.
-    fn verify<K: Keeper>(
-        &mut self,
-        alloc: Global,
-        table: &mut LockTable,
-        keeper: &mut K,
-        scene: Scene,
-    ) -> Result<Step, NoMemory>
-        requires at { IsAt scene self.old table.old }
-        requires agrees { Agrees (K.records keeper.old) table.old.holds }
-        ensures goes { Goes scene (Incoming.Message Message.Valid)
-            (moment_of self.old table.old (K.contents keeper.old) (K.parts keeper.old) (K.records keeper.old) (K.faults keeper.old))
-            (moment_of self.new table.new (K.contents keeper.new) (K.parts keeper.new) (K.records keeper.new) (K.faults keeper.new)) result }
-        ensures files { K.files keeper.new ≡ K.files keeper.old }
-        ensures told { is_some (K.parts keeper.old) ≡ true → is_some (K.contents keeper.new) ≡ is_some (K.contents keeper.old) }
-    {
-        let Doing::Took(taken) = &self.doing else {
-            return self.refuse(alloc, table);
-        };
-        let step = transfer::verify(scene, alloc, keeper, taken)?;
-        self.let_go(table);
-        Ok(step)
     }
 
     /// The answer to what is heard.
@@ -536,6 +381,9 @@ impl Session {
             (moment_of self.new table.new (K.contents keeper.new) (K.parts keeper.new) (K.records keeper.new) (K.faults keeper.new)) result }
         ensures files { K.files keeper.new ≡ K.files keeper.old }
         ensures told { is_some (K.parts keeper.old) ≡ true → is_some (K.contents keeper.new) ≡ is_some (K.contents keeper.old) }
+        ensures calls { Makes scene incoming.now self.old table.old (K.contents keeper.old) (K.parts keeper.old) (K.failing keeper.old) (K.failing keeper.new) result }
+        ensures small { AreSmallParts (K.parts keeper.old) → AreSmallParts (K.parts keeper.new) }
+        ensures contents { IfOk result (λ step. K.contents keeper.new ≡ contents_after (K.contents keeper.old) (K.parts keeper.old) step.kind) }
     {
         match incoming {
             Incoming::Opening => Ok(answers::welcome(scene.place.id)),
@@ -583,6 +431,13 @@ impl Session {
             → st.sessions a ≡ session_of self.old → Brings body incoming.now
             → SeesPartOf (K.parts keeper.old) self.old incoming.now k.part k.right → k.fails ≡ failed_in step.kind
             → reply_of step ≡ on_frame (here s st k a) (st.sessions a) body) }
+        ensures calls { IfOk result (λ step. (s : SetUp) (st : State) (k : Look) (a : EndName) (body : FrameText)
+            → IsScene (record { place = place_of self.old; clock = now; number = number }) s st k a
+            → Keeps table.old (K.contents keeper.old) (stand_of st) → ((key : List ℕ) → is_filled s st key ≡ is_filling table.old key)
+            → st.sessions a ≡ session_of self.old → Brings body incoming.now
+            → SeesPartOf (K.parts keeper.old) self.old incoming.now k.part k.right → k.fails ≡ failed_in step.kind
+            → MakesCalls (calls_frame (here s st k a) (st.sessions a) body) k.fails (K.failing keeper.old) (K.failing keeper.new)) }
+        ensures left { IfOk result (λ step. K.failing keeper.new ≡ option_map (fewer (failed_in step.kind)) (K.failing keeper.old)) }
         ensures rows { IfOk result (λ step. (stand : Stand) (part : ℕ) (right : Bool) → Keeps table.old (K.contents keeper.old) stand
             → SeesPartOf (K.parts keeper.old) self.old incoming.now part right → Keeps table.new (K.contents keeper.new) (stand_after step.kind stand)) }
 
@@ -602,6 +457,7 @@ impl Session {
         // The part that it takes grows by what comes, and is spent at the verdict; what it has summed stays the store's part. A
         // content comes only of a part whose sum is its key's, also where the store doesn't tell its parts.
         ensures parts { IfOk result (λ step. K.parts keeper.new ≡ parts_after_of self.old incoming.now step.kind (K.parts keeper.old)) }
+        ensures small { AreSmallParts (K.parts keeper.old) → AreSmallParts (K.parts keeper.new) }
         ensures fed { OnOk result (ForSome (K.parts keeper.old) (λ p. IsFedOf p self.old → ForSome (K.parts keeper.new) (λ p'. IsFedOf p' self.new))) }
         ensures judged { IfOk result (λ step. IsJudgedOf self.old step.kind) }
         ensures filled { OnOk result (FillsSo (session_of self.old).doing (session_of self.new).doing (is_filling table.old) (is_filling table.new)) }
@@ -617,10 +473,12 @@ impl Session {
         ensures err_contents { OnErr result (K.contents keeper.new ≡ K.contents keeper.old) }
         ensures err_parts { OnErr result (K.parts keeper.new ≡ K.parts keeper.old) }
         ensures err_records { OnErr result (K.records keeper.new ≡ K.records keeper.old) }
+        ensures err_failing { OnErr result (K.failing keeper.new ≡ K.failing keeper.old) }
 
         // The files stay. A store that tells its contents still does; of a commit it must tell the part, too.
         ensures files { K.files keeper.new ≡ K.files keeper.old }
         ensures told { is_some (K.parts keeper.old) ≡ true → is_some (K.contents keeper.new) ≡ is_some (K.contents keeper.old) }
+        ensures contents { IfOk result (λ step. K.contents keeper.new ≡ contents_after (K.contents keeper.old) (K.parts keeper.old) step.kind) }
     {
         let scene = Scene {
             place: self.place,
@@ -653,6 +511,8 @@ impl Session {
         ensures told { is_some (K.contents keeper.new) ≡ is_some (K.contents keeper.old) }
         ensures later { K.faults keeper.old ≤ K.faults keeper.new }
         ensures cause { IfOk result (λ more. IfSome (failed_more more) (λ call. Rose (K.faults keeper.old) (K.faults keeper.new))) }
+        ensures calls { IfOk result (λ more. MakesCalls (calls_next (session_of self.old).doing) (failed_more more) (K.failing keeper.old) (K.failing keeper.new)) }
+        ensures err_failing { OnErr result (K.failing keeper.new ≡ K.failing keeper.old) }
     {
         let Doing::Gives(giving) = &self.doing else {
             return Ok(More::Nothing);
@@ -720,7 +580,7 @@ impl Session {
 }
 
 /// A session without a token does this from now on.
-fn begin(doing: &mut Doing, next: Doing)
+pub(crate) fn begin(doing: &mut Doing, next: Doing)
     requires { IsBare doing.old }
     ensures { doing.new ≡ next }
 {
@@ -761,34 +621,6 @@ fn spend(doing: Doing, table: &mut LockTable)
                 sum: _,
             },
         ) => table.unfill(fill),
-    }
-}
-
-/// So many bytes are to come.
-fn expect(doing: &mut Doing, count: u64)
-    requires phase { IsWanting doing.old }
-    ensures doing { doing_of doing.new ≡ takes_from count (doing_of doing.old) }
-    ensures share { share_in doing.new ≡ share_in doing.old }
-    ensures fills { (rows : Rows) → HasFill rows doing.old → HasFill rows doing.new }
-    ensures fed { (p : Parts) → IsFed p doing.old → IsFed p doing.new }
-{
-    match mem::replace(doing, Doing::Waits) {
-        Doing::Wants(wanting) => begin(doing, wanting.announced(count)),
-        _ => unreachable!(),
-    }
-}
-
-/// The piece was put to the part.
-fn append(doing: &mut Doing, piece: &[u8])
-    requires room { HasRoom doing.old (length piece.now) }
-    ensures doing { doing_of doing.new ≡ took_bytes (length piece.now) (doing_of doing.old) }
-    ensures share { share_in doing.new ≡ share_in doing.old }
-    ensures fills { (rows : Rows) → HasFill rows doing.old → HasFill rows doing.new }
-    ensures fed { (p p' : Parts) → IsFed p doing.old → IsLonger doing.old p p' piece.now → IsFed p' doing.new }
-{
-    match mem::replace(doing, Doing::Waits) {
-        Doing::Takes(taking) => begin(doing, taking.appended(piece)),
-        _ => unreachable!(),
     }
 }
 

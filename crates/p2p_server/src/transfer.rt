@@ -1,18 +1,21 @@
 //! The transfers of contents: what is offered, what is asked for, and the verdict on what came.
-ghost use Rattle.std.specs.Prelude.{◌≡◌, ◌≤◌, ◌<◌, ◌^◌, ◌+◌, ◌-◌, ◌++◌, ℕ, Bool, List, length, [], ◌∷◌, false, true, Some, None, IfOk, OnOk, OnErr, IfSome, IfNone, IsErrOf, is_some};
-ghost use Rattle.std.specs.Option.{ForSome};
+ghost use Rattle.std.specs.Prelude.{◌≡◌, ◌≤◌, ◌<◌, ◌^◌, ◌+◌, ◌-◌, ◌++◌, ℕ, Bool, List, length, [], ◌∷◌, false, true, Some, None, IfOk, OnOk, OnErr, IfSome, IfNone, IsErrOf, is_some, nat_lt};
+ghost use Rattle.std.specs.Option.{ForSome, option_map};
 ghost use Rattle.std.specs.declared.option.Option.{Option};
 ghost use Rattle.annex_base.specs.Causes.{Rose};
 ghost use Rattle.annex_base.specs.declared.kinds.Call.TheVariants as calls;
 ghost use Rattle.run_data.specs.declared.entry.FrameText.TheVariants.{Closing};
+ghost use Rattle.object_store.specs.Calls.{FailsAsTold};
 ghost use Rattle.object_store.specs.Stores.{Contents, Parts};
 ghost use Rattle.key_verify.specs.Sums.{HasTaken, bytes_taken};
+ghost use Rattle.node_model.specs.Calls.{to_commit, to_offer, to_read, to_resume};
 ghost use Rattle.node_model.specs.Ends.{server_end};
 ghost use Rattle.node_model.specs.Sessions.{Gives, Waits, gives, reaches, takes_more, version_told, wants};
 ghost use Rattle.node_model.specs.SessionStep.{Here, bytes_left, content_of, on_put, on_valid, reply, tries};
 ghost use Rattle.content_lock.specs.Rows.{Rows, bar_at, is_filling};
-ghost use Rattle.p2p_server.specs.Answers.{Changes, Does, failed_in, owner_of, reply_of, size_in};
+ghost use Rattle.p2p_server.specs.Answers.{Changes, Does, LeavesContents, contents_after, failed_in, is_in, owner_of, reply_of, size_in};
 ghost use Rattle.p2p_server.specs.Bounds.{Fits};
+ghost use Rattle.content_lock.specs.CallsMade.{MakesCalls, fewer};
 ghost use Rattle.p2p_server.specs.Phases.{IsJudged, IsNoGain, wanted_in};
 ghost use Rattle.p2p_server.specs.Talking.{AreAfterStep, FillsSo, HasFill, IsFed, IsFedBy, IsPlain, SeesTaken, Tells, doing_of, parts_after_valid};
 
@@ -78,6 +81,9 @@ pub(crate) fn get<K: Keeper>(
     ensures files { K.files keeper.new ≡ K.files keeper.old }
     ensures later { K.faults keeper.old ≤ K.faults keeper.new }
     ensures cause { IfOk result (λ r. IfSome (failed_in r.0.kind) (λ call. Rose (K.faults keeper.old) (K.faults keeper.new))) }
+    ensures calls { IfOk result (λ r. MakesCalls (calls.Size ∷ []) (failed_in r.0.kind) (K.failing keeper.old) (K.failing keeper.new)) }
+    ensures err_failing { OnErr result (K.failing keeper.new ≡ K.failing keeper.old) }
+    ensures leaves { IfOk result (λ r. LeavesContents r.0.kind) }
 {
     let key = key.copy()?;
     match keeper.size(&key) {
@@ -133,6 +139,10 @@ pub(crate) fn put<K: Keeper>(
     ensures files { K.files keeper.new ≡ K.files keeper.old }
     ensures later { K.faults keeper.old ≤ K.faults keeper.new }
     ensures cause { IfOk result (λ r. IfSome (failed_in r.0.kind) (λ call. Rose (K.faults keeper.old) (K.faults keeper.new))) }
+    ensures calls { IfOk result (λ r. ForSome (K.contents keeper.old) (λ c. (part : ℕ) → Tells (K.parts keeper.old) (λ p. part ≡ length (p key.now)) → MakesCalls (to_offer part (is_in c key.now) (is_filling table.old key.now)) (failed_in r.0.kind) (K.failing keeper.old) (K.failing keeper.new))) }
+    ensures left { IfOk result (λ r. K.failing keeper.new ≡ option_map (fewer (failed_in r.0.kind)) (K.failing keeper.old)) }
+    ensures err_failing { OnErr result (K.failing keeper.new ≡ K.failing keeper.old) }
+    ensures leaves { IfOk result (λ r. LeavesContents r.0.kind) }
 {
     match keeper.has(key) {
         Ok(true) => Ok((
@@ -181,6 +191,10 @@ fn ask<K: Keeper>(
     ensures files { K.files keeper.new ≡ K.files keeper.old }
     ensures later { K.faults keeper.old ≤ K.faults keeper.new }
     ensures cause { IfOk result (λ r. IfSome (failed_in r.0.kind) (λ call. Rose (K.faults keeper.old) (K.faults keeper.new))) }
+    ensures calls { IfOk result (λ r. (part : ℕ) → Tells (K.parts keeper.old) (λ p. part ≡ length (p key.now)) → MakesCalls (to_resume part) (failed_in r.0.kind) (K.failing keeper.old) (K.failing keeper.new)) }
+    ensures left { IfOk result (λ r. K.failing keeper.new ≡ option_map (fewer (failed_in r.0.kind)) (K.failing keeper.old)) }
+    ensures err_failing { OnErr result (K.failing keeper.new ≡ K.failing keeper.old) }
+    ensures leaves { IfOk result (λ r. LeavesContents r.0.kind) }
 {
     let size = match keeper.part_size(key) {
         Ok(size) => size,
@@ -226,6 +240,9 @@ fn resume<K: Keeper>(
     ensures later { K.faults keeper.old ≤ K.faults keeper.new }
     ensures some { IsErrOf result KeeperFault.Failed → 0 < size }
     ensures cause { IsErrOf result KeeperFault.Failed → Rose (K.faults keeper.old) (K.faults keeper.new) }
+    ensures calls { OnOk result (MakesCalls (to_read (nat_lt 0 size)) None (K.failing keeper.old) (K.failing keeper.new)) }
+    ensures failed { IsErrOf result KeeperFault.Failed → FailsAsTold calls.ReadPart (K.failing keeper.old) (K.failing keeper.new) true }
+    ensures memory { IsErrOf result KeeperFault.NoMemory → K.failing keeper.new ≡ K.failing keeper.old }
 {
     if size == 0 {
         return Ok(Some(Digester::new(key)));
@@ -256,6 +273,9 @@ fn read_on<K: Keeper>(
     ensures files { K.files keeper.new ≡ K.files keeper.old }
     ensures later { K.faults keeper.old ≤ K.faults keeper.new }
     ensures cause { IsErrOf result KeeperFault.Failed → Rose (K.faults keeper.old) (K.faults keeper.new) }
+    ensures calls { OnOk result (FailsAsTold calls.ReadPart (K.failing keeper.old) (K.failing keeper.new) false) }
+    ensures failed { IsErrOf result KeeperFault.Failed → FailsAsTold calls.ReadPart (K.failing keeper.old) (K.failing keeper.new) true }
+    ensures memory { IsErrOf result KeeperFault.NoMemory → K.failing keeper.new ≡ K.failing keeper.old }
 {
     let mut digester = Digester::new(key);
     let mut at = 0;
@@ -379,6 +399,10 @@ pub(crate) fn verify<K: Keeper>(
     ensures told { is_some (K.parts keeper.old) ≡ true → is_some (K.contents keeper.new) ≡ is_some (K.contents keeper.old) }
     ensures later { K.faults keeper.old ≤ K.faults keeper.new }
     ensures cause { IfOk result (λ step. IfSome (failed_in step.kind) (λ call. Rose (K.faults keeper.old) (K.faults keeper.new))) }
+    ensures calls { IfOk result (λ step. (right : Bool) → SeesTaken (K.parts keeper.old) taken.now right → MakesCalls (to_commit right) (failed_in step.kind) (K.failing keeper.old) (K.failing keeper.new)) }
+    ensures left { IfOk result (λ step. K.failing keeper.new ≡ option_map (fewer (failed_in step.kind)) (K.failing keeper.old)) }
+    ensures err_failing { OnErr result (K.failing keeper.new ≡ K.failing keeper.old) }
+    ensures contents { IfOk result (λ step. K.contents keeper.new ≡ contents_after (K.contents keeper.old) (K.parts keeper.old) step.kind) }
 {
     let key = taken.fill.key().copy()?;
     match &taken.sum {
@@ -405,6 +429,9 @@ fn commit<K: Keeper>(scene: Scene, keeper: &mut K, key: Key, size: u64) -> Resul
     ensures told { is_some (K.parts keeper.old) ≡ true → is_some (K.contents keeper.new) ≡ is_some (K.contents keeper.old) }
     ensures later { K.faults keeper.old ≤ K.faults keeper.new }
     ensures cause { IfOk result (λ step. IfSome (failed_in step.kind) (λ call. Rose (K.faults keeper.old) (K.faults keeper.new))) }
+    ensures calls { IfOk result (λ step. MakesCalls (calls.Commit ∷ []) (failed_in step.kind) (K.failing keeper.old) (K.failing keeper.new)) }
+    ensures err_failing { OnErr result (K.failing keeper.new ≡ K.failing keeper.old) }
+    ensures contents { IfOk result (λ step. K.contents keeper.new ≡ contents_after (K.contents keeper.old) (K.parts keeper.old) step.kind) }
 {
     match keeper.commit(&key) {
         Ok(()) => Ok(Step::says(
@@ -433,6 +460,8 @@ fn discard<K: Keeper>(scene: Scene, keeper: &mut K, key: &Key) -> Step
     ensures files { K.files keeper.new ≡ K.files keeper.old }
     ensures later { K.faults keeper.old ≤ K.faults keeper.new }
     ensures cause { IfSome (failed_in result.kind) (λ call. Rose (K.faults keeper.old) (K.faults keeper.new)) }
+    ensures calls { MakesCalls (calls.DropPart ∷ []) (failed_in result.kind) (K.failing keeper.old) (K.failing keeper.new) }
+    ensures leaves { LeavesContents result.kind }
 {
     match keeper.drop_part(key) {
         Ok(()) => Step::says(EntryKind::Talk { job: None }, Message::Failure),

@@ -39,6 +39,9 @@ pub record AnswerOf (past : List Entry) (a : ℕ) (f : FrameView) (it : Flying) 
   pub asked : Message
   pub asked_is : said_of request ≡ Says asked
   pub answering : Answering asked it.entry.kind k
+  pub g : FrameView
+  pub taken_is : it.entry.taken ≡ Some g
+  pub body_is : request.frame.body ≡ g.body
 
 module _ (reads_back : SentAreRead) (run : Run) (repos : Each IsSetUp run.repos) where
   -- of an answer that is neither to an opening nor to GET
@@ -70,6 +73,9 @@ module _ (reads_back : SentAreRead) (run : Run) (repos : Each IsSetUp run.repos)
         asked = turn.asked;
         asked_is = message_at asked.it.frame.body turn.f.body (Says turn.asked) asked.body_is turn.asked_is;
         answering = turn.answering;
+        g = turn.f;
+        taken_is = turn.takes_it;
+        body_is = asked.body_is;
       }
 
 -- ---- FAILURE

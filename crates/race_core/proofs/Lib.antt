@@ -201,3 +201,6 @@ pub mod OneDrop
 pub mod NeedsRead
 pub mod RunStarts
 pub mod FirstSteps
+pub mod Unheard
+pub mod WordsAsked
+pub mod Others

@@ -51,7 +51,7 @@ pub record Longer (r : ℕ) (w x : Work) : Type 0 where
   pub from : (whom ≡ r) ⊎ (partner w.what.peer w.phase ≡ Some whom)
   pub lock : is_held (Some told) ≡ true → (whom ≡ r) ⊎ ((since : ℕ) × (w.phase ≡ AsksLock whom since))
 
-lock_drops : (part : Part) (phase : Phase) (p since : ℕ) → Fits part phase → phase ≡ AsksLock p since → part ≡ Drops
+pub lock_drops : (part : Part) (phase : Phase) (p since : ℕ) → Fits part phase → phase ≡ AsksLock p since → part ≡ Drops
 lock_drops part phase p since fits is = go part (subst (Fits part) is fits)
   where
     go : (part : Part) → Fits part (AsksLock p since) → part ≡ Drops
@@ -59,7 +59,7 @@ lock_drops part phase p since fits is = go part (subst (Fits part) is fits)
     go Gets f = absurd f
     go Puts f = absurd f
 
-look_drops : (part : Part) (phase : Phase) (p : ℕ) → Fits part phase → phase ≡ AsksLook p → part ≡ Drops
+pub look_drops : (part : Part) (phase : Phase) (p : ℕ) → Fits part phase → phase ≡ AsksLook p → part ≡ Drops
 look_drops part phase p fits is = go part (subst (Fits part) is fits)
   where
     go : (part : Part) → Fits part (AsksLook p) → part ≡ Drops
@@ -131,7 +131,7 @@ was_part Drops old Puts phase g is = absurd g
 was_part Gets old to phase g is = absurd (cc)
 was_part Puts old to phase g is = absurd (cc)
 
-fits_to : (part : Part) (old : Phase) (to : Part) (phase : Phase) → GoodTo part old to phase → Fits to phase
+pub fits_to : (part : Part) (old : Phase) (to : Part) (phase : Phase) → GoodTo part old to phase → Fits to phase
 fits_to Gets old Gets phase g = g.0
 fits_to Gets old Puts phase g = absurd g
 fits_to Gets old Drops phase g = subst (Fits Drops) (sym g) tt
@@ -143,7 +143,7 @@ fits_to Drops old Puts phase g = absurd g
 fits_to Drops old Drops phase g = g.0
 
 -- a drop that goes on was one
-drop_before : (part : Part) (old : Phase) (to : Part) (phase : Phase) → GoodTo part old to phase → to ≡ Drops → is_on_one phase ≡ true → part ≡ Drops
+pub drop_before : (part : Part) (old : Phase) (to : Part) (phase : Phase) → GoodTo part old to phase → to ≡ Drops → is_on_one phase ≡ true → part ≡ Drops
 drop_before Drops old to phase g is on = refl
 drop_before Gets old Drops phase g is on = absurd (let no' : is_on_one Jobs.Fresh ≡ true = subst (λ q. is_on_one q ≡ true) g on in cc)
 drop_before Puts old Drops phase g is on = absurd (let no' : is_on_one Jobs.Fresh ≡ true = subst (λ q. is_on_one q ≡ true) g on in cc)

@@ -5,3 +5,4 @@ pub mod Readings
 pub mod Removals
 pub mod Items
 pub mod Merged
+pub mod Jobs

@@ -7,6 +7,7 @@ mod drops;
 mod entries;
 mod evidence;
 mod growth;
+mod jobs;
 mod laws;
 mod steps;
 
@@ -23,6 +24,7 @@ pub use evidence::{
     removals_leave_as_many,
 };
 pub use growth::{histories_of_nodes_are_runs, merged_histories_are_runs, runs_grow};
+pub use jobs::{frames_go_to_others, jobs_hear_nobody_twice, kept_words_were_asked};
 pub use laws::{
     drops_leave_their_evidence, drops_read_their_need, ignored_never_count, kept_lines_read_as_all,
     lawful_runs_are_safe, never_fewer_than_mincopies, refusals_have_causes, runs_are_lawful,

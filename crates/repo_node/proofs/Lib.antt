@@ -16,3 +16,7 @@ pub mod TurnLemmas
 pub mod BeginLemmas
 pub mod NoteLemmas
 pub mod PayLemmas
+pub mod CallLemmas
+pub mod WalkCallLemmas
+pub mod PlaceCallLemmas
+pub mod StepCalls

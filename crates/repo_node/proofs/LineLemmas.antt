@@ -1,53 +1,23 @@
--- The lines of log files are lines of a branch.
-use Rattle.std.proofs.Common.{◌≡◌, ◌≢◌, ◌↔◌, ℕ, Bool, true, false, IsTrue, List, [], ◌∷◌, ◌++◌, Option, Some, inl, inr, refl, sym, subst, ◌∙◌}
+-- The line of a status is a line of a branch.
+use Rattle.std.proofs.Common.{◌≡◌, ◌↔◌, ℕ, Bool, true, false, IsTrue, List, [], ◌∷◌, ◌++◌, Some, refl, subst}
 use Rattle.std.specs.Prelude.{bytes_eq}
 use Rattle.std.specs.List.{list_any}
-use Rattle.annex_base.specs.Lines.{IsOneLine, space, newline}
+use Rattle.annex_base.specs.Lines.{IsOneLine, space}
 use Rattle.annex_base.specs.RepoText.{repo_text}
 use Rattle.annex_base.specs.StampText.{stamp_text}
 use Rattle.annex_base.specs.Lists.{Member}
 use Rattle.annex_base.proofs.Conditions.{bytes_eq-refl, bytes_eq-true, same_test}
 use Rattle.annex_base.proofs.Lines.{one_line-append, one_line-by_test, one_line-cons, one_line-members, one_line-nil, one_line-repo_text, one_line-stamp_text}
-use Rattle.annex_base.proofs.Lists.{Contains-from_Member, cons_nil, list_any_found, list_any_member}
-use Rattle.log_lines.specs.declared.entry.Entry.{Entry}
-use Rattle.log_lines.specs.declared.entry.LogKind.{LogKind}
+use Rattle.annex_base.proofs.Lists.{cons_nil, list_any_found, list_any_member}
 use Rattle.log_lines.specs.declared.entry.LogKind.TheVariants as kinds
 use Rattle.log_lines.specs.declared.entry.Topic.TheVariants as topics
-use Rattle.log_lines.specs.LineText.{line_text, location_text, value_text, BeginsStamped, Ends, EndsStamped, HasForm, IsLine as IsLogLine}
+use Rattle.log_lines.specs.LineText.{line_text, location_text, value_text}
 use Rattle.node_model.specs.Owed.{status}
 use Rattle.union_merge.specs.LineSet.{IsLine}
 
 not_empty : (xs ys : List ℕ) (y : ℕ) → xs ++ (y ∷ ys) ≡ [] → ⊥
 not_empty [] ys y none = cons_nil y ys none
 not_empty (x ∷ xs) ys y none = cons_nil x (xs ++ (y ∷ ys)) none
-
-begun : (line rest : List ℕ) (time : ℕ) → BeginsStamped line time rest → line ≢ []
-begun line rest time b none = not_empty b.stamp rest space (sym b.spelled ∙ none)
-
-ended : (line front : List ℕ) (time : ℕ) → EndsStamped line front time → line ≢ []
-ended line front time b none = not_empty front _ space (sym b.spelled ∙ none)
-
-ends : (line front : List ℕ) (o : Option ℕ) (time : ℕ) → o ≡ Some time → Ends line front o → line ≢ []
-ends line front o time is b = ended line front time (subst (λ (x : Option ℕ). Ends line front x) is b)
-
--- a line with a stamp isn't empty
-some : (kind : LogKind) (line : List ℕ) (e : Entry) (time : ℕ) → e.stamp ≡ Some time → HasForm kind line e → line ≢ []
-some kinds.Location line e time at form = begun line _ form.time form.begins
-some kinds.Trust line e time at form = ends line _ e.stamp time at form.ends
-some kinds.Uuid line e time at form = ends line _ e.stamp time at form.ends
-some kinds.Group line e time at (inl form) = ends line _ e.stamp time at form.ends
-some kinds.Group line e time at (inr form) = ended line _ form.time form.ends
-some kinds.Preferred line e time at form = ends line _ e.stamp time at form.ends
-some kinds.Required line e time at form = ends line _ e.stamp time at form.ends
-some kinds.GroupPreferred line e time at form = begun line _ form.time form.begins
-some kinds.Numcopies line e time at form = begun line _ form.time form.begins
-some kinds.Mincopies line e time at form = begun line _ form.time form.begins
-
-pub line_of_log : (kind : LogKind) (line : List ℕ) (e : Entry) (time : ℕ) → e.stamp ≡ Some time → IsLogLine kind line e → IsLine line
-line_of_log kind line e time at is = record {
-  some = some kind line e time at is.form;
-  single = λ among. is.text.single (Contains-from_Member line newline among);
-}
 
 -- ---- the line of a status
 

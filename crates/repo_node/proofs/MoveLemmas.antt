@@ -1,8 +1,9 @@
 -- What a step of the sessions or of the jobs adds to a node.
 use Rattle.std.proofs.Common.{◌≡◌, ℕ, ◌+◌, Bool, false, List, [], ◌∷◌, ◌++◌, Option, Some, None, Result, Ok, Err, IfOk, length, is_some, refl, sym, ap, subst, ◌∙◌}
 use Rattle.std.specs.Prelude.{IfSome, if◌then◌else◌, vec_len}
-use Rattle.std.specs.Option.{ForSome}
+use Rattle.std.specs.Option.{ForSome, option_map}
 use Rattle.annex_base.specs.Causes.{Rose}
+use Rattle.annex_base.specs.declared.kinds.Call.{Call}
 use Rattle.annex_base.proofs.Conditions.{bytes_eq-refl}
 use Rattle.trust_groups.specs.Reads.{Indices, Reads}
 use Rattle.trust_groups.specs.Settings.{Lines, settings}
@@ -23,14 +24,20 @@ use Rattle.node_model.specs.SetUp.{SetUp}
 use Rattle.node_model.specs.State.{State}
 use Rattle.node_model.specs.Owed.{Owed}
 use Rattle.node_model.specs.Turns.{job_step}
+use Rattle.content_lock.specs.CallsMade.{MakesCalls, fewer}
+use Rattle.p2p_server.specs.declared.session.Session.{Session}
+use Rattle.node_sessions.specs.Calls.{session_calls}
+use Rattle.node_sessions.specs.Serving.{SeesPartAt}
 use Rattle.node_sessions.specs.Sessions.{FedAll}
+use Rattle.node_jobs.specs.Calls.{job_calls}
 use Rattle.node_jobs.specs.Places.{PlaceView}
 use Rattle.node_parts.specs.declared.done.Done.{Done}
 use Rattle.node_parts.specs.declared.moment.Moment.{Moment}
 use Rattle.node_parts.specs.Kinds.{IsQuiet}
 use Rattle.node_parts.specs.Parts.{PartsView}
-use Rattle.node_parts.specs.Posting.{Posts, stamp_of}
-use Rattle.node_parts.specs.Steps.{Acts, Leaves, LeavesSo, SeesParts, Serves, failed_by, made_of, words_heard}
+use Rattle.node_parts.specs.Posting.{PostsPieces, stamp_of}
+use Rattle.node_parts.specs.Steps.{Acts, AsksPart, Fails, HasPart, Hears, IsPartAsked, Leaves, LeavesSo, SeesParts, Serves, Steps, WhereActed, WhereServed, failed_by, made_of, session_asked, words_heard}
+use Rattle.node_parts.specs.Stored.{contents_then, parts_then}
 use Rattle.repo_node.specs.declared.past.Past.{Past}
 use Rattle.repo_node.specs.declared.setup.Ended.{Ended}
 use Rattle.repo_node.specs.declared.setup.Setup.{Setup}
@@ -38,8 +45,9 @@ use Rattle.repo_node.specs.Kept.{IsFed, IsKept}
 use Rattle.repo_node.specs.Nodes.{Fits, NodeView, state_of, told_of}
 use Rattle.repo_node.specs.Pasts.{SamePast, frames_entry}
 use Rattle.repo_node.specs.Stepping.{AddsIf, EntersIf, EntersStep, MovesSo, NoStep}
-use Rattle.repo_node.specs.Turning.{Adds, GoOn, Looks, Stepper, StepsBy, branch_by, ended_by}
-use Rattle.repo_node.proofs.StepLemmas.{CountLaw, DoesBy, sees_parts, told_some}
+use Rattle.repo_node.specs.Stored.{StoreView}
+use Rattle.repo_node.specs.Turning.{Adds, Caller, GoOn, Looks, Stepper, StepsBy, branch_by, ended_by}
+use Rattle.repo_node.proofs.StepLemmas.{CountLaw, DoesBy, WhereDone, sees_parts, told_some}
 
 -- the node that these are
 abbrev pub seen : {K : Type 0} → K → PartsView → Files → Past → List Owed → NodeView K
@@ -93,9 +101,9 @@ pub seen_same : {K : Type 0} (k k' : K) (parts parts' : PartsView) (branch : Fil
 seen_same {K} k k' parts parts' branch was now owed owed' n view ep same eo =
     subst (λ (m : NodeView K). seen k' parts' branch now owed' ≡ record m { keeper = k' }) view (same_node k k' parts parts' branch was now owed owed' ep same eo)
 
--- the ends posted what this says, with the stamp of a past's next entry
-abbrev pub PostsIn : Past → PartsView → PartsView → Done → Type 0
-PostsIn was parts parts' d = Posts (record { time = was.time; count = was.count + 1; repo = was.setup.number }) d.kind parts.links parts'.links d.taken d.sent
+-- the ends posted what this says, over a store of these contents, with the stamp of a past's next entry
+abbrev pub PostsIn : Past → PartsView → Option Contents → PartsView → Done → Type 0
+PostsIn was parts contents parts' d = PostsPieces (record { time = was.time; count = was.count + 1; repo = was.setup.number }) d.kind parts contents parts'.links d.taken d.sent
 
 -- a step of these changes no log, so its entry leaves the branch
 one_line : ◌≡◌ {A = List (List ℕ)} [] ((0 ∷ []) ∷ []) → ⊥
@@ -106,13 +114,20 @@ branch_stays b (Log file) quiet =
     absurd (one_line (sym (quiet.lines (file_path file) [] ((0 ∷ []) ∷ [])) ∙ ap (λ (t : Bool). if t then union [] ((0 ∷ []) ∷ []) else []) (bytes_eq-refl (file_path file))))
 branch_stays b _ quiet = refl
 
+-- what a step leaves of the store
+pub record LeavesStore (p : PartsView) (before after : StoreView) (o : Option Done) : Type 0 where
+  pub contents : after.contents ≡ contents_then before.contents before.parts o
+  pub parts : after.parts ≡ parts_then p before.parts o
+  pub left : after.failing ≡ option_map (fewer (failed_by o)) before.failing
+
 -- over the same store, the node is the same
 keeper_same : {K : Type 0} (k k' : K) (n : NodeView K) → k ≡ n.keeper → k' ≡ k → record n { keeper = k' } ≡ n
 keeper_same {K} k k' n here same = ap (λ (x : K). record n { keeper = x }) (same ∙ here)
 
-adds_entry : {K : Type 0} (d : Done) (k k' : K) (parts parts' : PartsView) (branch : Files) (number : ℕ) (was now : Past) (owed owed' : List Owed) (faults faults' : ℕ)
-    → EntersStep d was now → Leaves number parts parts' d → PostsIn was parts parts' d → GoOn parts parts' d → IsQuiet d.kind → IfSome (failed_in d.kind) (λ call. Rose faults faults') → Adds parts.links faults faults' (seen k parts branch was owed) (seen k' parts' branch now owed')
-adds_entry d k k' parts parts' branch number was now owed owed' faults faults' enters leaves posts goes quiet cause = record {
+adds_entry : {K : Type 0} (d : Done) (k k' : K) (parts parts' : PartsView) (branch : Files) (number : ℕ) (was now : Past) (owed owed' : List Owed) (before after : StoreView)
+    → EntersStep d was now → Leaves number parts parts' d → PostsIn was parts before.contents parts' d → GoOn parts parts' d → IsQuiet d.kind → IfSome (failed_in d.kind) (λ call. Rose before.faults after.faults) → LeavesStore parts before after (Some d)
+    → Adds parts.links before after (seen k parts branch was owed) (seen k' parts' branch now owed')
+adds_entry d k k' parts parts' branch number was now owed owed' before after enters leaves posts goes quiet cause store = record {
   entry = frames_entry was d.kind d.taken d.sent;
   history = enters.history;
   outcomes = enters.outcomes ∙ ap (λ (n : ℕ). was.outcomes.items ++ ended_by d.kind n) was.history.ok.0;
@@ -126,25 +141,29 @@ adds_entry d k k' parts parts' branch number was now owed owed' faults faults' e
   ends = leaves.ends;
   posts = posts;
   jobs = goes;
+  contents = store.contents;
+  parts = store.parts;
+  left = store.left;
   cause = cause;
 }
 
-pub adds_if : {K : Type 0} (o : Option Done) (b : Bool) (k k' : K) (parts parts' : PartsView) (branch : Files) (number : ℕ) (was ready now : Past) (debts debts' : List ℕ) (owed owed' : List Owed) (faults : K → ℕ) (faults' : ℕ) (n : NodeView K)
-    → seen k parts branch was owed ≡ n → b ≡ is_some o → SamePast was ready → EntersIf o ready now debts debts' → LeavesSo number parts parts' o → ForSome o (PostsIn was parts parts') → ForSome o (GoOn parts parts') → ForSome o (λ d. IsQuiet d.kind) → IfSome (failed_by o) (λ call. Rose (faults k) faults') → (o ≡ None → owed' ≡ owed) → (o ≡ None → k' ≡ k)
-    → AddsIf b n.parts.links (faults n.keeper) faults' n (seen k' parts' branch now owed')
-adds_if {K} None b k k' parts parts' branch number was ready now debts debts' owed owed' faults faults' n view made same enters leaves posts goes quiet cause stays unasked =
-    subst (λ (x : Bool). AddsIf x n.parts.links (faults n.keeper) faults' n (seen k' parts' branch now owed')) (sym made)
-    (seen_same k k' parts parts' branch was now owed owed' n view leaves (subst (SamePast was) (sym enters.0) same) (stays refl) ∙ keeper_same k k' n (ap (λ (m : NodeView K). m.keeper) view) (unasked refl))
-adds_if {K} (Some d) b k k' parts parts' branch number was ready now debts debts' owed owed' faults faults' n view made same enters leaves posts goes quiet cause stays unasked =
-    subst (λ (x : Bool). AddsIf x n.parts.links (faults n.keeper) faults' n (seen k' parts' branch now owed')) (sym made)
-    (subst (λ (m : NodeView K). Adds m.parts.links (faults m.keeper) faults' m (seen k' parts' branch now owed')) view
-    (adds_entry d k k' parts parts' branch number was now owed owed' (faults k) faults' (enters_after d was ready now same enters.0) leaves (posts d refl) (goes d refl) (quiet d refl) cause))
+pub adds_if : {K : Type 0} (view : K → StoreView) (o : Option Done) (b : Bool) (k k' : K) (parts parts' : PartsView) (branch : Files) (number : ℕ) (was ready now : Past) (debts debts' : List ℕ) (owed owed' : List Owed) (n : NodeView K)
+    → seen k parts branch was owed ≡ n → b ≡ is_some o → SamePast was ready → EntersIf o ready now debts debts' → LeavesSo number parts parts' o → ForSome o (PostsIn was parts (view k).contents parts') → ForSome o (GoOn parts parts') → ForSome o (λ d. IsQuiet d.kind)
+    → IfSome (failed_by o) (λ call. Rose (view k).faults (view k').faults) → LeavesStore parts (view k) (view k') o → (o ≡ None → owed' ≡ owed) → (o ≡ None → k' ≡ k)
+    → AddsIf b n.parts.links (view n.keeper) (view k') n (seen k' parts' branch now owed')
+adds_if {K} view None b k k' parts parts' branch number was ready now debts debts' owed owed' n node made same enters leaves posts goes quiet cause store stays unasked =
+    subst (λ (x : Bool). AddsIf x n.parts.links (view n.keeper) (view k') n (seen k' parts' branch now owed')) (sym made)
+    (seen_same k k' parts parts' branch was now owed owed' n node leaves (subst (SamePast was) (sym enters.0) same) (stays refl) ∙ keeper_same k k' n (ap (λ (m : NodeView K). m.keeper) node) (unasked refl))
+adds_if {K} view (Some d) b k k' parts parts' branch number was ready now debts debts' owed owed' n node made same enters leaves posts goes quiet cause store stays unasked =
+    subst (λ (x : Bool). AddsIf x n.parts.links (view n.keeper) (view k') n (seen k' parts' branch now owed')) (sym made)
+    (subst (λ (m : NodeView K). Adds m.parts.links (view m.keeper) (view k') m (seen k' parts' branch now owed')) node
+    (adds_entry d k k' parts parts' branch number was now owed owed' (view k) (view k') (enters_after d was ready now same enters.0) leaves (posts d refl) (goes d refl) (quiet d refl) cause store))
 
 -- ---- the step
 
 -- no look of these finds a step
 none_steps : {K : Type 0} (step : Stepper) (law : CountLaw) (k : K) (parts parts' : PartsView) (branch : Files) (was : Past) (owed : List Owed) (cs cs' : Option Contents) (qs : Option StoredParts)
-    → IsKept was.setup was.history.items parts branch owed (told_of cs qs) → (c : Contents) → told_of cs qs ≡ Some c → DoesBy step parts parts' c cs' was.setup was.history.items was.time None
+    → IsKept was.setup was.history.items parts branch owed (told_of cs qs) → (c : Contents) → told_of cs qs ≡ Some c → DoesBy step parts parts' c qs cs' was.setup was.history.items was.time None
     → NoStep step (seen k parts branch was owed)
 none_steps step law k parts parts' branch was owed cs cs' qs kept c told by s look fits looks =
     (by.does s look fits (sees_parts law was.setup was.history.items parts branch owed (told_of cs qs) c was.time (length was.history.items + 1) s look kept told refl fits looks.ends looks.time)
@@ -156,33 +175,51 @@ entry_same r r' time time' count count' m er et ec =
     let entry : ℕ → ℕ → ℕ → Entry = (λ x t c. record { time = t; count = c; repo = Some x; kind = m.kind; taken = m.taken; sent = m.sent; lines = m.lines }) in
     ap (λ (x : ℕ). entry x time' count') (sym er) ∙ ap (λ (t : ℕ). entry r t count') (sym et) ∙ ap (λ (c : ℕ). entry r time c) (sym ec)
 
-some_steps : {K : Type 0} (step : Stepper) (law : CountLaw) (d : Done) (k k' : K) (parts parts' : PartsView) (branch : Files) (was now : Past) (owed owed' : List Owed) (cs cs' : Option Contents) (qs : Option StoredParts)
-    → IsKept was.setup was.history.items parts branch owed (told_of cs qs) → EntersStep d was now → (c : Contents) → told_of cs qs ≡ Some c → DoesBy step parts parts' c cs' was.setup was.history.items was.time (Some d)
-    → StepsBy step (seen k parts branch was owed) (seen k' parts' branch now owed')
-some_steps step law d k k' parts parts' branch was now owed owed' cs cs' qs kept enters c told by = record {
+-- what a look of the node finds of a step
+module _ (known : Option StoredParts) (d : Done) (parts : PartsView) (k : Look) where
+  finds_fails : k.fails ≡ failed_in d.kind → Fails (Some d) k
+  finds_fails fails x is = fails ∙ ap (λ (y : Done). failed_in y.kind) (some_done d x is)
+
+  finds_part : IsPartAsked known parts d.taken k.part k.right → AsksPart known parts (Some d) k
+  finds_part part x is = subst (λ (y : Done). IsPartAsked known parts y.taken k.part k.right) (some_done d x is) part
+
+  finds_words : k.words ≡ words_heard parts (Some d) → Hears parts (Some d) k
+  finds_words words x is = words ∙ ap (λ (y : Done). words_heard parts (Some y)) (some_done d x is)
+
+some_steps : {K : Type 0} (step : Stepper) (caller : Caller) (law : CountLaw) (d : Done) (k k' : K) (parts parts' : PartsView) (branch : Files) (was now : Past) (owed owed' : List Owed) (before after : StoreView)
+    → IsKept was.setup was.history.items parts branch owed (told_of before.contents before.parts) → EntersStep d was now → (c : Contents) → told_of before.contents before.parts ≡ Some c
+    → DoesBy step parts parts' c before.parts after.contents was.setup was.history.items was.time (Some d)
+    → WhereDone parts c before.parts was.setup was.history.items was.time (Some d) (λ s st x. MakesCalls (caller s st x) (failed_in d.kind) before.failing after.failing)
+    → StepsBy step caller before after (seen k parts branch was owed) (seen k' parts' branch now owed')
+some_steps step caller law d k k' parts parts' branch was now owed owed' before after kept enters c told by calls = record {
   kind = d.kind;
-  part = by.part;
-  right = by.right;
-  makes = λ s look fits looks fails part right words. record {
+  taken = d.taken;
+  part = by.part d refl;
+  makes = λ s look fits looks finds. record {
     made = made_of d;
     same = refl;
-    makes = (by.does s look fits (sees_parts law was.setup was.history.items parts branch owed (told_of cs qs) c was.time (length was.history.items + 1) s look kept told refl fits looks.ends looks.time)
-        (λ x is. fails ∙ ap (λ (y : Done). failed_in y.kind) (some_done d x is)) (λ x is. (part, right)) (λ x is. words ∙ ap (λ (y : Done). words_heard parts (Some y)) (some_done d x is))).made;
+    takes = refl;
+    makes = (by.does s look fits (sees_parts law was.setup was.history.items parts branch owed (told_of before.contents before.parts) c was.time (length was.history.items + 1) s look kept told refl fits looks.ends looks.time)
+        (finds_fails before.parts d parts look finds.fails) (finds_part before.parts d parts look finds.part) (finds_words before.parts d parts look finds.words)).made;
     adds = enters.history ∙ ap (λ (e : Entry). was.history.items ++ e ∷ []) (entry_same s.number was.setup.number look.time was.time look.count (was.count + 1) (made_of d) fits.number looks.time looks.count);
   };
+  calls = λ s look fits looks finds.
+      calls s look fits (sees_parts law was.setup was.history.items parts branch owed (told_of before.contents before.parts) c was.time (length was.history.items + 1) s look kept told refl fits looks.ends looks.time)
+      (finds_fails before.parts d parts look finds.fails) (finds_part before.parts d parts look finds.part) (finds_words before.parts d parts look finds.words);
 }
 
-pub steps_if : {K : Type 0} (step : Stepper) (law : CountLaw) (o : Option Done) (b : Bool) (k k' : K) (parts parts' : PartsView) (branch : Files) (was ready now : Past) (debts debts' : List ℕ) (owed owed' : List Owed) (cs cs' : Option Contents) (qs : Option StoredParts) (n : NodeView K)
-    → seen k parts branch was owed ≡ n → b ≡ is_some o → SamePast was ready → EntersIf o ready now debts debts' → IsKept was.setup was.history.items parts branch owed (told_of cs qs)
-    → ForSome (told_of cs qs) (λ c. DoesBy step parts parts' c cs' was.setup was.history.items was.time o)
-    → (c : Contents) → told_of cs qs ≡ Some c → MovesSo b step n (seen k' parts' branch now owed')
-steps_if {K} step law None b k k' parts parts' branch was ready now debts debts' owed owed' cs cs' qs n view made same enters kept does c told =
-    subst (λ (x : Bool). MovesSo x step n (seen k' parts' branch now owed')) (sym made)
-    (subst (λ (m : NodeView K). NoStep step m) view (none_steps step law k parts parts' branch was owed cs cs' qs kept c told (does c told)))
-steps_if {K} step law (Some d) b k k' parts parts' branch was ready now debts debts' owed owed' cs cs' qs n view made same enters kept does c told =
-    subst (λ (x : Bool). MovesSo x step n (seen k' parts' branch now owed')) (sym made)
-    (subst (λ (m : NodeView K). StepsBy step m (seen k' parts' branch now owed')) view
-    (some_steps step law d k k' parts parts' branch was now owed owed' cs cs' qs kept (enters_after d was ready now same enters.0) c told (does c told)))
+pub steps_if : {K : Type 0} (view : K → StoreView) (step : Stepper) (caller : Caller) (law : CountLaw) (o : Option Done) (b : Bool) (k k' : K) (parts parts' : PartsView) (branch : Files) (was ready now : Past) (debts debts' : List ℕ) (owed owed' : List Owed) (n : NodeView K)
+    → seen k parts branch was owed ≡ n → b ≡ is_some o → SamePast was ready → EntersIf o ready now debts debts' → IsKept was.setup was.history.items parts branch owed (told_of (view k).contents (view k).parts)
+    → ForSome (told_of (view k).contents (view k).parts) (λ c. DoesBy step parts parts' c (view k).parts (view k').contents was.setup was.history.items was.time o)
+    → ForSome (told_of (view k).contents (view k).parts) (λ c. WhereDone parts c (view k).parts was.setup was.history.items was.time o (λ s st x. MakesCalls (caller s st x) (failed_by o) (view k).failing (view k').failing))
+    → (c : Contents) → told_of (view k).contents (view k).parts ≡ Some c → MovesSo b step caller (view n.keeper) (view k') n (seen k' parts' branch now owed')
+steps_if {K} view step caller law None b k k' parts parts' branch was ready now debts debts' owed owed' n node made same enters kept does calls c told =
+    subst (λ (x : Bool). MovesSo x step caller (view n.keeper) (view k') n (seen k' parts' branch now owed')) (sym made)
+    (subst (λ (m : NodeView K). NoStep step m) node (none_steps step law k parts parts' branch was owed (view k).contents (view k').contents (view k).parts kept c told (does c told)))
+steps_if {K} view step caller law (Some d) b k k' parts parts' branch was ready now debts debts' owed owed' n node made same enters kept does calls c told =
+    subst (λ (x : Bool). MovesSo x step caller (view n.keeper) (view k') n (seen k' parts' branch now owed')) (sym made)
+    (subst (λ (m : NodeView K). StepsBy step caller (view m.keeper) (view k') m (seen k' parts' branch now owed')) node
+    (some_steps step caller law d k k' parts parts' branch was now owed owed' (view k) (view k') kept (enters_after d was ready now same enters.0) c told (does c told) (calls c told)))
 
 -- ---- what the parts do, of a node
 
@@ -206,16 +243,28 @@ moment_same was ready same =
     ∙ ap (λ (c : ℕ). moment was.time was.setup c (vec_len ready.history + 1)) same.count
     ∙ ap (λ (n : ℕ). moment was.time was.setup was.count n) (next_number was ready same)
 
+-- what is so wherever the sessions' step is made, is so of the node's states
+served_where : (m : Moment) (was ready : Past) (parts : PartsView) (c : Contents) (known : Option StoredParts) (o : Option Done) (P : SetUp → State → Look → Type 0) → m ≡ moment_in ready → SamePast was ready
+    → WhereServed parts c known m.clock m.time m.number o P → WhereDone parts c known was.setup was.history.items was.time o P
+served_where m was ready parts c known o P at same there s k fits sees fails asks hears =
+    (subst (λ (x : Moment). WhereServed parts c known x.clock x.time x.number o P) (at ∙ moment_same was ready same) there) s (state_of s was.history.items) k sees fails asks
+
 pub served_does : (m : Moment) (was ready : Past) (parts parts' : PartsView) (cs cs' : Option Contents) (qs : Option StoredParts) (o : Option Done)
     → m ≡ moment_in ready → SamePast was ready → IsFed qs parts
-    → ForSome cs (λ c. ForSome qs (λ q. FedAll q parts.sessions → Serves parts parts' c cs' m.clock m.time m.number o))
-    → ForSome (told_of cs qs) (λ c. DoesBy session_step parts parts' c cs' was.setup was.history.items was.time o)
-served_does m was ready parts parts' cs cs' qs o at same fed serves c told =
+    → ForSome cs (λ c. Serves parts parts' c qs cs' m.clock m.time m.number o) → ForSome qs (λ q. FedAll q parts.sessions → ForSome o (λ d. HasPart (Some q) parts d.taken))
+    → ForSome (told_of cs qs) (λ c. DoesBy session_step parts parts' c qs cs' was.setup was.history.items was.time o)
+served_does m was ready parts parts' cs cs' qs o at same fed serves asked c told =
     let q = told_both cs qs c told in
-    let found = serves c (told_some cs qs c told).0 q.0 q.1 (fed q.0 q.1) in
-    let here : Serves parts parts' c cs' (record { at = 0; to = was.setup.offset }) was.time (length was.history.items + 1) o =
-    subst (λ (x : Moment). Serves parts parts' c cs' x.clock x.time x.number o) (at ∙ moment_same was ready same) found in
-    record { part = here.part; right = here.right; does = λ s k fits sees fails finds hears. here.steps s (state_of s was.history.items) k sees fails finds }
+    record {
+      part = subst (λ (x : Option StoredParts). ForSome o (λ d. HasPart x parts d.taken)) (sym q.1) (asked q.0 q.1 (fed q.0 q.1));
+      does = served_where m was ready parts c qs o (λ s st k. Steps session_step parts' cs' s st k o) at same (serves c (told_some cs qs c told).0);
+    }
+
+pub served_calls : (m : Moment) (was ready : Past) (parts : PartsView) (cs : Option Contents) (qs : Option StoredParts) (o : Option Done) (before after : Option (Call → ℕ)) → m ≡ moment_in ready → SamePast was ready
+    → ForSome cs (λ c. WhereServed parts c qs m.clock m.time m.number o (λ s st k. MakesCalls (session_calls s st k) (failed_by o) before after))
+    → ForSome (told_of cs qs) (λ c. WhereDone parts c qs was.setup was.history.items was.time o (λ s st k. MakesCalls (session_calls s st k) (failed_by o) before after))
+served_calls m was ready parts cs qs o before after at same calls c told =
+    served_where m was ready parts c qs o (λ s st k. MakesCalls (session_calls s st k) (failed_by o) before after) at same (calls c (told_some cs qs c told).0)
 
 -- what the jobs read is what the state has read
 pub settings_are : (setup : Setup) (h : List Entry) (parts : PartsView) (branch : Files) (owed : List Owed) (told : Option Contents) (i : Indices) (s : SetUp)
@@ -225,19 +274,33 @@ settings_are setup h parts branch owed told i s law reads kept fits =
     let same : (state_of s h).lines ≡ lines_at branch = (λ j path. sym (is.lines path) j) in
     ap settings same ∙ sym (law i (lines_at branch) reads)
 
-pub acted_does : (m : Moment) (was ready : Past) (parts parts' : PartsView) (branch : Files) (owed : List Owed) (cs cs' : Option Contents) (qs : Option StoredParts) (i : Indices) (o : Option Done)
-    → m ≡ moment_in ready → SamePast was ready → ((x : Indices) (lines : Lines) → Reads x lines → settings_of x ≡ settings lines) → Reads i (lines_at branch) → IsKept was.setup was.history.items parts branch owed (told_of cs qs)
-    → ForSome cs (λ c. Acts parts parts' c cs' m.clock (settings_of i) m.time m.number o)
-    → ForSome (told_of cs qs) (λ c. DoesBy job_step parts parts' c cs' was.setup was.history.items was.time o)
-acted_does m was ready parts parts' branch owed cs cs' qs i o at same law reads kept acts c told =
-    let found = acts c (told_some cs qs c told).0 in
-    let here : Acts parts parts' c cs' (record { at = 0; to = was.setup.offset }) (settings_of i) was.time (length was.history.items + 1) o =
-    subst (λ (x : Moment). Acts parts parts' c cs' x.clock (settings_of i) x.time x.number o) (at ∙ moment_same was ready same) found in
-    record {
-      part = 0;
-      right = false;
-      does = λ s k fits sees fails finds hears. here s (state_of s was.history.items) k (sees.parts.logs ∙ settings_are was.setup was.history.items parts branch owed (told_of cs qs) i s law reads kept fits) sees fails hears;
-    }
+-- where no session is asked, any part will do
+none_sees : (known : Option StoredParts) (taken : Option FrameView) → SeesPartAt known None taken 0 false
+none_sees known None = tt
+none_sees known (Some f) = tt
+
+none_asked : (known : Option StoredParts) (p : PartsView) (taken : Option FrameView) → session_asked p.sessions taken ≡ None → HasPart known p taken
+none_asked known p taken is = record { part = 0; right = false; asked = subst (λ (x : Option Session). SeesPartAt known x taken 0 false) (sym is) (none_sees known taken) }
+
+-- the premises on the moment, and on what the index has read
+module _ (m : Moment) (was ready : Past) (parts : PartsView) (branch : Files) (owed : List Owed) (cs : Option Contents) (qs : Option StoredParts) (i : Indices) (o : Option Done)
+    (at : m ≡ moment_in ready) (same : SamePast was ready) (law : (x : Indices) (lines : Lines) → Reads x lines → settings_of x ≡ settings lines) (reads : Reads i (lines_at branch))
+    (kept : IsKept was.setup was.history.items parts branch owed (told_of cs qs)) where
+  acted_where : (c : Contents) (P : SetUp → State → Look → Type 0) → WhereActed parts c m.clock (settings_of i) m.time m.number o P → WhereDone parts c qs was.setup was.history.items was.time o P
+  acted_where c P there s k fits sees fails asks hears =
+      (subst (λ (x : Moment). WhereActed parts c x.clock (settings_of i) x.time x.number o P) (at ∙ moment_same was ready same) there) s (state_of s was.history.items) k
+      (sees.parts.logs ∙ settings_are was.setup was.history.items parts branch owed (told_of cs qs) i s law reads kept fits) sees fails hears
+
+  pub acted_does : (parts' : PartsView) (cs' : Option Contents) → ForSome cs (λ c. Acts parts parts' c cs' m.clock (settings_of i) m.time m.number o) → ForSome o (λ d. session_asked parts.sessions d.taken ≡ None)
+      → ForSome (told_of cs qs) (λ c. DoesBy job_step parts parts' c qs cs' was.setup was.history.items was.time o)
+  acted_does parts' cs' acts asked c told = record {
+    part = λ d is. none_asked qs parts d.taken (asked d is);
+    does = acted_where c (λ s st k. Steps job_step parts' cs' s st k o) (acts c (told_some cs qs c told).0);
+  }
+
+  pub acted_calls : (before after : Option (Call → ℕ)) → ForSome cs (λ c. WhereActed parts c m.clock (settings_of i) m.time m.number o (λ s st k. MakesCalls (job_calls s st k) (failed_by o) before after))
+      → ForSome (told_of cs qs) (λ c. WhereDone parts c qs was.setup was.history.items was.time o (λ s st k. MakesCalls (job_calls s st k) (failed_by o) before after))
+  acted_calls before after calls c told = acted_where c (λ s st k. MakesCalls (job_calls s st k) (failed_by o) before after) (calls c (told_some cs qs c told).0)
 
 -- ---- whether a step is ready
 
@@ -259,8 +322,8 @@ ready_parts (Err e) law m k parts branch was owed cs qs n view at kept ready sam
 pub leaves_at : (m : Moment) (was ready : Past) (parts parts' : PartsView) (o : Option Done) → m ≡ moment_in ready → SamePast was ready → LeavesSo m.number parts parts' o → LeavesSo (length was.history.items + 1) parts parts' o
 leaves_at m was ready parts parts' o at same leaves = subst (λ (x : Moment). LeavesSo x.number parts parts' o) (at ∙ moment_same was ready same) leaves
 
-pub posts_at : (m : Moment) (was ready : Past) (parts parts' : PartsView) (o : Option Done) → m ≡ moment_in ready → SamePast was ready → parts.jobs.place ≡ record { number = was.setup.number; ids = was.setup.repos }
-    → ForSome o (λ d. Posts (stamp_of m parts.jobs.place.number) d.kind parts.links parts'.links d.taken d.sent) → ForSome o (PostsIn was parts parts')
-posts_at m was ready parts parts' o at same place posts d is =
-    subst (λ (p : PlaceView). Posts (record { time = was.time; count = was.count + 1; repo = p.number }) d.kind parts.links parts'.links d.taken d.sent) place
-    (subst (λ (x : Moment). Posts (stamp_of x parts.jobs.place.number) d.kind parts.links parts'.links d.taken d.sent) (at ∙ moment_same was ready same) (posts d is))
+pub posts_at : (m : Moment) (was ready : Past) (parts parts' : PartsView) (contents : Option Contents) (o : Option Done) → m ≡ moment_in ready → SamePast was ready → parts.jobs.place ≡ record { number = was.setup.number; ids = was.setup.repos }
+    → ForSome o (λ d. PostsPieces (stamp_of m parts.jobs.place.number) d.kind parts contents parts'.links d.taken d.sent) → ForSome o (PostsIn was parts contents parts')
+posts_at m was ready parts parts' contents o at same place posts d is =
+    subst (λ (p : PlaceView). PostsPieces (record { time = was.time; count = was.count + 1; repo = p.number }) d.kind parts contents parts'.links d.taken d.sent) place
+    (subst (λ (x : Moment). PostsPieces (stamp_of x parts.jobs.place.number) d.kind parts contents parts'.links d.taken d.sent) (at ∙ moment_same was ready same) (posts d is))

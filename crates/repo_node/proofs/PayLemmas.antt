@@ -12,8 +12,10 @@ use Rattle.run_data.specs.declared.entry.EntryKind.{EntryKind}
 use Rattle.run_data.specs.declared.entry.EntryKind.TheVariants.{Fault, Log}
 use Rattle.run_data.specs.declared.entry.FrameView.{FrameView}
 use Rattle.run_data.specs.declared.entry.LogFile.TheVariants.{Location}
+use Rattle.object_store.specs.Stores.{Contents}
 use Rattle.drop_worker.specs.Working.{failed_in}
 use Rattle.link_ring.specs.Ends.{EndView}
+use Rattle.content_lock.specs.CallsMade.{MakesCalls, fewer}
 use Rattle.node_ends.specs.Ends.{link_at}
 use Rattle.node_ends.specs.Going.{AreAfter}
 use Rattle.node_model.specs.Ends.{EndName}
@@ -21,15 +23,19 @@ use Rattle.node_model.specs.Look.{Look, entry_of, failing}
 use Rattle.node_model.specs.Owed.{Owed}
 use Rattle.node_model.specs.OwedStep.{owed_step}
 use Rattle.node_model.specs.SetUp.{SetUp}
+use Rattle.p2p_server.specs.Answers.{contents_after}
 use Rattle.node_parts.specs.Parts.{PartsView}
-use Rattle.node_parts.specs.Posting.{Posts, after_step}
+use Rattle.node_parts.specs.Posting.{PostsPieces, after_step}
 use Rattle.repo_node.specs.declared.setup.Ended.{Ended}
+use Rattle.repo_node.specs.Calls.{Makes, StopsIn}
 use Rattle.repo_node.specs.Debts.{AddsStep, WhereMade, failed_put, with_status}
 use Rattle.repo_node.specs.Nodes.{Fits, NodeView, due_by, next_entry, state_of, with_entry}
 use Rattle.repo_node.specs.Owing.{is_owing}
 use Rattle.repo_node.specs.Refusals.{RefusesFor}
 use Rattle.repo_node.specs.declared.refused.NodeRefused.{NodeRefused}
 use Rattle.repo_node.specs.declared.refused.NodeRefused.TheVariants as refusals
+use Rattle.repo_node.specs.Stored.{StoreView}
+use Rattle.repo_node.specs.TurnCalls.{owed_calls}
 use Rattle.repo_node.specs.Turning.{Adds, StepsBy, branch_by, ended_by, stamp_then}
 
 -- the first of the lines that are owed
@@ -61,19 +67,28 @@ same_link : (sender : EntryStamp) (kind : EntryKind) (a : EndName) (o : Option E
 same_link sender kind a None = refl
 same_link sender kind a (Some v) = refl
 
-posts_none : (sender : EntryStamp) (kind : EntryKind) (links : List EndView) → Posts sender kind links links None []
-posts_none sender kind links = record {
-  count = refl;
-  took = λ a f is. none_taken f is;
-  said = λ a. [];
-  listed = λ a. refl;
-  links = λ a. same_link sender kind a (link_at links a);
+posts_none : (sender : EntryStamp) (kind : EntryKind) (parts : PartsView) (contents : Option Contents) → PostsPieces sender kind parts contents parts.links None []
+posts_none sender kind parts contents = record {
+  posts = record {
+    count = refl;
+    took = λ a f is. none_taken f is;
+    said = λ a. [];
+    listed = λ a. refl;
+    links = λ a. same_link sender kind a (link_at parts.links a);
+  };
+  pieces = λ a bytes there. absurd there;
 }
 
-adds_quiet : {K : Type 0} (law : StayLaw) (n m : NodeView K) (kind : EntryKind) (lines : List (List ℕ)) (f f' : ℕ)
-    → m.setup ≡ n.setup → m.time ≡ n.time → m.count ≡ n.count + 1 → m.history ≡ n.history ++ next_entry n kind lines ∷ [] → m.outcomes ≡ n.outcomes → m.branch ≡ branch_by n.branch kind lines → m.parts ≡ n.parts → ended_by kind (length n.history) ≡ [] → IfSome (failed_in kind) (λ call. Rose f f')
-    → Adds n.parts.links f f' n m
-adds_quiet law n m kind lines f f' setup time count history outcomes branch parts none cause = record {
+-- the contents and the parts stay, and as many calls are still to fail, but for one that failed
+pub record StaysStored (before after : StoreView) (failed : Option Call) : Type 0 where
+  pub contents : after.contents ≡ before.contents
+  pub parts : after.parts ≡ before.parts
+  pub left : after.failing ≡ option_map (fewer failed) before.failing
+
+adds_quiet : {K : Type 0} (law : StayLaw) (n m : NodeView K) (kind : EntryKind) (lines : List (List ℕ)) (before after : StoreView)
+    → m.setup ≡ n.setup → m.time ≡ n.time → m.count ≡ n.count + 1 → m.history ≡ n.history ++ next_entry n kind lines ∷ [] → m.outcomes ≡ n.outcomes → m.branch ≡ branch_by n.branch kind lines → m.parts ≡ n.parts → ended_by kind (length n.history) ≡ []
+    → contents_after before.contents before.parts kind ≡ before.contents → StaysStored before after (failed_in kind) → IfSome (failed_in kind) (λ call. Rose before.faults after.faults) → Adds n.parts.links before after n m
+adds_quiet law n m kind lines before after setup time count history outcomes branch parts none still stored cause = record {
   entry = next_entry n kind lines;
   history = history;
   outcomes = outcomes ∙ sym (append-nil n.outcomes) ∙ ap (λ (x : List Ended). n.outcomes ++ x) (sym none);
@@ -85,47 +100,70 @@ adds_quiet law n m kind lines f f' setup time count history outcomes branch part
   setup = setup;
   branch = branch;
   ends = subst (λ (p : PartsView). AreAfter n.parts.links p.links None []) (sym parts) (law n.parts.links);
-  posts = subst (λ (p : PartsView). Posts (stamp_then n) kind n.parts.links p.links None []) (sym parts) (posts_none (stamp_then n) kind n.parts.links);
+  posts = subst (λ (p : PartsView). PostsPieces (stamp_then n) kind n.parts before.contents p.links None []) (sym parts) (posts_none (stamp_then n) kind n.parts before.contents);
   jobs = inl (ap (λ (p : PartsView). p.jobs) parts);
+  contents = stored.contents ∙ sym still;
+  parts = stored.parts;
+  left = stored.left;
   cause = cause;
 }
 
-pub adds_paid : {K : Type 0} (law : StayLaw) (n m : NodeView K) (o : Owed) (f f' : ℕ) → m ≡ with_status n m.keeper o.key o.repo o.there → Adds n.parts.links f f' n m
-adds_paid {K} law n m o f f' is = adds_quiet law n m (Log (Location o.key)) (due_by n o.key o.repo o.there) f f' (ap (λ (x : NodeView K). x.setup) is) (ap (λ (x : NodeView K). x.time) is) (ap (λ (x : NodeView K). x.count) is) (ap (λ (x : NodeView K). x.history) is)
-    (ap (λ (x : NodeView K). x.outcomes) is) (ap (λ (x : NodeView K). x.branch) is) (ap (λ (x : NodeView K). x.parts) is) refl tt
+pub adds_paid : {K : Type 0} (law : StayLaw) (n m : NodeView K) (o : Owed) (before after : StoreView) → m ≡ with_status n m.keeper o.key o.repo o.there → StaysStored before after None → Adds n.parts.links before after n m
+adds_paid {K} law n m o before after is stored = adds_quiet law n m (Log (Location o.key)) (due_by n o.key o.repo o.there) before after (ap (λ (x : NodeView K). x.setup) is) (ap (λ (x : NodeView K). x.time) is) (ap (λ (x : NodeView K). x.count) is) (ap (λ (x : NodeView K). x.history) is)
+    (ap (λ (x : NodeView K). x.outcomes) is) (ap (λ (x : NodeView K). x.branch) is) (ap (λ (x : NodeView K). x.parts) is) refl refl stored tt
 
-pub adds_failed : {K : Type 0} (law : StayLaw) (n m : NodeView K) (o : Owed) (f f' : ℕ) → m ≡ with_entry n m.keeper n.branch (Fault PutFile o.by) [] → Rose f f' → Adds n.parts.links f f' n m
-adds_failed {K} law n m o f f' is rose = adds_quiet law n m (Fault PutFile o.by) [] f f' (ap (λ (x : NodeView K). x.setup) is) (ap (λ (x : NodeView K). x.time) is) (ap (λ (x : NodeView K). x.count) is) (ap (λ (x : NodeView K). x.history) is)
-    (ap (λ (x : NodeView K). x.outcomes) is) (ap (λ (x : NodeView K). x.branch) is) (ap (λ (x : NodeView K). x.parts) is) refl rose
+pub adds_failed : {K : Type 0} (law : StayLaw) (n m : NodeView K) (o : Owed) (before after : StoreView) → m ≡ with_entry n m.keeper n.branch (Fault PutFile o.by) [] → StaysStored before after (Some PutFile) → Rose before.faults after.faults → Adds n.parts.links before after n m
+adds_failed {K} law n m o before after is stored rose = adds_quiet law n m (Fault PutFile o.by) [] before after (ap (λ (x : NodeView K). x.setup) is) (ap (λ (x : NodeView K). x.time) is) (ap (λ (x : NodeView K). x.count) is) (ap (λ (x : NodeView K). x.history) is)
+    (ap (λ (x : NodeView K). x.outcomes) is) (ap (λ (x : NodeView K). x.branch) is) (ap (λ (x : NodeView K). x.parts) is) refl refl stored rose
 
 -- ---- the step
 
-steps_by : {K : Type 0} (r : Result (Unit {0}) NodeRefused) (n m : NodeView K) (kind : EntryKind) (lines : List (List ℕ)) → m.history ≡ n.history ++ next_entry n kind lines ∷ [] → failing (failed_in kind) (PutFile ∷ []) ≡ failed_put r
+steps_by : {K : Type 0} (r : Result (Unit {0}) NodeRefused) (n m : NodeView K) (kind : EntryKind) (lines : List (List ℕ)) (before after : StoreView) → m.history ≡ n.history ++ next_entry n kind lines ∷ [] → failing (failed_in kind) (PutFile ∷ []) ≡ failed_put r
     → ((s : SetUp) (k : Look) → Fits n.setup s → k.time ≡ n.time → k.count ≡ n.count + 1 → failing k.fails (PutFile ∷ []) ≡ failed_put r → AddsStep (owed_step s (state_of s n.history) k) n.setup.number k n.history m.history)
-    → StepsBy owed_step n m
-steps_by r n m kind lines history fault pays = record {
+    → MakesCalls (PutFile ∷ []) (failed_in kind) before.failing after.failing → StepsBy owed_step owed_calls before after n m
+steps_by r n m kind lines before after history fault pays calls = record {
   kind = kind;
-  part = 0;
-  right = false;
-  makes = λ s k fits looks fails part right words.
-      let it = pays s k fits looks.time looks.count (ap (λ (o : Option Call). failing o (PutFile ∷ [])) fails ∙ fault) in
+  taken = None;
+  part = record { part = 0; right = false; asked = tt };
+  makes = λ s k fits looks finds.
+      let it = pays s k fits looks.time looks.count (ap (λ (o : Option Call). failing o (PutFile ∷ [])) finds.fails ∙ fault) in
+      let last = last_same n.history (next_entry n kind lines) (entry_of n.setup.number k it.made) (sym history ∙ it.adds) in
       record {
         made = it.made;
-        same = sym (ap (λ (e : Entry). e.kind) (last_same n.history (next_entry n kind lines) (entry_of n.setup.number k it.made) (sym history ∙ it.adds)));
+        same = sym (ap (λ (e : Entry). e.kind) last);
+        takes = sym (ap (λ (e : Entry). e.taken) last);
         makes = it.is;
         adds = it.adds ∙ ap (λ (r : ℕ). n.history ++ entry_of r k it.made ∷ []) (sym fits.number);
       };
+  calls = λ s k fits looks finds. calls;
 }
 
-pub steps_paid : {K : Type 0} (x : Unit {0}) (n m : NodeView K) (o : Owed) → m ≡ with_status n m.keeper o.key o.repo o.there
+pub steps_paid : {K : Type 0} (x : Unit {0}) (n m : NodeView K) (o : Owed) (before after : StoreView) → m ≡ with_status n m.keeper o.key o.repo o.there
     → ((s : SetUp) (k : Look) → Fits n.setup s → k.time ≡ n.time → k.count ≡ n.count + 1 → failing k.fails (PutFile ∷ []) ≡ failed_put (Ok x) → AddsStep (owed_step s (state_of s n.history) k) n.setup.number k n.history m.history)
-    → StepsBy owed_step n m
-steps_paid {K} x n m o is pays = steps_by (Ok x) n m (Log (Location o.key)) (due_by n o.key o.repo o.there) (ap (λ (v : NodeView K). v.history) is) refl pays
+    → Makes (PutFile ∷ []) PutFile (Ok x) before.failing after.failing → StepsBy owed_step owed_calls before after n m
+steps_paid {K} x n m o before after is pays puts = steps_by (Ok x) n m (Log (Location o.key)) (due_by n o.key o.repo o.there) before after (ap (λ (v : NodeView K). v.history) is) refl pays puts
 
-pub steps_failed : {K : Type 0} (n m : NodeView K) (o : Owed) → m ≡ with_entry n m.keeper n.branch (Fault PutFile o.by) []
+pub steps_failed : {K : Type 0} (n m : NodeView K) (o : Owed) (before after : StoreView) → m ≡ with_entry n m.keeper n.branch (Fault PutFile o.by) []
     → ((s : SetUp) (k : Look) → Fits n.setup s → k.time ≡ n.time → k.count ≡ n.count + 1 → failing k.fails (PutFile ∷ []) ≡ failed_put (Err refusals.StoreFault) → AddsStep (owed_step s (state_of s n.history) k) n.setup.number k n.history m.history)
-    → StepsBy owed_step n m
-steps_failed {K} n m o is pays = steps_by (Err refusals.StoreFault) n m (Fault PutFile o.by) [] (ap (λ (v : NodeView K). v.history) is) refl pays
+    → StopsIn (PutFile ∷ []) PutFile refusals.StoreFault before.failing after.failing → StepsBy owed_step owed_calls before after n m
+steps_failed {K} n m o before after is pays puts = steps_by (Err refusals.StoreFault) n m (Fault PutFile o.by) [] before after (ap (λ (v : NodeView K). v.history) is) refl pays puts
+
+-- of a call that wrote the file, or failed to
+pub put_left : (before after : StoreView) → after.contents ≡ before.contents → after.parts ≡ before.parts → Makes {X = Unit {0}} (PutFile ∷ []) PutFile (Ok tt) before.failing after.failing → StaysStored before after None
+put_left before after contents parts puts = record { contents = contents; parts = parts; left = puts.left }
+
+fault_left : (e : NodeRefused) (before after : StoreView) → e ≡ refusals.StoreFault → after.contents ≡ before.contents → after.parts ≡ before.parts → StopsIn (PutFile ∷ []) PutFile e before.failing after.failing → StaysStored before after (Some PutFile)
+fault_left refusals.Full before after is contents parts puts = absurd cc
+fault_left refusals.StoreFault before after is contents parts puts = record { contents = contents; parts = parts; left = puts.left }
+fault_left (refusals.BadBundle at) before after is contents parts puts = absurd cc
+fault_left refusals.NoMemory before after is contents parts puts = absurd cc
+
+-- any other refusal leaves what is to fail
+pub failing_same : (e : NodeRefused) (before after : Option (Call → ℕ)) → (e ≡ refusals.StoreFault → ⊥) → StopsIn (PutFile ∷ []) PutFile e before after → after ≡ before
+failing_same refusals.Full before after other puts = puts
+failing_same refusals.StoreFault before after other puts = absurd (other refl)
+failing_same (refusals.BadBundle at) before after other puts = puts
+failing_same refusals.NoMemory before after other puts = puts
 
 -- ---- by the refusal
 
@@ -150,16 +188,17 @@ fault_is refusals.NoMemory n m o is refuses = absurd cc
 pub fault_parts : {K : Type 0} (e : NodeRefused) (n m : NodeView K) (o : Owed) → e ≡ refusals.StoreFault → RefusesFor o.by e PutFile n m → m.parts ≡ n.parts
 fault_parts {K} e n m o is refuses = ap (λ (v : NodeView K). v.parts) (fault_is e n m o is refuses)
 
-pub fault_adds : {K : Type 0} (law : StayLaw) (e : NodeRefused) (n m : NodeView K) (o : Owed) (f f' : ℕ) → e ≡ refusals.StoreFault → RefusesFor o.by e PutFile n m → Rose f f' → Adds n.parts.links f f' n m
-fault_adds law e n m o f f' is refuses rose = adds_failed law n m o f f' (fault_is e n m o is refuses) rose
+pub fault_adds : {K : Type 0} (law : StayLaw) (e : NodeRefused) (n m : NodeView K) (o : Owed) (before after : StoreView) → e ≡ refusals.StoreFault → RefusesFor o.by e PutFile n m
+    → after.contents ≡ before.contents → after.parts ≡ before.parts → StopsIn (PutFile ∷ []) PutFile e before.failing after.failing → Rose before.faults after.faults → Adds n.parts.links before after n m
+fault_adds law e n m o before after is refuses contents parts puts rose = adds_failed law n m o before after (fault_is e n m o is refuses) (fault_left e before after is contents parts puts) rose
 
-pub fault_steps : {K : Type 0} (e : NodeRefused) (n m : NodeView K) (o : Owed) → e ≡ refusals.StoreFault → RefusesFor o.by e PutFile n m
+pub fault_steps : {K : Type 0} (e : NodeRefused) (n m : NodeView K) (o : Owed) (before after : StoreView) → e ≡ refusals.StoreFault → RefusesFor o.by e PutFile n m
     → ((s : SetUp) (k : Look) → Fits n.setup s → k.time ≡ n.time → k.count ≡ n.count + 1 → failing k.fails (PutFile ∷ []) ≡ failed_put (Err e) → WhereMade (Err e) (AddsStep (owed_step s (state_of s n.history) k) n.setup.number k n.history m.history))
-    → StepsBy owed_step n m
-fault_steps refusals.Full n m o is refuses pays = absurd cc
-fault_steps refusals.StoreFault n m o is refuses pays = steps_failed n m o refuses pays
-fault_steps (refusals.BadBundle at) n m o is refuses pays = absurd cc
-fault_steps refusals.NoMemory n m o is refuses pays = absurd cc
+    → StopsIn (PutFile ∷ []) PutFile e before.failing after.failing → StepsBy owed_step owed_calls before after n m
+fault_steps refusals.Full n m o before after is refuses pays puts = absurd cc
+fault_steps refusals.StoreFault n m o before after is refuses pays puts = steps_failed n m o before after refuses pays puts
+fault_steps (refusals.BadBundle at) n m o before after is refuses pays puts = absurd cc
+fault_steps refusals.NoMemory n m o before after is refuses pays puts = absurd cc
 
 pub full_fault : (e : NodeRefused) → e ≡ refusals.Full → e ≡ refusals.StoreFault → ⊥
 full_fault e is other = absurd cc

@@ -43,7 +43,7 @@ use Rattle.node_parts.specs.declared.done.Done.{Done}
 use Rattle.node_parts.specs.Kinds.{IsQuiet}
 use Rattle.node_parts.specs.Parts.{AreParts, HasContents, PartsView}
 use Rattle.node_parts.specs.Sound.{AreSound}
-use Rattle.node_parts.specs.Steps.{Fails, FindsPart, Hears, Leaves, SeesParts, Steps, words_heard}
+use Rattle.node_parts.specs.Steps.{AsksPart, Fails, HasPart, Hears, IsPartAsked, Leaves, SeesParts, Steps, words_heard}
 use Rattle.repo_node.specs.declared.setup.Setup.{Setup}
 use Rattle.repo_node.specs.Kept.{IsKept}
 use Rattle.repo_node.specs.Nodes.{Fits, IsState, Stands, state_of, told_of}
@@ -166,16 +166,15 @@ sees_parts law setup h parts branch owed told c time number s k kept is count fi
 
 -- ---- a step of these
 
--- the step, of each state that the history leaves
-abbrev pub DoesSo : Stepper → PartsView → PartsView → Contents → Option Contents → Setup → List Entry → ℕ → ℕ → Bool → Option Done → Type 0
-DoesSo step was now c contents setup h time part right o =
-    (s : SetUp) (k : Look) → Fits setup s → SeesParts was c (record { at = 0; to = setup.offset }) time (length h + 1) s (state_of s h) k → Fails o k → FindsPart o part right k → Hears was o k → Steps step now contents s (state_of s h) k o
+-- this is so of each state that the history leaves, at each look that finds what belongs to a step
+abbrev pub WhereDone : PartsView → Contents → Option StoredParts → Setup → List Entry → ℕ → Option Done → (SetUp → State → Look → Type 0) → Type 0
+WhereDone was c known setup h time o P =
+    (s : SetUp) (k : Look) → Fits setup s → SeesParts was c (record { at = 0; to = setup.offset }) time (length h + 1) s (state_of s h) k → Fails o k → AsksPart known was o k → Hears was o k → P s (state_of s h) k
 
--- there is a part, as the store has it, with which it is the step
-pub record DoesBy (step : Stepper) (was now : PartsView) (c : Contents) (contents : Option Contents) (setup : Setup) (h : List Entry) (time : ℕ) (o : Option Done) : Type 0 where
-  pub part : ℕ
-  pub right : Bool
-  pub does : DoesSo step was now c contents setup h time part right o
+-- it is the step there, and the store has the part that it asks for
+pub record DoesBy (step : Stepper) (was now : PartsView) (c : Contents) (known : Option StoredParts) (contents : Option Contents) (setup : Setup) (h : List Entry) (time : ℕ) (o : Option Done) : Type 0 where
+  pub part : ForSome o (λ d. HasPart known was d.taken)
+  pub does : WhereDone was c known setup h time o (λ s st k. Steps step now contents s st k o)
 
 abbrev pub entry_done : Setup → ℕ → ℕ → Done → Entry
 entry_done setup time count d = record { time = time; count = count; repo = Some setup.number; kind = d.kind; taken = d.taken; sent = d.sent; lines = [] }
@@ -190,22 +189,26 @@ clock_stays was time _ none = refl
 module _ (step : Stepper) (setup : Setup) (h : List Entry) (was now : PartsView) (branch : Files) (cs cs' : Option Contents) (qs qs' : Option StoredParts) (time count : ℕ) (d : Done)
     (fills : FillLaw) (law : CountLaw) (sound : AreSound was) (sound' : AreSound now) (kept : IsKept setup h was branch [] (told_of cs qs))
     (leaves : Leaves (length h + 1) was now d) (quiet : IsQuiet d.kind)
-    (does : ForSome (told_of cs qs) (λ c. DoesBy step was now c cs' setup h time (Some d)))
+    (does : ForSome (told_of cs qs) (λ c. DoesBy step was now c qs cs' setup h time (Some d)))
     (told_parts : is_some qs' ≡ is_some qs) (told_contents : is_some qs ≡ true → is_some cs' ≡ is_some cs) where
   abbrev made_by : Entry
   made_by = entry_done setup time count d
 
   -- the step, at the node's look
   module _ (s : SetUp) (fits : Fits setup s) (c : Contents) (told : told_of cs qs ≡ Some c) where
-    abbrev by : DoesBy step was now c cs' setup h time (Some d)
+    abbrev by : DoesBy step was now c qs cs' setup h time (Some d)
     by = does c told
 
+    abbrev has : HasPart qs was d.taken
+    has = by.part d refl
+
     abbrev look : Look
-    look = look_of was.links s time count d.kind by.part by.right (words_heard was (Some d))
+    look = look_of was.links s time count d.kind has.part has.right (words_heard was (Some d))
 
     steps : Steps step now cs' s (state_of s h) look (Some d)
-    steps = by.does s look fits (sees_parts law setup h was branch [] (told_of cs qs) c time (length h + 1) s look kept told refl fits (look_sees was.links s time count d.kind by.part by.right (words_heard was (Some d))) refl)
-        (λ x is. ap (λ (y : Done). failed_in y.kind) (some_same d x is)) (λ x is. (refl, refl)) (λ x is. ap (λ (y : Done). words_heard was (Some y)) (some_same d x is))
+    steps = by.does s look fits (sees_parts law setup h was branch [] (told_of cs qs) c time (length h + 1) s look kept told refl fits (look_sees was.links s time count d.kind has.part has.right (words_heard was (Some d))) refl)
+        (λ x is. ap (λ (y : Done). failed_in y.kind) (some_same d x is)) (λ x is. subst (λ (y : Done). IsPartAsked qs was y.taken has.part has.right) (some_same d x is) has.asked)
+        (λ x is. ap (λ (y : Done). words_heard was (Some y)) (some_same d x is))
       where
         some_same : (x y : Done) → Some x ≡ Some y → x ≡ y
         some_same x y is = cc
@@ -253,7 +256,7 @@ module _ (step : Stepper) (setup : Setup) (h : List Entry) (was now : PartsView)
 
 -- the store may have been asked, and the rest is as it was
 pub kept_asked : (step : Stepper) (law : CountLaw) (setup : Setup) (h : List Entry) (was : PartsView) (branch : Files) (owed : List Owed) (cs cs' : Option Contents) (qs qs' : Option StoredParts) (time : ℕ)
-    → IsKept setup h was branch owed (told_of cs qs) → ForSome (told_of cs qs) (λ c. DoesBy step was was c cs' setup h time None) → is_some qs' ≡ is_some qs → (is_some qs ≡ true → is_some cs' ≡ is_some cs)
+    → IsKept setup h was branch owed (told_of cs qs) → ForSome (told_of cs qs) (λ c. DoesBy step was was c qs cs' setup h time None) → is_some qs' ≡ is_some qs → (is_some qs ≡ true → is_some cs' ≡ is_some cs)
     → IsKept setup h was branch owed (told_of cs' qs')
 kept_asked step law setup h was branch owed cs cs' qs qs' time kept does told_parts told_contents = record {
   state = λ s fits.

@@ -1,11 +1,19 @@
 -- A turn of a node, from its steps.
-use Rattle.std.proofs.Common.{◌≡◌, ◌≢◌, ℕ, Bool, true, false, List, [], ◌∷◌, Option, Some, None, Result, Ok, Err, IfOk, OnErr, map, is_some, refl, ap, subst, ◌∙◌}
+use Rattle.std.proofs.Common.{◌≡◌, ◌≢◌, ℕ, Bool, true, false, List, [], ◌∷◌, Option, Some, None, Result, Ok, Err, IfOk, OnErr, map, is_some, refl, sym, ap, subst, ◌∙◌}
+use Rattle.std.specs.Prelude.{if◌then◌else◌}
 use Rattle.std.specs.Option.{ForSome}
+use Rattle.annex_base.specs.declared.kinds.Call.{Call}
 use Rattle.annex_base.specs.declared.memory.NoMemory.{NoMemory}
+use Rattle.run_data.specs.declared.entry.EntryKind.{EntryKind}
+use Rattle.run_data.specs.declared.entry.FrameView.{FrameView}
 use Rattle.object_store.specs.declared.keeper.HoldRecord.{HoldRecord}
 use Rattle.object_store.specs.Stores.{Contents, Files as StoredFiles, Parts as StoredParts}
 use Rattle.link_ring.specs.Ends.{EndView, after_drop}
+use Rattle.drop_worker.specs.Working.{failed_in}
+use Rattle.content_lock.specs.CallsMade.{MakesCalls}
 use Rattle.node_ends.specs.Ends.{SeesEnds}
+use Rattle.node_jobs.specs.Calls.{job_calls}
+use Rattle.node_sessions.specs.Calls.{session_calls}
 use Rattle.node_model.specs.Look.{Look, Made, first_of}
 use Rattle.node_model.specs.Owed.{Owed}
 use Rattle.node_model.specs.OwedStep.{owed_step, pays_first}
@@ -18,8 +26,9 @@ use Rattle.repo_node.specs.declared.turn.Turn.TheVariants as turns
 use Rattle.repo_node.specs.Nodes.{Fits, IsState, NodeView, state_of}
 use Rattle.repo_node.specs.Owing.{is_owing}
 use Rattle.repo_node.specs.Stepping.{AddsIf, MovesSo, NoStep, ReadySo}
-use Rattle.repo_node.specs.Stored.{TellsSame}
-use Rattle.repo_node.specs.Turning.{HasStep, IsIdle, Looks, Stepper, StepsBy}
+use Rattle.repo_node.specs.Stored.{StoreView, TellsSame}
+use Rattle.repo_node.specs.TurnCalls.{moving_calls, owed_calls, step_calls}
+use Rattle.repo_node.specs.Turning.{Adds, Caller, Finds, HasStep, IsIdle, Looks, Stepper, StepsBy}
 use Rattle.repo_node.specs.Turns.{turn_full, turn_made}
 
 -- ---- a line that is owed comes first
@@ -48,39 +57,60 @@ Owes n = (s : SetUp) → Fits n.setup s → (state_of s n.history).owed ≡ n.ow
 pub owes_told : {K : Type 0} (n : NodeView K) (told : Option Contents) (c : Contents) → ((s : SetUp) → Fits n.setup s → IsState s n.parts n.branch n.owed told (state_of s n.history)) → told ≡ Some c → Owes n
 owes_told n told c is known s fits = ((is s fits).stands c known).owed_are
 
-steps_first : {K : Type 0} (first : Stepper) (n m : NodeView K) → ((s : SetUp) (k : Look) (made : Made) → Fits n.setup s → Looks n s k → first s (state_of s n.history) k ≡ Some made → step s (state_of s n.history) k ≡ Some made)
-    → StepsBy first n m → StepsBy step n m
-steps_first first n m is by = record {
+steps_first : {K : Type 0} (first : Stepper) (caller : Caller) (before after : StoreView) (n m : NodeView K)
+    → ((s : SetUp) (k : Look) (made : Made) → Fits n.setup s → Looks n s k → first s (state_of s n.history) k ≡ Some made → (step s (state_of s n.history) k ≡ Some made) × (step_calls s (state_of s n.history) k ≡ caller s (state_of s n.history) k))
+    → StepsBy first caller before after n m → StepsBy step step_calls before after n m
+steps_first first caller before after n m is by = record {
   kind = by.kind;
+  taken = by.taken;
   part = by.part;
-  right = by.right;
-  makes = λ s k fits looks fails part right words.
-      let it = by.makes s k fits looks fails part right words in
-      record { made = it.made; same = it.same; makes = is s k it.made fits looks it.makes; adds = it.adds };
+  makes = λ s k fits looks finds.
+      let it = by.makes s k fits looks finds in
+      record { made = it.made; same = it.same; takes = it.takes; makes = (is s k it.made fits looks it.makes).0; adds = it.adds };
+  calls = λ s k fits looks finds.
+      let it = by.makes s k fits looks finds in
+      subst (λ (calls : List Call). MakesCalls calls (failed_in by.kind) before.failing after.failing) (sym (is s k it.made fits looks it.makes).1) (by.calls s k fits looks finds);
 }
 
-pub owed_first : {K : Type 0} (r : Result Bool NoMemory) (n m : NodeView K) (told : Option Contents) → IfOk r (λ b. b ≡ true) → IfOk r (λ b. ForSome told (λ c. MovesSo b owed_step n m)) → IfOk r (λ b. ForSome told (λ c. MovesSo b step n m))
-owed_first (Ok true) n m told made moves = λ c known.
-    steps_first owed_step n m (λ s k it fits looks is. ap (λ (o : Option Made). first_of o (first_of (session_step s (state_of s n.history) k) (job_step s (state_of s n.history) k))) is) (moves c known)
-owed_first (Ok false) n m told made moves = absurd cc
-owed_first (Err e) n m told made moves = tt
-
--- no line is owed, and a session has a step
-pub served_first : {K : Type 0} (n m : NodeView K) → Owes n → is_owing n.owed ≡ false → StepsBy session_step n m → StepsBy step n m
-served_first n m owes none by = steps_first session_step n m
+pub owed_first : {K : Type 0} (r : Result Bool NoMemory) (before after : StoreView) (n m : NodeView K) (told : Option Contents) → IfOk r (λ b. b ≡ true) → IfOk r (λ b. ForSome told (λ c. MovesSo b owed_step owed_calls before after n m))
+    → IfOk r (λ b. ForSome told (λ c. MovesSo b step step_calls before after n m))
+owed_first (Ok true) before after n m told made moves = λ c known.
+    steps_first owed_step owed_calls before after n m
     (λ s k it fits looks is.
     let st : State = state_of s n.history in
-    ap (λ (o : Option Made). first_of o (first_of (session_step s st k) (job_step s st k))) (none_owed s st k n.owed (owes s fits) none) ∙ ap (λ (o : Option Made). first_of o (job_step s st k)) is) by
+    (ap (λ (o : Option Made). first_of o (first_of (session_step s st k) (job_step s st k))) is, ap (λ (o : Option Made). if is_some o then owed_calls s st k else moving_calls s st k) is)) (moves c known)
+owed_first (Ok false) before after n m told made moves = absurd cc
+owed_first (Err e) before after n m told made moves = tt
+
+-- no line is owed, and a session has a step
+pub served_first : {K : Type 0} (before after : StoreView) (n m : NodeView K) → Owes n → is_owing n.owed ≡ false → StepsBy session_step session_calls before after n m → StepsBy step step_calls before after n m
+served_first before after n m owes none by = steps_first session_step session_calls before after n m
+    (λ s k it fits looks is.
+    let st : State = state_of s n.history in
+    let unowed = none_owed s st k n.owed (owes s fits) none in (
+      ap (λ (o : Option Made). first_of o (first_of (session_step s st k) (job_step s st k))) unowed ∙ ap (λ (o : Option Made). first_of o (job_step s st k)) is,
+      ap (λ (o : Option Made). if is_some o then owed_calls s st k else moving_calls s st k) unowed ∙ ap (λ (o : Option Made). if is_some o then session_calls s st k else job_calls s st k) is,
+    )) by
 
 -- neither, and a job has one or hasn't
-job_is : {K : Type 0} (n : NodeView K) → Owes n → is_owing n.owed ≡ false → NoStep session_step n → (s : SetUp) (k : Look) → Fits n.setup s → Looks n s k → step s (state_of s n.history) k ≡ job_step s (state_of s n.history) k
-job_is n owes none idle s k fits looks =
-    let st : State = state_of s n.history in
-    ap (λ (o : Option Made). first_of o (first_of (session_step s st k) (job_step s st k))) (none_owed s st k n.owed (owes s fits) none) ∙ ap (λ (o : Option Made). first_of o (job_step s st k)) (idle s k fits looks)
+module _ {K : Type 0} (n : NodeView K) (owes : Owes n) (none : is_owing n.owed ≡ false) (idle : NoStep session_step n) (s : SetUp) (k : Look) (fits : Fits n.setup s) (looks : Looks n s k) where
+  abbrev here : State
+  here = state_of s n.history
 
-acted_same : {K : Type 0} (b : Bool) (n m : NodeView K) → Owes n → is_owing n.owed ≡ false → NoStep session_step n → MovesSo b job_step n m → MovesSo b step n m
-acted_same true n m owes none idle moves = steps_first job_step n m (λ s k it fits looks is. job_is n owes none idle s k fits looks ∙ is) moves
-acted_same false n m owes none idle moves = λ s k fits looks. job_is n owes none idle s k fits looks ∙ moves s k fits looks
+  job_is : step s here k ≡ job_step s here k
+  job_is =
+      ap (λ (o : Option Made). first_of o (first_of (session_step s here k) (job_step s here k))) (none_owed s here k n.owed (owes s fits) none)
+      ∙ ap (λ (o : Option Made). first_of o (job_step s here k)) (idle s k fits looks)
+
+  job_calls_are : step_calls s here k ≡ job_calls s here k
+  job_calls_are =
+      ap (λ (o : Option Made). if is_some o then owed_calls s here k else moving_calls s here k) (none_owed s here k n.owed (owes s fits) none)
+      ∙ ap (λ (o : Option Made). if is_some o then session_calls s here k else job_calls s here k) (idle s k fits looks)
+
+acted_same : {K : Type 0} (b : Bool) (before after : StoreView) (n m : NodeView K) → Owes n → is_owing n.owed ≡ false → NoStep session_step n → MovesSo b job_step job_calls before after n m → MovesSo b step step_calls before after n m
+acted_same true before after n m owes none idle moves = steps_first job_step job_calls before after n m
+    (λ s k it fits looks is. (job_is n owes none idle s k fits looks ∙ is, job_calls_are n owes none idle s k fits looks)) moves
+acted_same false before after n m owes none idle moves = λ s k fits looks. job_is n owes none idle s k fits looks ∙ moves s k fits looks
 
 -- ---- a step is ready
 
@@ -106,14 +136,18 @@ DropLaw = (links : List EndView) (s : SetUp) (k : Look) → SeesEnds links s k �
 looks_dropped : {K : Type 0} (n : NodeView K) (s : SetUp) (k : Look) → DropLaw → Looks n s k → Looks (dropped n) s k
 looks_dropped n s k law looks = record { ends = law n.parts.links s k looks.ends; time = looks.time; count = looks.count }
 
-turns_dropped : {K : Type 0} (n m : NodeView K) → DropLaw → StepsBy step (dropped n) m → StepsBy step n m
-turns_dropped n m law by = record {
+finds_dropped : {K : Type 0} (known : Option StoredParts) (n : NodeView K) (kind : EntryKind) (taken : Option FrameView) (k : Look) → Finds known n kind taken k → Finds known (dropped n) kind taken k
+finds_dropped known n kind taken k finds = record { fails = finds.fails; part = finds.part; words = finds.words }
+
+turns_dropped : {K : Type 0} (caller : Caller) (before after : StoreView) (n m : NodeView K) → DropLaw → StepsBy step caller before after (dropped n) m → StepsBy step caller before after n m
+turns_dropped caller before after n m law by = record {
   kind = by.kind;
-  part = by.part;
-  right = by.right;
-  makes = λ s k fits looks fails part right words.
-      let it = by.makes s k fits (looks_dropped n s k law looks) fails part right words in
-      record { made = it.made; same = it.same; makes = it.makes; adds = it.adds };
+  taken = by.taken;
+  part = record { part = by.part.part; right = by.part.right; asked = by.part.asked };
+  makes = λ s k fits looks finds.
+      let it = by.makes s k fits (looks_dropped n s k law looks) (finds_dropped before.parts n by.kind by.taken k finds) in
+      record { made = it.made; same = it.same; takes = it.takes; makes = it.makes; adds = it.adds };
+  calls = λ s k fits looks finds. by.calls s k fits (looks_dropped n s k law looks) (finds_dropped before.parts n by.kind by.taken k finds);
 }
 
 -- by what the turn answers
@@ -137,27 +171,60 @@ full_idle P (Ok true) is p = absurd cc
 full_idle P (Ok false) is p = p
 full_idle P (Err e) is p = absurd cc
 
-pub where_still : {K : Type 0} (r : Result Bool NoMemory) (links : List EndView) (f f' : ℕ) (n m : NodeView K) → turn_made r ≢ turns.Moved → turn_made r ≢ turns.NoMemory → IfOk r (λ b. AddsIf b links f f' n m) → m ≡ n
-where_still (Ok true) links f f' n m other short adds = absurd (other refl)
-where_still (Ok false) links f f' n m other short adds = adds
-where_still (Err e) links f f' n m other short adds = absurd (short refl)
+pub where_still : {K : Type 0} (r : Result Bool NoMemory) (links : List EndView) (before after : StoreView) (n m : NodeView K) → turn_made r ≢ turns.Moved → turn_made r ≢ turns.NoMemory → IfOk r (λ b. AddsIf b links before after n m) → m ≡ n
+where_still (Ok true) links before after n m other short adds = absurd (other refl)
+where_still (Ok false) links before after n m other short adds = adds
+where_still (Err e) links before after n m other short adds = absurd (short refl)
 
 pub where_short : {P : Type 0} (r : Result Bool NoMemory) → turn_made r ≡ turns.NoMemory → OnErr r P → P
 where_short (Ok true) is said = absurd cc
 where_short (Ok false) is said = absurd cc
 where_short (Err e) is said = said
 
-pub tells_same : {K : Type 0} (cs : K → Option Contents) (ps : K → Option StoredParts) (rs : K → Option (List HoldRecord)) (fs : K → Option StoredFiles) (k k' : K) → k' ≡ k → TellsSame (cs k) (cs k') (ps k) (ps k') (rs k) (rs k') (fs k) (fs k')
-tells_same cs ps rs fs k k' same = record { contents = ap cs same; parts = ap ps same; records = ap rs same; files = ap fs same }
+pub tells_same : {K : Type 0} (cs : K → Option Contents) (ps : K → Option StoredParts) (rs : K → Option (List HoldRecord)) (fs : K → Option StoredFiles) (ns : K → Option (Call → ℕ)) (k k' : K) → k' ≡ k
+    → TellsSame (cs k) (cs k') (ps k) (ps k') (rs k) (rs k') (fs k) (fs k') (ns k) (ns k')
+tells_same cs ps rs fs ns k k' same = record { contents = ap cs same; parts = ap ps same; records = ap rs same; files = ap fs same; failing = ap ns same }
 
-pub turn_steps : {K : Type 0} (r : Result Bool NoMemory) (n n' m : NodeView K) (c : Contents) (told : Option Contents) → DropLaw → n' ≡ dropped n → turn_made r ≡ turns.Moved → told ≡ Some c → IfOk r (λ b. ForSome told (λ c. MovesSo b step n' m))
-    → StepsBy step n m
-turn_steps {K} r n n' m c told law same is known moves = turns_dropped n m law (subst (λ (x : NodeView K). StepsBy step x m) same (where_moved (λ b. ForSome told (λ c. MovesSo b step n' m)) r is moves c known))
+pub turn_steps : {K : Type 0} (view : K → StoreView) (r : Result Bool NoMemory) (n n' m : NodeView K) (c : Contents) (told : Option Contents) → DropLaw → n' ≡ dropped n → turn_made r ≡ turns.Moved → told ≡ Some c
+    → IfOk r (λ b. ForSome told (λ c. MovesSo b step step_calls (view n'.keeper) (view m.keeper) n' m)) → StepsBy step step_calls (view n.keeper) (view m.keeper) n m
+turn_steps {K} view r n n' m c told law same is known moves =
+    turns_dropped step_calls (view n.keeper) (view m.keeper) n m law
+    (subst (λ (x : NodeView K). StepsBy step step_calls (view x.keeper) (view m.keeper) x m) same
+    (where_moved (λ b. ForSome told (λ c. MovesSo b step step_calls (view n'.keeper) (view m.keeper) n' m)) r is moves c known))
 
-pub turn_idle : {K : Type 0} (r : Result Bool NoMemory) (n n' m : NodeView K) (c : Contents) (told : Option Contents) → DropLaw → n' ≡ dropped n → turn_made r ≡ turns.Idle → told ≡ Some c → IfOk r (λ b. ForSome told (λ c. MovesSo b step n' m))
-    → (s : SetUp) → Fits n.setup s → IsIdle n s
-turn_idle {K} r n n' m c told law same is known moves s fits k looks =
-    (subst (λ (x : NodeView K). NoStep step x) same (where_idle (λ b. ForSome told (λ c. MovesSo b step n' m)) r is moves c known)) s k fits (looks_dropped n s k law looks)
+-- what is added to the node without those frames is added to the node
+adds_dropped : {K : Type 0} (before after : StoreView) (n m : NodeView K) → Adds (map after_drop n.parts.links) before after (dropped n) m → Adds (map after_drop n.parts.links) before after n m
+adds_dropped before after n m adds = record {
+  entry = adds.entry;
+  history = adds.history;
+  outcomes = adds.outcomes;
+  time = adds.time;
+  count = adds.count;
+  repo = adds.repo;
+  counted = adds.counted;
+  at = adds.at;
+  setup = adds.setup;
+  branch = adds.branch;
+  ends = adds.ends;
+  posts = adds.posts;
+  jobs = adds.jobs;
+  contents = adds.contents;
+  parts = adds.parts;
+  left = adds.left;
+  cause = adds.cause;
+}
+
+pub turn_adds : {K : Type 0} (view : K → StoreView) (r : Result Bool NoMemory) (n n' m : NodeView K) → n' ≡ dropped n → turn_made r ≡ turns.Moved
+    → IfOk r (λ b. AddsIf b n'.parts.links (view n'.keeper) (view m.keeper) n' m) → Adds (map after_drop n.parts.links) (view n.keeper) (view m.keeper) n m
+turn_adds {K} view r n n' m same is adds =
+    adds_dropped (view n.keeper) (view m.keeper) n m
+    (subst (λ (x : NodeView K). Adds x.parts.links (view x.keeper) (view m.keeper) x m) same
+    (where_moved (λ b. AddsIf b n'.parts.links (view n'.keeper) (view m.keeper) n' m) r is adds))
+
+pub turn_idle : {K : Type 0} (r : Result Bool NoMemory) (before after : StoreView) (n n' m : NodeView K) (c : Contents) (told : Option Contents) → DropLaw → n' ≡ dropped n → turn_made r ≡ turns.Idle → told ≡ Some c
+    → IfOk r (λ b. ForSome told (λ c. MovesSo b step step_calls before after n' m)) → (s : SetUp) → Fits n.setup s → IsIdle n s
+turn_idle {K} r before after n n' m c told law same is known moves s fits k looks =
+    (subst (λ (x : NodeView K). NoStep step x) same (where_idle (λ b. ForSome told (λ c. MovesSo b step step_calls before after n' m)) r is moves c known)) s k fits (looks_dropped n s k law looks)
 
 none_is : (o : Option Made) → is_some o ≡ false → o ≡ None
 none_is None is = refl
@@ -185,19 +252,23 @@ ready_if (Err e) n told is none ready = tt
 
 -- ---- one step of the three
 
-pub first_served : {K : Type 0} (b : Bool) (n m : NodeView K) (told : Option Contents) → ((s : SetUp) → Fits n.setup s → IsState s n.parts n.branch n.owed told (state_of s n.history)) → is_owing n.owed ≡ false → b ≡ true
-    → ForSome told (λ c. MovesSo b session_step n m) → ForSome told (λ c. StepsBy step n m)
-first_served b n m told is none made moves = λ c known.
-    served_first n m (owes_told n told c is known) none (subst (λ (x : Bool). MovesSo x session_step n m) made (moves c known))
+pub first_served : {K : Type 0} (b : Bool) (before after : StoreView) (n m : NodeView K) (told : Option Contents) → ((s : SetUp) → Fits n.setup s → IsState s n.parts n.branch n.owed told (state_of s n.history)) → is_owing n.owed ≡ false → b ≡ true
+    → ForSome told (λ c. MovesSo b session_step session_calls before after n m) → ForSome told (λ c. StepsBy step step_calls before after n m)
+first_served b before after n m told is none made moves = λ c known.
+    served_first before after n m (owes_told n told c is known) none (subst (λ (x : Bool). MovesSo x session_step session_calls before after n m) made (moves c known))
 
-pub still_is : {K : Type 0} (b : Bool) (links : List EndView) (f f' : ℕ) (n m : NodeView K) → b ≡ false → AddsIf b links f f' n m → m ≡ n
-still_is {K} b links f f' n m made adds = subst (λ (x : Bool). AddsIf x links f f' n m) made adds
+pub still_is : {K : Type 0} (b : Bool) (links : List EndView) (before after : StoreView) (n m : NodeView K) → b ≡ false → AddsIf b links before after n m → m ≡ n
+still_is {K} b links before after n m made adds = subst (λ (x : Bool). AddsIf x links before after n m) made adds
 
-pub then_acted : {K : Type 0} (r : Result Bool NoMemory) (b : Bool) (n n' m : NodeView K) (told told' : Option Contents)
+pub then_acted : {K : Type 0} (view : K → StoreView) (r : Result Bool NoMemory) (b : Bool) (middle : StoreView) (n n' m : NodeView K) (told told' : Option Contents)
     → ((s : SetUp) → Fits n.setup s → IsState s n.parts n.branch n.owed told (state_of s n.history)) → is_owing n.owed ≡ false → b ≡ false
-    → ForSome told (λ c. MovesSo b session_step n n') → n' ≡ n → told' ≡ told
-    → IfOk r (λ x. ForSome told' (λ c. MovesSo x job_step n' m)) → IfOk r (λ x. ForSome told (λ c. MovesSo x step n m))
-then_acted {K} (Ok x) b n n' m told told' is none made idle same tells moves = λ c known.
-    acted_same x n m (owes_told n told c is known) none (subst (λ (y : Bool). MovesSo y session_step n n') made (idle c known))
-    (subst (λ (v : NodeView K). MovesSo x job_step v m) same (moves c (tells ∙ known)))
-then_acted (Err e) b n n' m told told' is none made idle same tells moves = tt
+    → ForSome told (λ c. MovesSo b session_step session_calls (view n.keeper) middle n n') → n' ≡ n → told' ≡ told
+    → IfOk r (λ x. ForSome told' (λ c. MovesSo x job_step job_calls (view n'.keeper) (view m.keeper) n' m)) → IfOk r (λ x. ForSome told (λ c. MovesSo x step step_calls (view n.keeper) (view m.keeper) n m))
+then_acted {K} view (Ok x) b middle n n' m told told' is none made idle same tells moves = λ c known.
+    acted_same x (view n.keeper) (view m.keeper) n m (owes_told n told c is known) none (subst (λ (y : Bool). MovesSo y session_step session_calls (view n.keeper) middle n n') made (idle c known))
+    (subst (λ (v : NodeView K). MovesSo x job_step job_calls (view v.keeper) (view m.keeper) v m) same (moves c (tells ∙ known)))
+then_acted {K} view (Err e) b middle n n' m told told' is none made idle same tells moves = tt
+
+-- what is added over a store that was as it is
+pub adds_over : {K : Type 0} (view : K → StoreView) (r : Result Bool NoMemory) (n n' m : NodeView K) → n' ≡ n → IfOk r (λ b. AddsIf b n'.parts.links (view n'.keeper) (view m.keeper) n' m) → IfOk r (λ b. AddsIf b n.parts.links (view n.keeper) (view m.keeper) n m)
+adds_over {K} view r n n' m same adds = subst (λ (v : NodeView K). IfOk r (λ b. AddsIf b v.parts.links (view v.keeper) (view m.keeper) v m)) same adds

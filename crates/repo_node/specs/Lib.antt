@@ -7,9 +7,11 @@ pub mod Logs
 pub mod Walks
 pub mod Debts
 pub mod Placing
+pub mod Calls
 pub mod Indexed
 pub mod Refusals
 pub mod Pasts
+pub mod TurnCalls
 pub mod Turning
 pub mod Stepping
 pub mod Turns

@@ -1,6 +1,7 @@
 //! Compactions of a node's files.
-ghost use Rattle.std.specs.Prelude.{◌≡◌, ◌≤◌, [], Some, IfOk, IfErr, IsErrOf, OnOk};
+ghost use Rattle.std.specs.Prelude.{◌≡◌, ◌≤◌, [], ◌∷◌, Some, IfOk, IfErr, IsErrOf, OnOk};
 ghost use Rattle.std.specs.Map.{keys_of};
+ghost use Rattle.std.specs.Option.{ForSome};
 ghost use Rattle.annex_base.specs.Causes.{Rose};
 ghost use Rattle.annex_base.specs.Lists.{Each};
 ghost use Rattle.annex_base.specs.declared.kinds.Call.TheVariants as calls;
@@ -9,6 +10,7 @@ ghost use Rattle.run_data.specs.declared.entry.EntryKind.TheVariants as kinds;
 ghost use Rattle.run_data.specs.Files.{file_of, file_path, kind_of};
 ghost use Rattle.union_merge.specs.Branch.{lines_at, with_file};
 ghost use Rattle.union_merge.specs.LineSet.{IsLine, IsLineSet};
+ghost use Rattle.repo_node.specs.Calls.{Makes, shrinks, to_compact, to_write};
 ghost use Rattle.repo_node.specs.Nodes.{with_entry};
 ghost use Rattle.repo_node.specs.Refusals.{RefusesSo};
 ghost use Rattle.repo_node.specs.Walks.{StopsAfter, compact_file, compact_files, current, over};
@@ -70,6 +72,7 @@ impl<K: Keeper> Node<K> {
         ensures parts { K.parts self.new.keeper ≡ K.parts self.old.keeper }
         ensures later { K.faults self.old.keeper ≤ K.faults self.new.keeper }
         ensures cause { IsErrOf result NodeRefused.StoreFault → Rose (K.faults self.old.keeper) (K.faults self.new.keeper) }
+        ensures calls { Makes (calls.PutFile ∷ []) calls.PutFile result (K.failing self.old.keeper) (K.failing self.new.keeper) }
     {
         // Laws, for the proof: only the file of this path changes, and a compaction keeps what its lines say.
         files_are_changed_alone();
@@ -99,6 +102,7 @@ impl<K: Keeper> Node<K> {
         ensures parts { K.parts self.new.keeper ≡ K.parts self.old.keeper }
         ensures later { K.faults self.old.keeper ≤ K.faults self.new.keeper }
         ensures cause { IsErrOf result NodeRefused.StoreFault → Rose (K.faults self.old.keeper) (K.faults self.new.keeper) }
+        ensures calls { Makes (to_write (shrinks self.old (file_of path.now))) calls.PutFile result (K.failing self.old.keeper) (K.failing self.new.keeper) }
     {
         // A law, for the proof: the file of a path stands there.
         files_have_their_paths();
@@ -125,6 +129,8 @@ impl<K: Keeper> Node<K> {
         ensures parts { K.parts self.new.keeper ≡ K.parts self.old.keeper }
         ensures later { K.faults self.old.keeper ≤ K.faults self.new.keeper }
         ensures cause { IsErrOf result NodeRefused.StoreFault → Rose (K.faults self.old.keeper) (K.faults self.new.keeper) }
+        ensures calls { Makes (to_compact self.old) calls.PutFile result (K.failing self.old.keeper) (K.failing self.new.keeper) }
+        ensures alone { IsErrOf result NodeRefused.StoreFault → ForSome (K.failing self.old.keeper) (λ failing. RefusesSo NodeRefused.StoreFault calls.PutFile self.old self.new) }
     {
         let branch = self.branch();
         let paths = paths_of(branch)?;

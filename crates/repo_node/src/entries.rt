@@ -3,6 +3,7 @@ ghost use Rattle.std.specs.Prelude.{◌≡◌, ℕ, ◌+◌, ◌<◌, ◌≤◌,
 ghost use Rattle.annex_base.specs.declared.kinds.Call.{Call};
 ghost use Rattle.object_store.specs.declared.keeper.KeeperFault.TheVariants as faults;
 ghost use Rattle.run_data.specs.declared.entry.By.{By};
+ghost use Rattle.repo_node.specs.Calls.{refusal_of};
 ghost use Rattle.repo_node.specs.Pasts.{AddsTo, FailsFor, IsReady, SamePast};
 
 use crate::past::Past;
@@ -100,6 +101,8 @@ impl Past {
         requires { IsReady self.old }
         ensures entry { FailsFor by result call self.old self.new }
         ensures failed { result ≡ NodeRefused.StoreFault → fault ≡ faults.Failed }
+        ensures told { fault ≡ faults.Failed → result ≡ NodeRefused.StoreFault }
+        ensures answer { result ≡ refusal_of fault }
     {
         match fault {
             KeeperFault::NoMemory => NodeRefused::NoMemory,

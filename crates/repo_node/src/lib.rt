@@ -7,6 +7,7 @@ mod compacting;
 mod entering;
 mod entries;
 mod indexing;
+mod laws;
 mod logs;
 mod merging;
 mod node;
@@ -22,6 +23,7 @@ mod writing;
 
 pub use beginning::BeginRefused;
 pub use carrying::carry_nodes;
+pub use laws::steps_tell_the_failed_call;
 pub use node::Node;
 pub use refused::NodeRefused;
 pub use setup::{Ended, Setup};

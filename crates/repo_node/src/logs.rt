@@ -6,6 +6,7 @@ ghost use Rattle.run_data.specs.Files.{HasPath, file_of, file_path};
 ghost use Rattle.run_data.specs.declared.entry.EntryKind.TheVariants as kinds;
 ghost use Rattle.union_merge.specs.Branch.{lines_at, merged_file};
 ghost use Rattle.union_merge.specs.LineSet.{IsLine, difference, union};
+ghost use Rattle.repo_node.specs.Calls.{Makes, to_log};
 ghost use Rattle.repo_node.specs.Logs.{with_lines, with_log};
 ghost use Rattle.repo_node.specs.Nodes.{are_due, with_entry};
 ghost use Rattle.repo_node.specs.Refusals.{RefusesFor, RefusesSo};
@@ -102,6 +103,7 @@ impl<K: Keeper> Node<K> {
         ensures parts { K.parts self.new.keeper ≡ K.parts self.old.keeper }
         ensures later { K.faults self.old.keeper ≤ K.faults self.new.keeper }
         ensures cause { IsErrOf result NodeRefused.StoreFault → Rose (K.faults self.old.keeper) (K.faults self.new.keeper) }
+        ensures calls { Makes (calls.PutFile ∷ []) calls.PutFile result (K.failing self.old.keeper) (K.failing self.new.keeper) }
     {
         let paid = self.are_due(path, new.lines())?;
         self.log_paid(file, path, new, by, paid)
@@ -128,6 +130,7 @@ impl<K: Keeper> Node<K> {
         ensures err_files { OnErr result (K.files self.new.keeper ≡ K.files self.old.keeper) }
         ensures later { K.faults self.old.keeper ≤ K.faults self.new.keeper }
         ensures cause { IsErrOf result NodeRefused.StoreFault → Rose (K.faults self.old.keeper) (K.faults self.new.keeper) }
+        ensures calls { Makes (calls.PutFile ∷ []) calls.PutFile result (K.failing self.old.keeper) (K.failing self.new.keeper) }
     {
         // Laws, for the proof: only the file of this path changes, and what lines say depends on which they are.
         files_are_changed_alone();
@@ -156,6 +159,7 @@ impl<K: Keeper> Node<K> {
         ensures parts { K.parts self.new.keeper ≡ K.parts self.old.keeper }
         ensures later { K.faults self.old.keeper ≤ K.faults self.new.keeper }
         ensures cause { IsErrOf result NodeRefused.StoreFault → Rose (K.faults self.old.keeper) (K.faults self.new.keeper) }
+        ensures calls { Makes (to_log self.old file lines.now) calls.PutFile result (K.failing self.old.keeper) (K.failing self.new.keeper) }
     {
         let alloc = self.allocator();
         let path = file.path(alloc)?;
@@ -177,6 +181,7 @@ impl<K: Keeper> Node<K> {
         ensures parts { K.parts self.new.keeper ≡ K.parts self.old.keeper }
         ensures later { K.faults self.old.keeper ≤ K.faults self.new.keeper }
         ensures cause { IsErrOf result NodeRefused.StoreFault → Rose (K.faults self.old.keeper) (K.faults self.new.keeper) }
+        ensures calls { Makes (to_log self.old (file_of path.now) (line.now ∷ [])) calls.PutFile result (K.failing self.old.keeper) (K.failing self.new.keeper) }
     {
         let alloc = self.allocator();
         let lines = set_of_line(alloc, line)?;

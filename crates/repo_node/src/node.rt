@@ -8,6 +8,7 @@ ghost use Rattle.content_lock.specs.Stored.{Agrees};
 ghost use Rattle.link_ring.specs.Ends.{fresh};
 ghost use Rattle.object_store.specs.Calls.{one_more};
 ghost use Rattle.node_model.specs.SetUp.{SetUp};
+ghost use Rattle.node_parts.specs.Sound.{AreSound};
 ghost use Rattle.repo_node.specs.Nodes.{Fits, HasFiles, IsState, state_of, told_of};
 ghost use Rattle.repo_node.specs.Refusals.{most_entries};
 ghost use Rattle.repo_node.specs.Stored.{HasNothing};
@@ -124,7 +125,12 @@ impl<K: Keeper> Node<K> {
         ensures state { (s : SetUp) → Fits self.now.setup s → IsState s self.now.parts self.now.branch self.now.owed (told_of (K.contents self.now.keeper) (K.parts self.now.keeper)) (state_of s self.now.history) }
         ensures files { HasFiles (K.files self.now.keeper) self.now.branch }
         ensures records { Agrees (K.records self.now.keeper) self.now.parts.table.holds }
+
+        // Its sessions, its jobs and its ends have what is theirs.
+        ensures sound { AreSound self.now.parts }
     {
+        // For the proof: what its parts have is sound.
+        let _ = self.parts.table();
         &self.past.history
     }
 

@@ -14,6 +14,7 @@ ghost use Rattle.hash_dirs.specs.LogPath.{location_path};
 ghost use Rattle.run_data.specs.Files.{file_path};
 ghost use Rattle.run_data.specs.declared.entry.Entry.{Entry};
 ghost use Rattle.run_data.specs.declared.entry.LogFile.{LogFile};
+ghost use Rattle.repo_node.specs.Calls.{Makes};
 ghost use Rattle.repo_node.specs.Debts.{AddsStep, IsDraftOf, IsFirstDraft, WhereMade, failed_put, owed_line_of, with_status};
 ghost use Rattle.repo_node.specs.Nodes.{Fits, are_due, due_by, id_known, is_due, state_of, told_of};
 ghost use Rattle.repo_node.specs.Owing.{AreDebts, IsFirstOf, is_owing, owed_at, owed_by, owed_of};
@@ -273,6 +274,7 @@ impl<K: Keeper> Node<K> {
         ensures parts { K.parts self.new.keeper ≡ K.parts self.old.keeper }
         ensures later { K.faults self.old.keeper ≤ K.faults self.new.keeper }
         ensures cause { IsErrOf result NodeRefused.StoreFault → Rose (K.faults self.old.keeper) (K.faults self.new.keeper) }
+        ensures calls { Makes (calls.PutFile ∷ []) calls.PutFile result (K.failing self.old.keeper) (K.failing self.new.keeper) }
     {
         let draft = self.drafted(key, repo, there, by)?;
         self.log(draft.file, draft.path.bytes(), &draft.new, by)
@@ -291,6 +293,7 @@ impl<K: Keeper> Node<K> {
         ensures err_files { OnErr result (K.files self.new.keeper ≡ K.files self.old.keeper) }
         ensures later { K.faults self.old.keeper ≤ K.faults self.new.keeper }
         ensures cause { IsErrOf result NodeRefused.StoreFault → Rose (K.faults self.old.keeper) (K.faults self.new.keeper) }
+        ensures calls { Makes (calls.PutFile ∷ []) calls.PutFile result (K.failing self.old.keeper) (K.failing self.new.keeper) }
     {
         // For the proof: what the history leaves is what the node has.
         let _ = self.history();

@@ -1,5 +1,5 @@
 //! Contents and parts that a script puts into a node.
-ghost use Rattle.std.specs.Prelude.{◌≡◌, ◌≤◌, ◌++◌, Bool, true, false, [], length, option_map, IfOk, IfErr, IsErrOf, OnOk, OnErr};
+ghost use Rattle.std.specs.Prelude.{◌≡◌, ◌≤◌, ◌++◌, Bool, true, false, [], ◌∷◌, None, length, option_map, IfOk, IfErr, IsErrOf, OnOk, OnErr};
 ghost use Rattle.std.specs.Option.{ForSome};
 ghost use Rattle.annex_base.specs.Causes.{Rose};
 ghost use Rattle.annex_base.specs.declared.kinds.Call.TheVariants as calls;
@@ -8,6 +8,8 @@ ghost use Rattle.content_lock.specs.Rows.{is_filling};
 ghost use Rattle.object_store.specs.Stores.{contents_after_commit, with_at};
 ghost use Rattle.run_data.specs.declared.entry.By.TheVariants as bys;
 ghost use Rattle.run_data.specs.declared.entry.EntryKind.TheVariants as kinds;
+ghost use Rattle.repo_node.specs.Calls.{IsDoneBy, Makes, StopsAt, StopsEarly, to_place, to_place_part};
+ghost use Rattle.content_lock.specs.CallsMade.{MakesCalls};
 ghost use Rattle.repo_node.specs.Pasts.{AddsTo, FailsAtScripts, FailsFor, IsReady, SamePast};
 ghost use Rattle.repo_node.specs.Placing.{HasPart, IsPlaced, IsTaken, LeavesFilled, LeavesOthers, PartAfter, StopsBefore, StopsPlacing, with_gain};
 ghost use Rattle.repo_node.specs.Refusals.{RefusesSo};
@@ -37,12 +39,14 @@ fn is_taken<K: Keeper>(
     ensures same { OnOk result (SamePast past.old past.new) }
     ensures ready { OnOk result (IsReady past.new) }
     ensures err { IfErr result (λ e. FailsAtScripts e past.old past.new) }
+    ensures fails { IfErr result (λ e. FailsFor bys.Script e calls.Has past.old past.new) }
     ensures contents { K.contents keeper.new ≡ K.contents keeper.old }
     ensures parts { K.parts keeper.new ≡ K.parts keeper.old }
     ensures records { K.records keeper.new ≡ K.records keeper.old }
     ensures files { K.files keeper.new ≡ K.files keeper.old }
     ensures later { K.faults keeper.old ≤ K.faults keeper.new }
     ensures cause { IsErrOf result NodeRefused.StoreFault → Rose (K.faults keeper.old) (K.faults keeper.new) }
+    ensures calls { Makes (calls.Has ∷ []) calls.Has result (K.failing keeper.old) (K.failing keeper.new) }
 {
     match keeper.has(key) {
         Ok(here) => Ok(here || table.is_filling(key)),
@@ -58,11 +62,14 @@ fn drop_part<K: Keeper>(keeper: &mut K, past: &mut Past, key: &Key) -> Result<()
     ensures same { OnOk result (SamePast past.old past.new) }
     ensures ready { OnOk result (IsReady past.new) }
     ensures err { IfErr result (λ e. FailsAtScripts e past.old past.new) }
+    ensures fails { IfErr result (λ e. FailsFor bys.Script e calls.DropPart past.old past.new) }
     ensures contents { K.contents keeper.new ≡ K.contents keeper.old }
     ensures records { K.records keeper.new ≡ K.records keeper.old }
     ensures files { K.files keeper.new ≡ K.files keeper.old }
     ensures later { K.faults keeper.old ≤ K.faults keeper.new }
     ensures cause { IsErrOf result NodeRefused.StoreFault → Rose (K.faults keeper.old) (K.faults keeper.new) }
+    ensures err_parts { OnErr result (K.parts keeper.new ≡ K.parts keeper.old) }
+    ensures calls { Makes (calls.DropPart ∷ []) calls.DropPart result (K.failing keeper.old) (K.failing keeper.new) }
 {
     match keeper.drop_part(key) {
         Ok(()) => Ok(()),
@@ -82,11 +89,14 @@ fn append_part<K: Keeper>(
     ensures others { LeavesOthers key.now (K.parts keeper.old) (K.parts keeper.new) }
     ensures same { OnOk result (SamePast past.old past.new) }
     ensures err { IfErr result (λ e. FailsAtScripts e past.old past.new) }
+    ensures fails { IfErr result (λ e. FailsFor bys.Script e calls.Append past.old past.new) }
     ensures contents { K.contents keeper.new ≡ K.contents keeper.old }
     ensures records { K.records keeper.new ≡ K.records keeper.old }
     ensures files { K.files keeper.new ≡ K.files keeper.old }
     ensures later { K.faults keeper.old ≤ K.faults keeper.new }
     ensures cause { IsErrOf result NodeRefused.StoreFault → Rose (K.faults keeper.old) (K.faults keeper.new) }
+    ensures err_parts { OnErr result (K.parts keeper.new ≡ K.parts keeper.old) }
+    ensures calls { Makes (calls.Append ∷ []) calls.Append result (K.failing keeper.old) (K.failing keeper.new) }
 {
     match keeper.append_part(key, bytes) {
         Ok(()) => Ok(()),
@@ -99,6 +109,7 @@ fn ready(past: &mut Past) -> Result<(), NodeRefused>
     ensures ready { OnOk result (IsReady past.new) }
     ensures same { SamePast past.old past.new }
     ensures err { IfErr result (λ e. FailsAtScripts e past.old past.new) }
+    ensures fails { IfErr result (λ e. FailsFor bys.Script e calls.Has past.old past.new) }
     ensures no_fault { IsErrOf result NodeRefused.StoreFault → ⊥ }
 {
     past.ready()
@@ -121,6 +132,9 @@ fn replace_part<K: Keeper>(
     ensures files { K.files keeper.new ≡ K.files keeper.old }
     ensures later { K.faults keeper.old ≤ K.faults keeper.new }
     ensures cause { IsErrOf result NodeRefused.StoreFault → Rose (K.faults keeper.old) (K.faults keeper.new) }
+    ensures put { OnOk result (K.parts keeper.new ≡ option_map (λ p. with_at p key.now bytes.now) (K.parts keeper.old)) }
+    ensures done { OnOk result (MakesCalls (calls.DropPart ∷ calls.Append ∷ []) None (K.failing keeper.old) (K.failing keeper.new)) }
+    ensures stops { IfErr result (λ e. StopsEarly (calls.DropPart ∷ calls.Append ∷ []) key.now bytes.now (K.parts keeper.old) (K.parts keeper.new) (K.failing keeper.old) (K.failing keeper.new) e past.old past.new) }
 {
     drop_part(keeper, past, key)?;
     append_part(keeper, past, key, bytes)
@@ -147,6 +161,9 @@ fn bring_ready<K: Keeper>(
     ensures files { K.files keeper.new ≡ K.files keeper.old }
     ensures later { K.faults keeper.old ≤ K.faults keeper.new }
     ensures cause { IsErrOf result NodeRefused.StoreFault → Rose (K.faults keeper.old) (K.faults keeper.new) }
+    ensures put { IfOk result (λ taken. taken ≡ false → K.parts keeper.new ≡ option_map (λ p. with_at p key.now bytes.now) (K.parts keeper.old)) }
+    ensures done { IfOk result (λ taken. MakesCalls (to_place_part taken) None (K.failing keeper.old) (K.failing keeper.new)) }
+    ensures stops { IfErr result (λ e. (taken : Bool) × IsTaken taken (K.contents keeper.old) table.now key.now × StopsEarly (to_place_part taken) key.now bytes.now (K.parts keeper.old) (K.parts keeper.new) (K.failing keeper.old) (K.failing keeper.new) e past.old past.new) }
 {
     let taken = is_taken(keeper, table, past, key)?;
     if taken {
@@ -179,6 +196,9 @@ fn bring<K: Keeper>(
     ensures files { K.files keeper.new ≡ K.files keeper.old }
     ensures later { K.faults keeper.old ≤ K.faults keeper.new }
     ensures cause { IsErrOf result NodeRefused.StoreFault → Rose (K.faults keeper.old) (K.faults keeper.new) }
+    ensures put { IfOk result (λ taken. taken ≡ false → K.parts keeper.new ≡ option_map (λ p. with_at p key.now bytes.now) (K.parts keeper.old)) }
+    ensures done { IfOk result (λ taken. MakesCalls (to_place_part taken) None (K.failing keeper.old) (K.failing keeper.new)) }
+    ensures stops { IfErr result (λ e. (taken : Bool) × IsTaken taken (K.contents keeper.old) table.now key.now × StopsEarly (to_place_part taken) key.now bytes.now (K.parts keeper.old) (K.parts keeper.new) (K.failing keeper.old) (K.failing keeper.new) e past.old past.new) }
 {
     ready(past)?;
     bring_ready(keeper, table, past, key, bytes)
@@ -201,6 +221,7 @@ fn commit<K: Keeper>(
     ensures files { K.files keeper.new ≡ K.files keeper.old }
     ensures later { K.faults keeper.old ≤ K.faults keeper.new }
     ensures cause { IsErrOf result NodeRefused.StoreFault → Rose (K.faults keeper.old) (K.faults keeper.new) }
+    ensures calls { Makes (calls.Commit ∷ []) calls.Commit result (K.failing keeper.old) (K.failing keeper.new) }
 {
     past.ready()?;
     let copy = key.clone()?;
@@ -233,6 +254,9 @@ impl<K: Keeper> Node<K> {
         ensures contents { K.contents self.new.keeper ≡ K.contents self.old.keeper }
         ensures later { K.faults self.old.keeper ≤ K.faults self.new.keeper }
         ensures cause { IsErrOf result NodeRefused.StoreFault → Rose (K.faults self.old.keeper) (K.faults self.new.keeper) }
+        ensures put { IfOk result (λ taken. taken ≡ false → K.parts self.new.keeper ≡ option_map (λ p. with_at p key.now bytes.now) (K.parts self.old.keeper)) }
+        ensures done { IfOk result (λ taken. MakesCalls (to_place_part taken) None (K.failing self.old.keeper) (K.failing self.new.keeper)) }
+        ensures stops { IfErr result (λ e. StopsAt to_place_part key.now bytes.now (K.contents self.old.keeper) (K.contents self.new.keeper) (K.parts self.old.keeper) (K.parts self.new.keeper) (K.failing self.old.keeper) (K.failing self.new.keeper) e self.old self.new) }
     {
         // Laws, for the proof.
         parts_stay();
@@ -258,6 +282,9 @@ impl<K: Keeper> Node<K> {
         ensures err_contents { OnErr result (K.contents self.new.keeper ≡ K.contents self.old.keeper) }
         ensures later { K.faults self.old.keeper ≤ K.faults self.new.keeper }
         ensures cause { IsErrOf result NodeRefused.StoreFault → Rose (K.faults self.old.keeper) (K.faults self.new.keeper) }
+        ensures part { OnOk result (K.parts self.new.keeper ≡ option_map (λ p. with_at p key.now []) (K.parts self.old.keeper)) }
+        ensures err_parts { OnErr result (K.parts self.new.keeper ≡ K.parts self.old.keeper) }
+        ensures calls { Makes (calls.Commit ∷ []) calls.Commit result (K.failing self.old.keeper) (K.failing self.new.keeper) }
     {
         // Laws, for the proof.
         parts_stay();
@@ -277,6 +304,8 @@ impl<K: Keeper> Node<K> {
         ensures contents { K.contents self.new.keeper ≡ K.contents self.old.keeper }
         ensures later { K.faults self.old.keeper ≤ K.faults self.new.keeper }
         ensures cause { IsErrOf result NodeRefused.StoreFault → Rose (K.faults self.old.keeper) (K.faults self.new.keeper) }
+        ensures done { OnOk result (IsDoneBy to_place_part key.now bytes.now self.old.parts.table (K.contents self.old.keeper) (K.parts self.old.keeper) (K.parts self.new.keeper) (K.failing self.old.keeper) (K.failing self.new.keeper)) }
+        ensures stops { IfErr result (λ e. StopsAt to_place_part key.now bytes.now (K.contents self.old.keeper) (K.contents self.new.keeper) (K.parts self.old.keeper) (K.parts self.new.keeper) (K.failing self.old.keeper) (K.failing self.new.keeper) e self.old self.new) }
     {
         let _ = self.bring(key, bytes)?;
         Ok(())
@@ -290,6 +319,8 @@ impl<K: Keeper> Node<K> {
         ensures err { IfErr result (λ e. StopsPlacing key.now bytes.now (K.contents self.old.keeper) (K.parts self.old.keeper) (K.contents self.new.keeper) e self.old self.new) }
         ensures later { K.faults self.old.keeper ≤ K.faults self.new.keeper }
         ensures cause { IsErrOf result NodeRefused.StoreFault → Rose (K.faults self.old.keeper) (K.faults self.new.keeper) }
+        ensures done { OnOk result (IsDoneBy to_place key.now [] self.old.parts.table (K.contents self.old.keeper) (K.parts self.old.keeper) (K.parts self.new.keeper) (K.failing self.old.keeper) (K.failing self.new.keeper)) }
+        ensures stops { IfErr result (λ e. StopsAt to_place key.now bytes.now (K.contents self.old.keeper) (K.contents self.new.keeper) (K.parts self.old.keeper) (K.parts self.new.keeper) (K.failing self.old.keeper) (K.failing self.new.keeper) e self.old self.new) }
     {
         let number = self.past.number();
         let taken = self.bring(key, bytes)?;

@@ -1,14 +1,15 @@
 //! The entries that a script writes into a node's logs, at the node's wall clock.
-ghost use Rattle.std.specs.Prelude.{◌≡◌, ◌≤◌, ◌+◌, ℕ, [], ◌∷◌, Some, length, IfOk, IfErr, IsErrOf, OnOk};
+ghost use Rattle.std.specs.Prelude.{◌≡◌, ◌≤◌, ◌+◌, ℕ, [], ◌∷◌, Some, IfOk, IfErr, IsErrOf, OnOk};
 ghost use Rattle.std.specs.Option.{option_copied};
 ghost use Rattle.annex_base.specs.Causes.{Rose};
 ghost use Rattle.annex_base.specs.declared.kinds.Call.TheVariants as calls;
-ghost use Rattle.log_lines.specs.LineText.{HasLine, line_text};
+ghost use Rattle.log_lines.specs.LineText.{line_text};
 ghost use Rattle.log_lines.specs.Newest.{newest_stamp, stamp_in};
 ghost use Rattle.node_model.specs.Owed.{stamp_at};
 ghost use Rattle.run_data.specs.Files.{HasPath};
 ghost use Rattle.union_merge.specs.Branch.{lines_at};
 ghost use Rattle.union_merge.specs.LineSet.{IsLine};
+ghost use Rattle.repo_node.specs.Calls.{Makes, to_log};
 ghost use Rattle.repo_node.specs.Logs.{IsLogOf, log_of, stamped, stamped_by, with_lines};
 ghost use Rattle.repo_node.specs.Refusals.{RefusesSo};
 
@@ -98,8 +99,7 @@ pub(crate) fn line_at(
     kind: LogKind,
     entry: &Entry,
 ) -> Result<Line, NoMemory>
-    ensures text { IfOk result (λ line. line ≡ line_text kind (stamped kind (lines_at branch.now path.now) clock entry.now)) }
-    ensures line { HasLine kind (stamped kind (lines_at branch.now path.now) clock entry.now) → length (line_text kind (stamped kind (lines_at branch.now path.now) clock entry.now)) ≤ 8192 → IfOk result IsLine }
+    ensures { IfOk result (λ line. line ≡ line_text kind (stamped kind (lines_at branch.now path.now) clock entry.now)) }
 {
     let newest = newest_stamp(alloc, branch, path, kind, &entry.topic)?;
     let stamped = with_stamp(entry, next_stamp(newest, clock))?;
@@ -118,14 +118,14 @@ impl<K: Keeper> Node<K> {
         entry: &Entry,
     ) -> Result<(), NodeRefused>
         requires file { IsLogOf kind (option_copied key) }
-        requires line { HasLine kind (stamped_by self.old kind (option_copied key) entry.now) }
-        requires short { length (line_text kind (stamped_by self.old kind (option_copied key) entry.now)) ≤ 8192 }
+        requires line { IsLine (line_text kind (stamped_by self.old kind (option_copied key) entry.now)) }
         ensures ok { OnOk result (self.new ≡ with_lines self.old self.new.keeper (log_of kind (option_copied key.entry)) (line_text kind (stamped_by self.old kind (option_copied key.entry) entry.now) ∷ [])) }
         ensures err { IfErr result (λ e. RefusesSo e calls.PutFile self.old self.new) }
         ensures contents { K.contents self.new.keeper ≡ K.contents self.old.keeper }
         ensures parts { K.parts self.new.keeper ≡ K.parts self.old.keeper }
         ensures later { K.faults self.old.keeper ≤ K.faults self.new.keeper }
         ensures cause { IsErrOf result NodeRefused.StoreFault → Rose (K.faults self.old.keeper) (K.faults self.new.keeper) }
+        ensures calls { Makes (to_log self.old (log_of kind (option_copied key.entry)) (line_text kind (stamped_by self.old kind (option_copied key.entry) entry.now) ∷ [])) calls.PutFile result (K.failing self.old.keeper) (K.failing self.new.keeper) }
     {
         let alloc = self.allocator();
         let file = log_of(kind, key)?;

@@ -3,14 +3,18 @@ ghost use Rattle.std.specs.Prelude.{◌≡◌, ◌≤◌, ℕ, true, false, Bool
 ghost use Rattle.std.specs.Option.{ForSome};
 ghost use Rattle.link_ring.specs.Ends.{after_drop};
 ghost use Rattle.node_ends.specs.Joined.{StayPaired};
+ghost use Rattle.node_jobs.specs.Calls.{job_calls};
+ghost use Rattle.node_sessions.specs.Calls.{session_calls};
 ghost use Rattle.node_model.specs.OwedStep.{owed_step};
 ghost use Rattle.node_model.specs.SessionStep.{session_step};
 ghost use Rattle.node_model.specs.Step.{step};
 ghost use Rattle.node_model.specs.Turns.{job_step};
+ghost use Rattle.object_store.specs.Stores.{AreSmallParts};
 ghost use Rattle.repo_node.specs.Nodes.{told_of};
 ghost use Rattle.repo_node.specs.Owing.{is_owing};
 ghost use Rattle.repo_node.specs.Stepping.{AddsIf, MovesSo, ReadySo};
-ghost use Rattle.repo_node.specs.Stored.{TellsSame};
+ghost use Rattle.repo_node.specs.Stored.{TellsSame, store_view};
+ghost use Rattle.repo_node.specs.TurnCalls.{owed_calls, step_calls};
 
 use crate::entering::{enter_if, make_room};
 use crate::indexing::make_index;
@@ -48,11 +52,12 @@ impl<K: Keeper> Node<K> {
 
     /// Makes the first step that is ready, by one entry, and tells whether there was one.
     pub(crate) fn step(&mut self) -> Result<bool, NoMemory>
-        ensures adds { IfOk result (λ b. AddsIf b self.old.parts.links (K.faults self.old.keeper) (K.faults self.new.keeper) self.old self.new) }
-        ensures step { IfOk result (λ b. ForSome (told_of (K.contents self.old.keeper) (K.parts self.old.keeper)) (λ c. MovesSo b step self.old self.new)) }
+        ensures adds { IfOk result (λ b. AddsIf b self.old.parts.links (store_view (K.contents self.old.keeper) (K.parts self.old.keeper) (K.failing self.old.keeper) (K.faults self.old.keeper)) (store_view (K.contents self.new.keeper) (K.parts self.new.keeper) (K.failing self.new.keeper) (K.faults self.new.keeper)) self.old self.new) }
+        ensures step { IfOk result (λ b. ForSome (told_of (K.contents self.old.keeper) (K.parts self.old.keeper)) (λ c. MovesSo b step step_calls (store_view (K.contents self.old.keeper) (K.parts self.old.keeper) (K.failing self.old.keeper) (K.faults self.old.keeper)) (store_view (K.contents self.new.keeper) (K.parts self.new.keeper) (K.failing self.new.keeper) (K.faults self.new.keeper)) self.old self.new)) }
         ensures told_parts { is_some (K.parts self.new.keeper) ≡ is_some (K.parts self.old.keeper) }
+        ensures small { AreSmallParts (K.parts self.old.keeper) → AreSmallParts (K.parts self.new.keeper) }
         ensures told_contents { is_some (K.parts self.old.keeper) ≡ true → is_some (K.contents self.new.keeper) ≡ is_some (K.contents self.old.keeper) }
-        ensures err_store { OnErr result (TellsSame (K.contents self.old.keeper) (K.contents self.new.keeper) (K.parts self.old.keeper) (K.parts self.new.keeper) (K.records self.old.keeper) (K.records self.new.keeper) (K.files self.old.keeper) (K.files self.new.keeper)) }
+        ensures err_store { OnErr result (TellsSame (K.contents self.old.keeper) (K.contents self.new.keeper) (K.parts self.old.keeper) (K.parts self.new.keeper) (K.records self.old.keeper) (K.records self.new.keeper) (K.files self.old.keeper) (K.files self.new.keeper) (K.failing self.old.keeper) (K.failing self.new.keeper)) }
         ensures paired { StayPaired self.old.parts.links self.new.parts.links }
         ensures later { K.faults self.old.keeper ≤ K.faults self.new.keeper }
         ensures err { OnErr result (self.new ≡ record self.old { keeper = self.new.keeper }) }
@@ -73,11 +78,11 @@ impl<K: Keeper> Node<K> {
     fn pay_first(&mut self) -> Result<bool, NoMemory>
         requires owes { is_owing self.old.owed ≡ true }
         ensures made { IfOk result (λ b. b ≡ true) }
-        ensures adds { IfOk result (λ b. AddsIf b self.old.parts.links (K.faults self.old.keeper) (K.faults self.new.keeper) self.old self.new) }
-        ensures step { IfOk result (λ b. ForSome (told_of (K.contents self.old.keeper) (K.parts self.old.keeper)) (λ c. MovesSo b owed_step self.old self.new)) }
+        ensures adds { IfOk result (λ b. AddsIf b self.old.parts.links (store_view (K.contents self.old.keeper) (K.parts self.old.keeper) (K.failing self.old.keeper) (K.faults self.old.keeper)) (store_view (K.contents self.new.keeper) (K.parts self.new.keeper) (K.failing self.new.keeper) (K.faults self.new.keeper)) self.old self.new) }
+        ensures step { IfOk result (λ b. ForSome (told_of (K.contents self.old.keeper) (K.parts self.old.keeper)) (λ c. MovesSo b owed_step owed_calls (store_view (K.contents self.old.keeper) (K.parts self.old.keeper) (K.failing self.old.keeper) (K.faults self.old.keeper)) (store_view (K.contents self.new.keeper) (K.parts self.new.keeper) (K.failing self.new.keeper) (K.faults self.new.keeper)) self.old self.new)) }
         ensures contents { K.contents self.new.keeper ≡ K.contents self.old.keeper }
         ensures parts { K.parts self.new.keeper ≡ K.parts self.old.keeper }
-        ensures err_store { OnErr result (TellsSame (K.contents self.old.keeper) (K.contents self.new.keeper) (K.parts self.old.keeper) (K.parts self.new.keeper) (K.records self.old.keeper) (K.records self.new.keeper) (K.files self.old.keeper) (K.files self.new.keeper)) }
+        ensures err_store { OnErr result (TellsSame (K.contents self.old.keeper) (K.contents self.new.keeper) (K.parts self.old.keeper) (K.parts self.new.keeper) (K.records self.old.keeper) (K.records self.new.keeper) (K.files self.old.keeper) (K.files self.new.keeper) (K.failing self.old.keeper) (K.failing self.new.keeper)) }
         ensures links { self.new.parts ≡ self.old.parts }
         ensures later { K.faults self.old.keeper ≤ K.faults self.new.keeper }
         ensures err { OnErr result (self.new ≡ record self.old { keeper = self.new.keeper }) }
@@ -97,11 +102,12 @@ impl<K: Keeper> Node<K> {
     /// The step of a session.
     fn serve(&mut self) -> Result<bool, NoMemory>
         requires paid { is_owing self.old.owed ≡ false }
-        ensures adds { IfOk result (λ b. AddsIf b self.old.parts.links (K.faults self.old.keeper) (K.faults self.new.keeper) self.old self.new) }
-        ensures step { IfOk result (λ b. ForSome (told_of (K.contents self.old.keeper) (K.parts self.old.keeper)) (λ c. MovesSo b session_step self.old self.new)) }
+        ensures adds { IfOk result (λ b. AddsIf b self.old.parts.links (store_view (K.contents self.old.keeper) (K.parts self.old.keeper) (K.failing self.old.keeper) (K.faults self.old.keeper)) (store_view (K.contents self.new.keeper) (K.parts self.new.keeper) (K.failing self.new.keeper) (K.faults self.new.keeper)) self.old self.new) }
+        ensures step { IfOk result (λ b. ForSome (told_of (K.contents self.old.keeper) (K.parts self.old.keeper)) (λ c. MovesSo b session_step session_calls (store_view (K.contents self.old.keeper) (K.parts self.old.keeper) (K.failing self.old.keeper) (K.faults self.old.keeper)) (store_view (K.contents self.new.keeper) (K.parts self.new.keeper) (K.failing self.new.keeper) (K.faults self.new.keeper)) self.old self.new)) }
         ensures told_parts { is_some (K.parts self.new.keeper) ≡ is_some (K.parts self.old.keeper) }
+        ensures small { AreSmallParts (K.parts self.old.keeper) → AreSmallParts (K.parts self.new.keeper) }
         ensures told_contents { is_some (K.parts self.old.keeper) ≡ true → is_some (K.contents self.new.keeper) ≡ is_some (K.contents self.old.keeper) }
-        ensures err_store { OnErr result (TellsSame (K.contents self.old.keeper) (K.contents self.new.keeper) (K.parts self.old.keeper) (K.parts self.new.keeper) (K.records self.old.keeper) (K.records self.new.keeper) (K.files self.old.keeper) (K.files self.new.keeper)) }
+        ensures err_store { OnErr result (TellsSame (K.contents self.old.keeper) (K.contents self.new.keeper) (K.parts self.old.keeper) (K.parts self.new.keeper) (K.records self.old.keeper) (K.records self.new.keeper) (K.files self.old.keeper) (K.files self.new.keeper) (K.failing self.old.keeper) (K.failing self.new.keeper)) }
         ensures paired { StayPaired self.old.parts.links self.new.parts.links }
         ensures later { K.faults self.old.keeper ≤ K.faults self.new.keeper }
         ensures err { OnErr result (self.new ≡ record self.old { keeper = self.new.keeper }) }
@@ -120,11 +126,12 @@ impl<K: Keeper> Node<K> {
     /// The step of a job.
     fn act(&mut self) -> Result<bool, NoMemory>
         requires paid { is_owing self.old.owed ≡ false }
-        ensures adds { IfOk result (λ b. AddsIf b self.old.parts.links (K.faults self.old.keeper) (K.faults self.new.keeper) self.old self.new) }
-        ensures step { IfOk result (λ b. ForSome (told_of (K.contents self.old.keeper) (K.parts self.old.keeper)) (λ c. MovesSo b job_step self.old self.new)) }
+        ensures adds { IfOk result (λ b. AddsIf b self.old.parts.links (store_view (K.contents self.old.keeper) (K.parts self.old.keeper) (K.failing self.old.keeper) (K.faults self.old.keeper)) (store_view (K.contents self.new.keeper) (K.parts self.new.keeper) (K.failing self.new.keeper) (K.faults self.new.keeper)) self.old self.new) }
+        ensures step { IfOk result (λ b. ForSome (told_of (K.contents self.old.keeper) (K.parts self.old.keeper)) (λ c. MovesSo b job_step job_calls (store_view (K.contents self.old.keeper) (K.parts self.old.keeper) (K.failing self.old.keeper) (K.faults self.old.keeper)) (store_view (K.contents self.new.keeper) (K.parts self.new.keeper) (K.failing self.new.keeper) (K.faults self.new.keeper)) self.old self.new)) }
         ensures told_parts { is_some (K.parts self.new.keeper) ≡ is_some (K.parts self.old.keeper) }
+        ensures small { AreSmallParts (K.parts self.old.keeper) → AreSmallParts (K.parts self.new.keeper) }
         ensures told_contents { is_some (K.contents self.new.keeper) ≡ is_some (K.contents self.old.keeper) }
-        ensures err_store { OnErr result (TellsSame (K.contents self.old.keeper) (K.contents self.new.keeper) (K.parts self.old.keeper) (K.parts self.new.keeper) (K.records self.old.keeper) (K.records self.new.keeper) (K.files self.old.keeper) (K.files self.new.keeper)) }
+        ensures err_store { OnErr result (TellsSame (K.contents self.old.keeper) (K.contents self.new.keeper) (K.parts self.old.keeper) (K.parts self.new.keeper) (K.records self.old.keeper) (K.records self.new.keeper) (K.files self.old.keeper) (K.files self.new.keeper) (K.failing self.old.keeper) (K.failing self.new.keeper)) }
         ensures paired { StayPaired self.old.parts.links self.new.parts.links }
         ensures later { K.faults self.old.keeper ≤ K.faults self.new.keeper }
         ensures err { OnErr result (self.new ≡ record self.old { keeper = self.new.keeper }) }

@@ -5,9 +5,11 @@ ghost use Rattle.link_ring.specs.Ends.{after_drop};
 ghost use Rattle.node_ends.specs.Joined.{StayPaired};
 ghost use Rattle.node_model.specs.SetUp.{SetUp};
 ghost use Rattle.node_model.specs.Step.{step};
+ghost use Rattle.object_store.specs.Stores.{AreSmallParts};
 ghost use Rattle.repo_node.specs.Nodes.{Fits, told_of};
 ghost use Rattle.repo_node.specs.Refusals.{most_entries};
-ghost use Rattle.repo_node.specs.Stored.{TellsSame};
+ghost use Rattle.repo_node.specs.Stored.{TellsSame, store_view};
+ghost use Rattle.repo_node.specs.TurnCalls.{step_calls};
 ghost use Rattle.repo_node.specs.Turns.{turn_full, turn_made};
 ghost use Rattle.repo_node.specs.Turning.{Adds, HasStep, IsIdle, StepsBy};
 
@@ -54,10 +56,10 @@ impl<K: Keeper> Node<K> {
     /// client and slot, that has a step makes it; else the first job, in order of slot. Frames that are never taken are dropped at
     /// its ends first. All memory is taken before the step.
     pub fn turn(&mut self) -> Turn
-        // Its entry is the step that the definitions have, at every look that finds what it found, where the store tells its
-        // contents and its parts.
-        ensures moved { result ≡ Turn.Moved → Adds (map after_drop self.old.parts.links) (K.faults self.old.keeper) (K.faults self.new.keeper) self.old self.new }
-        ensures step { result ≡ Turn.Moved → ForSome (told_of (K.contents self.old.keeper) (K.parts self.old.keeper)) (λ c. StepsBy step self.old self.new) }
+        // Its entry is the step that the definitions have, and that step's calls are those that it made of its store, at every look
+        // that finds what belongs to it, where the store tells its contents and its parts.
+        ensures moved { result ≡ Turn.Moved → Adds (map after_drop self.old.parts.links) (store_view (K.contents self.old.keeper) (K.parts self.old.keeper) (K.failing self.old.keeper) (K.faults self.old.keeper)) (store_view (K.contents self.new.keeper) (K.parts self.new.keeper) (K.failing self.new.keeper) (K.faults self.new.keeper)) self.old self.new }
+        ensures step { result ≡ Turn.Moved → ForSome (told_of (K.contents self.old.keeper) (K.parts self.old.keeper)) (λ c. StepsBy step step_calls (store_view (K.contents self.old.keeper) (K.parts self.old.keeper) (K.failing self.old.keeper) (K.faults self.old.keeper)) (store_view (K.contents self.new.keeper) (K.parts self.new.keeper) (K.failing self.new.keeper) (K.faults self.new.keeper)) self.old self.new) }
         ensures idle { result ≡ Turn.Idle → ForSome (told_of (K.contents self.old.keeper) (K.parts self.old.keeper)) (λ c. (s : SetUp) → Fits self.old.setup s → IsIdle self.old s) }
         ensures full { result ≡ Turn.Full → length self.old.history ≡ most_entries }
         ensures ready { result ≡ Turn.Full → ForSome (told_of (K.contents self.old.keeper) (K.parts self.old.keeper)) (λ c. (s : SetUp) → Fits self.old.setup s → HasStep self.old s) }
@@ -65,8 +67,9 @@ impl<K: Keeper> Node<K> {
         // Else only those frames are gone.
         ensures stays { result ≢ Turn.Moved → self.new ≡ record self.old { keeper = self.new.keeper; parts = record self.old.parts { links = map after_drop self.old.parts.links } } }
         ensures unasked { result ≢ Turn.Moved → result ≢ Turn.NoMemory → self.new.keeper ≡ self.old.keeper }
-        ensures short { result ≡ Turn.NoMemory → TellsSame (K.contents self.old.keeper) (K.contents self.new.keeper) (K.parts self.old.keeper) (K.parts self.new.keeper) (K.records self.old.keeper) (K.records self.new.keeper) (K.files self.old.keeper) (K.files self.new.keeper) }
+        ensures short { result ≡ Turn.NoMemory → TellsSame (K.contents self.old.keeper) (K.contents self.new.keeper) (K.parts self.old.keeper) (K.parts self.new.keeper) (K.records self.old.keeper) (K.records self.new.keeper) (K.files self.old.keeper) (K.files self.new.keeper) (K.failing self.old.keeper) (K.failing self.new.keeper) }
         ensures told_parts { is_some (K.parts self.new.keeper) ≡ is_some (K.parts self.old.keeper) }
+        ensures small { AreSmallParts (K.parts self.old.keeper) → AreSmallParts (K.parts self.new.keeper) }
         ensures told_contents { is_some (K.parts self.old.keeper) ≡ true → is_some (K.contents self.new.keeper) ≡ is_some (K.contents self.old.keeper) }
         ensures paired { StayPaired self.old.parts.links self.new.parts.links }
         ensures later { K.faults self.old.keeper ≤ K.faults self.new.keeper }

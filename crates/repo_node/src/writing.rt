@@ -1,5 +1,5 @@
 //! What a node writes into the files of its branch.
-ghost use Rattle.std.specs.Prelude.{◌≡◌, ◌≤◌, ℕ, List, Some, IfOk, IfErr, IsErrOf, OnOk, OnErr, option_map, IsSome};
+ghost use Rattle.std.specs.Prelude.{◌≡◌, ◌≤◌, ℕ, List, [], ◌∷◌, Some, IfOk, IfErr, IsErrOf, OnOk, OnErr, option_map, IsSome};
 ghost use Rattle.annex_base.specs.Causes.{Rose};
 ghost use Rattle.annex_base.specs.declared.kinds.Call.TheVariants as calls;
 ghost use Rattle.object_store.specs.Stores.{with_at};
@@ -11,6 +11,7 @@ ghost use Rattle.std.specs.Option.{ForSome};
 ghost use Rattle.trust_groups.specs.Adding.{lines_and};
 ghost use Rattle.trust_groups.specs.Reads.{Reads};
 ghost use Rattle.trust_groups.specs.Settings.{Lines};
+ghost use Rattle.repo_node.specs.Calls.{Makes};
 ghost use Rattle.repo_node.specs.Kept.{IsOfFiles, first_goes};
 ghost use Rattle.repo_node.specs.Indexed.{ReadsAlike};
 ghost use Rattle.repo_node.specs.Nodes.{owed_now, with_entry};
@@ -74,6 +75,7 @@ fn put<K: Keeper>(
     ensures rest { LeavesRest (K.contents keeper.old) (K.contents keeper.new) (K.parts keeper.old) (K.parts keeper.new) (K.records keeper.old) (K.records keeper.new) }
     ensures later { K.faults keeper.old ≤ K.faults keeper.new }
     ensures cause { IsErrOf result NodeRefused.StoreFault → Rose (K.faults keeper.old) (K.faults keeper.new) }
+    ensures calls { Makes (calls.PutFile ∷ []) calls.PutFile result (K.failing keeper.old) (K.failing keeper.new) }
 {
     match keeper.put_file(path, bytes) {
         Ok(()) => {
@@ -137,6 +139,7 @@ fn write_file<K: Keeper>(
     ensures rest { LeavesRest (K.contents keeper.old) (K.contents keeper.new) (K.parts keeper.old) (K.parts keeper.new) (K.records keeper.old) (K.records keeper.new) }
     ensures later { K.faults keeper.old ≤ K.faults keeper.new }
     ensures cause { IsErrOf result NodeRefused.StoreFault → Rose (K.faults keeper.old) (K.faults keeper.new) }
+    ensures calls { Makes (calls.PutFile ∷ []) calls.PutFile result (K.failing keeper.old) (K.failing keeper.new) }
 {
     let draft = drafted(branch, past, path, all)?;
     match put(keeper, past, path, &draft.bytes, kind, lines, by) {
@@ -173,6 +176,7 @@ fn write_indexed<K: Keeper>(
     ensures rest { LeavesRest (K.contents keeper.old) (K.contents keeper.new) (K.parts keeper.old) (K.parts keeper.new) (K.records keeper.old) (K.records keeper.new) }
     ensures later { K.faults keeper.old ≤ K.faults keeper.new }
     ensures cause { IsErrOf result NodeRefused.StoreFault → Rose (K.faults keeper.old) (K.faults keeper.new) }
+    ensures calls { Makes (calls.PutFile ∷ []) calls.PutFile result (K.failing keeper.old) (K.failing keeper.new) }
 {
     match write_file(keeper, branch, past, path, all, kind, lines, by) {
         Ok(()) => {
@@ -234,6 +238,7 @@ fn write_beside<K: Keeper>(
     ensures rest { LeavesRest (K.contents keeper.old) (K.contents keeper.new) (K.parts keeper.old) (K.parts keeper.new) (K.records keeper.old) (K.records keeper.new) }
     ensures later { K.faults keeper.old ≤ K.faults keeper.new }
     ensures cause { IsErrOf result NodeRefused.StoreFault → Rose (K.faults keeper.old) (K.faults keeper.new) }
+    ensures calls { Makes (calls.PutFile ∷ []) calls.PutFile result (K.failing keeper.old) (K.failing keeper.new) }
 {
     let answer = write_indexed(keeper, branch, past, index, path, all, kind, lines, new, by);
     let goes = first_goes(paid, by, &answer);
@@ -267,6 +272,7 @@ impl<K: Keeper> Node<K> {
         ensures err_files { OnErr result (K.files self.new.keeper ≡ K.files self.old.keeper) }
         ensures later { K.faults self.old.keeper ≤ K.faults self.new.keeper }
         ensures cause { IsErrOf result NodeRefused.StoreFault → Rose (K.faults self.old.keeper) (K.faults self.new.keeper) }
+        ensures calls { Makes (calls.PutFile ∷ []) calls.PutFile result (K.failing self.old.keeper) (K.failing self.new.keeper) }
     {
         // Laws, for the proof. The first: only the file of this path changes.
         files_are_changed_alone();

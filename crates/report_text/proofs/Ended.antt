@@ -5,7 +5,7 @@ use Rattle.std.proofs.lemmas.Option.{slice_get-get_or, slice_get_past}
 use Rattle.run_data.specs.declared.run.Run.{Run}
 use Rattle.run_data.specs.declared.run.RepoView.{RepoView}
 use Rattle.run_data.specs.declared.entry.Entry.{Entry}
-use Rattle.thin_model.specs.Safety.{past_at}
+use Rattle.run_model.specs.Safety.{past_at}
 use Rattle.report_text.specs.Report.{outcome_lines, entry_line}
 use Rattle.report_text.proofs.Places.{flat_map_place, flat_map_walked}
 

@@ -1,7 +1,10 @@
 -- The lemmas of this crate.
+mod BranchLemmas
 mod Chosen
 mod Ended
 mod Identifiers
 mod Pasts
 mod Places
 mod Reported
+mod Rows
+mod Tables

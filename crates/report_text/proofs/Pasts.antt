@@ -7,13 +7,17 @@ use Rattle.run_data.specs.declared.entry.Entry.{Entry}
 use Rattle.annex_base.specs.Lists.{Each}
 use Rattle.report_text.specs.declared.walk.Walk.{Walk}
 use Rattle.report_text.specs.Walk.{Knows, StandsAt}
-use Rattle.thin_model.specs.Safety.{past_at}
+use Rattle.run_model.specs.Safety.{past_at}
+
+-- the entries before a place and one more, the newest first
+pub taken_more : (entries : List Entry) (place : ℕ) (e : Entry) → place < length entries → e ≡ get_or entries place e → reverse (take (place + 1) entries) ≡ e ∷ reverse (take place entries)
+taken_more entries place e within at =
+    ap reverse (take_more entries place e within) ∙ reverse-append (take place entries) _
+    ∙ ap (λ (x : Entry). x ∷ reverse (take place entries)) (sym at)
 
 -- one more entry
 past_more : (run : Run) (place : ℕ) (e : Entry) → place < length run.entries → e ≡ get_or run.entries place e → past_at run (place + 1) ≡ e ∷ past_at run place
-past_more run place e within at =
-    ap reverse (take_more run.entries place e within) ∙ reverse-append (take place run.entries) _
-    ∙ ap (λ (x : Entry). x ∷ past_at run place) (sym at)
+past_more run place e within at = taken_more run.entries place e within at
 
 -- what is known after one more entry
 pub knows_more : (run : Run) (entries : List Entry) (walk : Walk) (n place : ℕ) (e : Entry) → entries ≡ run.entries → place < length entries → e ≡ get_or entries place e

@@ -1,4 +1,8 @@
 -- The definitions of this crate.
 pub mod Begun
+pub mod Branches
+pub mod Contents
 pub mod Report
+pub mod Row
+pub mod Scan
 pub mod Walk

@@ -1,9 +1,14 @@
 //! The texts of runs: the report that a script's run prints.
 #![tactic(auto)]
 
+mod branches;
+mod clock;
+mod contents;
+mod holds;
 mod lines;
 mod logs;
 mod named;
+mod row;
 mod run_report;
 mod settings;
 mod shown;

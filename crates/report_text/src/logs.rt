@@ -10,10 +10,10 @@ ghost use Rattle.report_text.specs.Report.{lines_text, log_text, location_text, 
 
 use crate::named::{named, put_joined};
 use annex_base::{Line, NoMemory, put_number};
-use annex_key::Key;
 use hash_dirs::location_path;
 use run_data::{LogFile, Run};
-use run_text::put_name;
+use run_text::{put_key, put_name};
+use script_lang::NamedKey;
 use script_words::put_word;
 use std::alloc::AllocError;
 use trust_groups::{Levels, claims_of};
@@ -74,15 +74,15 @@ pub(crate) fn put_location(
     run: &Run,
     repo: u32,
     branch: &Branch,
-    key: &Key,
+    key: &NamedKey,
 ) -> Result<(), NoMemory>
-    ensures { OnOk result (out.new.items ≡ out.old.items ++ location_text run.now repo key.now (lines_at branch.now (location_path key.now))) }
+    ensures { OnOk result (out.new.items ≡ out.old.items ++ location_text run.now repo key.now (lines_at branch.now (location_path key.now.key))) }
 {
-    let path = location_path(*out.allocator(), key)?;
+    let path = location_path(*out.allocator(), &key.key)?;
     out.extend_from_slice(b"location ")?;
     put_name(out, run.repos.as_slice(), repo)?;
     out.push(b' ')?;
-    put_word(out, key.text())?;
+    put_key(out, &key.key, &key.path)?;
     out.push(b' ')?;
     put_lines(out, lines_of(branch, path.bytes()))?;
     Ok(())
@@ -124,18 +124,18 @@ pub(crate) fn put_claims(
     run: &Run,
     repo: u32,
     branch: &Branch,
-    key: &Key,
+    key: &NamedKey,
 ) -> Result<(), NoMemory>
-    ensures { OnOk result (out.new.items ≡ out.old.items ++ claims_text run.now repo key.now (claims (lines_at branch.now) key.now)) }
+    ensures { OnOk result (out.new.items ≡ out.old.items ++ claims_text run.now repo key.now (claims (lines_at branch.now) key.now.key)) }
 {
     let alloc = *out.allocator();
     let levels = Levels::read(alloc, branch)?;
-    let ids = claims_of(alloc, branch, &levels, key)?;
+    let ids = claims_of(alloc, branch, &levels, &key.key)?;
     let words = named(alloc, run.repos.as_slice(), &ids)?;
     out.extend_from_slice(b"claims ")?;
     put_name(out, run.repos.as_slice(), repo)?;
     out.push(b' ')?;
-    put_word(out, key.text())?;
+    put_key(out, &key.key, &key.path)?;
     out.push(b' ')?;
     put_joined(out, b' ', &words)?;
     out.push(b'\n')?;

@@ -1,35 +1,71 @@
 //! The report of a script's run, line by line.
 
-ghost use Rattle.std.specs.Prelude.{◌≡◌, IfOk, length};
+ghost use Rattle.std.specs.Prelude.{◌≡◌, ◌++◌, IfOk, OnOk, length};
 ghost use Rattle.annex_base.specs.Lists.{Each};
-ghost use Rattle.report_text.specs.Report.{report};
-ghost use Rattle.report_text.specs.Walk.{IsLogged, ShowsKnown};
+ghost use Rattle.report_text.specs.Report.{changes_of, line_text, report};
+ghost use Rattle.report_text.specs.Walk.{IsAhead, IsWellFormed, ShowsKnown, StandsIn};
 
-use crate::lines::put_ended;
+use crate::lines::{put_ended, put_slot};
 use crate::shown::put_shown;
 use crate::walk::Walk;
 use annex_base::NoMemory;
 use run_data::Run;
+use script_lang::Command;
 use std::alloc::Global;
-use thin_script::Command;
 
-/// The report of a run of this script (own): for each line of the script the lines of the jobs that ended while it
-/// was done, and what it shows; then the lines of the jobs that ended after the last. To show where a key is present
-/// among 2^32 repositories or more is answered as want of memory.
+/// The report of a run of this script (own): for each line of the script that its job found no slot, the lines of the
+/// jobs that ended and of the faults while it was done, and what it shows; then those of the entries after the last.
+/// To show where a key is present among 2^32 repositories or more is answered as want of memory.
 pub fn report(alloc: Global, script: &[Command], run: &Run) -> Result<Vec<u8>, NoMemory>
-    requires logged { Each IsLogged run.now.entries }
+    requires formed { Each IsWellFormed run.now.entries }
+    requires ahead { Each IsAhead run.now.repos }
     requires known { Each (ShowsKnown (length run.now.repos)) script.now }
     ensures { IfOk result (λ text. text.items ≡ report script.now run.now) }
 {
     let mut out = Vec::new(alloc);
     let mut walk = Walk::new(alloc, run)?;
     let mut from = 0;
+    let mut changes = 0;
     for (command, mark) in script.iter().zip(run.marks.as_slice()) {
         let place = *mark as usize;
-        put_ended(&mut out, run, from, place)?;
-        put_shown(&mut out, &mut walk, run, place, command)?;
+        put_line(&mut out, &mut walk, run, from, place, changes, command)?;
+        changes += changes_of(command);
         from = place;
     }
     put_ended(&mut out, run, from, run.entries.as_slice().len())?;
     Ok(out)
+}
+
+/// Adds what a line prints that made the entries from one place up to another, after lines that made so many changes
+/// of the tree.
+fn put_line(
+    out: &mut Vec<u8>,
+    walk: &mut Walk,
+    run: &Run,
+    from: usize,
+    upto: usize,
+    changes: usize,
+    command: &Command,
+) -> Result<(), NoMemory>
+    requires stands { StandsIn walk.old run.now }
+    requires formed { Each IsWellFormed run.now.entries }
+    requires ahead { Each IsAhead run.now.repos }
+    requires known { ShowsKnown (length run.now.repos) command.now }
+    ensures text { OnOk result (out.new.items ≡ out.old.items ++ line_text run.now from upto changes command.now) }
+    ensures walk { OnOk result (StandsIn walk.new run.now) }
+{
+    put_slot(out, run, from, upto, command)?;
+    put_ended(out, run, from, upto)?;
+    put_shown(out, walk, run, upto, changes, command)?;
+    Ok(())
+}
+
+/// How many changes of the tree a line makes.
+fn changes_of(command: &Command) -> usize
+    ensures { result ≡ changes_of command.now }
+{
+    match command {
+        Command::Add { .. } | Command::File { .. } => 1,
+        _ => 0,
+    }
 }

@@ -4,23 +4,35 @@ ghost use Rattle.std.specs.Prelude.{◌≡◌, ◌++◌, ◌<◌, length, IfOk, 
 ghost use Rattle.union_merge.specs.Branch.{lines_at};
 ghost use Rattle.trust_groups.specs.Settings.{settings};
 ghost use Rattle.run_data.specs.Repos.{id_of};
-ghost use Rattle.report_text.specs.Report.{level_text, numbers_text, trust_text};
+ghost use Rattle.report_text.specs.Report.{level_text, numbers_for, numbers_text, trust_text};
 
 use crate::named::put_joined;
-use annex_base::{Level, NoMemory, RepoId, put_number};
+use annex_base::{Level, NoMemory, RepoId, Text, put_number};
 use run_data::{RepoView, Run};
 use run_text::put_name;
 use std::alloc::Global;
 use trust_groups::{groups_of, level_of, mincopies_of, numcopies_of};
 use union_merge::Branch;
 
-/// Adds the numbers of copies that the branch sets.
-pub(crate) fn put_numbers(
+/// Adds the numbers of copies that the branch sets; those of a path have no text yet.
+pub(crate) fn put_numbers_for(
     out: &mut Vec<u8>,
     run: &Run,
     repo: u32,
+    path: &Option<Text>,
     branch: &Branch,
 ) -> Result<(), NoMemory>
+    ensures { OnOk result (out.new.items ≡ out.old.items ++ numbers_for run.now repo path.now (settings (lines_at branch.now))) }
+{
+    match path {
+        None => put_numbers(out, run, repo, branch)?,
+        Some(_) => {}
+    }
+    Ok(())
+}
+
+/// Adds the numbers of copies that the branch sets.
+fn put_numbers(out: &mut Vec<u8>, run: &Run, repo: u32, branch: &Branch) -> Result<(), NoMemory>
     ensures { OnOk result (out.new.items ≡ out.old.items ++ numbers_text run.now repo (settings (lines_at branch.now))) }
 {
     let alloc = *out.allocator();

@@ -1,48 +1,72 @@
 //! What the lines of a script show.
-ghost use Rattle.std.specs.Prelude.{◌≡◌, ◌++◌, ℕ, List, [], ◌∷◌, OnOk, IfOk, Some, length, filter, codes};
+ghost use Rattle.std.specs.Prelude.{◌≡◌, ◌++◌, ℕ, List, [], ◌∷◌, OnOk, IfOk, Some, length, filter, take, codes};
 ghost use Rattle.std.specs.List.{range_with_len};
-ghost use Rattle.run_data.specs.declared.entry.Entry.{Entry};
-ghost use Rattle.thin_model.specs.Contents.{Tracks};
-ghost use Rattle.thin_model.specs.Past.{present};
-ghost use Rattle.run_text.specs.Names.{name_of, joined};
-ghost use Rattle.report_text.specs.Report.{branch_at, show_text};
-ghost use Rattle.script_words.specs.Words.{printed_word};
 ghost use Rattle.annex_base.specs.Lists.{Each};
-ghost use Rattle.report_text.specs.Walk.{IsLogged, ShowsKnown, StandsIn, shown_repo};
+ghost use Rattle.run_data.specs.declared.entry.Entry.{Entry};
+ghost use Rattle.run_model.specs.Past.{present};
+ghost use Rattle.run_text.specs.Jobs.{key_text};
+ghost use Rattle.run_text.specs.Names.{name_of, joined};
+ghost use Rattle.journal_text.specs.Journal.{journal_of};
+ghost use Rattle.report_text.specs.Contents.{Tracks};
+ghost use Rattle.report_text.specs.Report.{branch_at, show_text};
+ghost use Rattle.report_text.specs.Walk.{IsAhead, IsWellFormed, ShowsKnown, StandsIn, shown_repo};
 
+use crate::contents::Contents;
 use crate::logs::{put_claims, put_file, put_files, put_location};
-use crate::settings::{put_level, put_numbers};
+use crate::row::{first, put_row};
+use crate::settings::{put_level, put_numbers_for};
 use crate::walk::Walk;
 use annex_base::NoMemory;
 use annex_key::Key;
+use journal_text::put_journal;
 use run_data::{RepoView, Run};
-use run_text::put_names;
-use script_words::put_word;
-use std::alloc::Global;
-use thin_model::Contents;
-use thin_script::Command;
+use run_text::{put_key, put_names};
+use script_lang::{Command, NamedKey};
+use std::alloc::{AllocError, Global};
 use union_merge::Branch;
 
-/// Adds what a line of a script shows at a place of the run.
+/// Adds what a line of a script shows at a place of the run, after lines that made so many changes of the tree.
 pub(crate) fn put_shown(
     out: &mut Vec<u8>,
     walk: &mut Walk,
     run: &Run,
     place: usize,
+    changes: usize,
     command: &Command,
 ) -> Result<(), NoMemory>
     requires stands { StandsIn walk.old run.now }
-    requires logged { Each IsLogged run.now.entries }
+    requires formed { Each IsWellFormed run.now.entries }
+    requires ahead { Each IsAhead run.now.repos }
     requires known { ShowsKnown (length run.now.repos) command.now }
-    ensures text { OnOk result (out.new.items ≡ out.old.items ++ show_text run.now place command.now) }
+    ensures text { OnOk result (out.new.items ≡ out.old.items ++ show_text run.now place changes command.now) }
     ensures walk { OnOk result (StandsIn walk.new run.now) }
 {
     if let Command::ShowPresence { key } = command {
         walk.move_to(*out.allocator(), run, place)?;
         put_presence(out, run.repos.as_slice(), walk.contents(), key)?;
+    } else if let Command::ShowRow { repo, key } = command {
+        walk.move_to(*out.allocator(), run, place)?;
+        put_row(out, run, place, *repo, walk.contents(), key)?;
+    } else if let Command::ShowJournal = command {
+        put_journal_at(out, run, place, changes)?;
     } else if let Some(repo) = shown_repo(command) {
-        put_of_repo(out, walk, run, place, repo, command)?;
+        put_of_repo(out, walk, run, place, changes, repo, command)?;
     }
+    Ok(())
+}
+
+/// Adds the journal of the entries before a place, and of so many changes of the tree.
+fn put_journal_at(
+    out: &mut Vec<u8>,
+    run: &Run,
+    place: usize,
+    changes: usize,
+) -> Result<(), AllocError>
+    ensures { OnOk result (out.new.items ≡ out.old.items ++ journal_of run.now.repos (take changes run.now.tree) (take place run.now.entries)) }
+{
+    let tree = first(run.tree.as_slice(), changes);
+    let entries = first(run.entries.as_slice(), place);
+    put_journal(out, run.repos.as_slice(), tree, entries)?;
     Ok(())
 }
 
@@ -52,14 +76,15 @@ fn put_of_repo(
     walk: &mut Walk,
     run: &Run,
     place: usize,
+    _changes: usize,
     repo: u32,
     command: &Command,
 ) -> Result<(), NoMemory>
     requires stands { StandsIn walk.old run.now }
-    requires logged { Each IsLogged run.now.entries }
+    requires formed { Each IsWellFormed run.now.entries }
     requires known { ShowsKnown (length run.now.repos) command.now }
     requires named { shown_repo command.now ≡ Some repo }
-    ensures text { OnOk result (out.new.items ≡ out.old.items ++ show_text run.now place command.now) }
+    ensures text { OnOk result (out.new.items ≡ out.old.items ++ show_text run.now place _changes command.now) }
     ensures walk { OnOk result (StandsIn walk.new run.now) }
 {
     let alloc = *out.allocator();
@@ -79,21 +104,43 @@ fn shown_repo(command: &Command) -> Option<u32>
         | Command::ShowLocation { repo, .. }
         | Command::ShowLog { repo, .. }
         | Command::ShowLogs { repo }
-        | Command::ShowNumbers { repo }
+        | Command::ShowNumbers { repo, .. }
         | Command::ShowLevel { repo, .. } => Some(*repo),
         Command::Repo { .. }
-        | Command::Have { .. }
         | Command::Numcopies { .. }
         | Command::Mincopies { .. }
+        | Command::NumcopiesFor { .. }
+        | Command::MincopiesFor { .. }
         | Command::Trust { .. }
         | Command::Describe { .. }
+        | Command::Wanted { .. }
+        | Command::Required { .. }
         | Command::Group { .. }
+        | Command::GroupWanted { .. }
         | Command::Log { .. }
+        | Command::Have { .. }
+        | Command::Part { .. }
+        | Command::Damage { .. }
+        | Command::Add { .. }
+        | Command::File { .. }
         | Command::Run { .. }
+        | Command::Begin { .. }
+        | Command::Turn { .. }
+        | Command::Settle
         | Command::Merge { .. }
         | Command::Compact { .. }
+        | Command::Sync { .. }
+        | Command::Close { .. }
+        | Command::Crash { .. }
         | Command::Wait { .. }
-        | Command::ShowPresence { .. } => None,
+        | Command::Fail { .. }
+        | Command::Par { .. }
+        | Command::ShowPresence { .. }
+        | Command::ShowWants { .. }
+        | Command::ShowRow { .. }
+        | Command::ShowPlan { .. }
+        | Command::ShowTotals
+        | Command::ShowJournal => None,
     }
 }
 
@@ -105,29 +152,17 @@ fn put_branch(
     command: &Command,
 ) -> Result<(), NoMemory>
     requires { ShowsKnown (length run.now.repos) command.now }
-    ensures { OnOk result ((place repo : ℕ) → shown_repo command.now ≡ Some repo → branch.now ≡ branch_at run.now place repo
-        → out.new.items ≡ out.old.items ++ show_text run.now place command.now) }
+    ensures { OnOk result ((place changes repo : ℕ) → shown_repo command.now ≡ Some repo → branch.now ≡ branch_at run.now place repo
+        → out.new.items ≡ out.old.items ++ show_text run.now place changes command.now) }
 {
     match command {
         Command::ShowClaims { repo, key } => put_claims(out, run, *repo, branch, key)?,
         Command::ShowLocation { repo, key } => put_location(out, run, *repo, branch, key)?,
         Command::ShowLog { repo, file } => put_file(out, run, *repo, branch, file)?,
         Command::ShowLogs { repo } => put_files(out, run, *repo, branch)?,
-        Command::ShowNumbers { repo } => put_numbers(out, run, *repo, branch)?,
+        Command::ShowNumbers { repo, path } => put_numbers_for(out, run, *repo, path, branch)?,
         Command::ShowLevel { repo, target } => put_level(out, run, *repo, *target, branch)?,
-        Command::Repo { .. }
-        | Command::Have { .. }
-        | Command::Numcopies { .. }
-        | Command::Mincopies { .. }
-        | Command::Trust { .. }
-        | Command::Describe { .. }
-        | Command::Group { .. }
-        | Command::Log { .. }
-        | Command::Run { .. }
-        | Command::Merge { .. }
-        | Command::Compact { .. }
-        | Command::Wait { .. }
-        | Command::ShowPresence { .. } => {}
+        _ => {}
     }
     Ok(())
 }
@@ -136,16 +171,16 @@ fn put_presence(
     out: &mut Vec<u8>,
     repos: &[RepoView],
     contents: &Contents,
-    key: &Key,
+    key: &NamedKey,
 ) -> Result<(), NoMemory>
     ensures { OnOk result ((past : List Entry) → Tracks contents.now (length repos.now) past → out.new.items ≡ out.old.items
-        ++ (codes "presence " ++ printed_word key.now ++ codes " "
-        ++ joined 32 (name_of repos.now) (filter (λ r. present past r key.now) (range_with_len 0 (length repos.now))) ++ codes "\n")) }
+        ++ (codes "presence " ++ key_text key.now.key key.now.path ++ codes " "
+        ++ joined 32 (name_of repos.now) (filter (λ r. present past r key.now.key) (range_with_len 0 (length repos.now))) ++ codes "\n")) }
 {
     out.extend_from_slice(b"presence ")?;
-    put_word(out, key.text())?;
+    put_key(out, &key.key, &key.path)?;
     out.push(b' ')?;
-    let numbers = having(*out.allocator(), contents, repos.len(), key)?;
+    let numbers = having(*out.allocator(), contents, repos.len(), &key.key)?;
     put_names(out, repos, b' ', &numbers)?;
     out.push(b'\n')?;
     Ok(())

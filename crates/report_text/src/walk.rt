@@ -3,16 +3,17 @@
 ghost use Rattle.std.specs.Prelude.{◌≡◌, ◌≤◌, ◌<◌, ◌∷◌, ℕ, List, OnOk, IfOk, Some, length};
 ghost use Rattle.std.specs.Option.{option_copied};
 ghost use Rattle.annex_base.specs.Lists.{Each};
-ghost use Rattle.thin_model.specs.Logs.{branch};
+ghost use Rattle.run_model.specs.Logs.{branch};
 ghost use Rattle.run_data.specs.declared.entry.Entry.{Entry};
 ghost use Rattle.run_data.specs.declared.run.Run.{Run};
-ghost use Rattle.thin_model.specs.Safety.{past_at};
-ghost use Rattle.report_text.specs.Walk.{IsLogged, Knows, StandsIn, StandsAt};
+ghost use Rattle.run_model.specs.Safety.{past_at};
+ghost use Rattle.report_text.specs.Walk.{IsWellFormed, Knows, StandsIn, StandsAt};
 
+use crate::branches::Branches;
+use crate::contents::Contents;
 use annex_base::NoMemory;
 use run_data::{Entry, Run};
 use std::alloc::Global;
-use thin_model::{Branches, Contents};
 use union_merge::Branch;
 
 /// A place of a run, which repositories have which keys there, and their branches.
@@ -52,7 +53,7 @@ impl Walk {
     /// Goes to a place: on from where it stands, or from the beginning to one before that.
     pub(crate) fn move_to(&mut self, alloc: Global, run: &Run, place: usize) -> Result<(), NoMemory>
         requires stands { StandsIn self.old run.now }
-        requires logged { Each IsLogged run.now.entries }
+        requires formed { Each IsWellFormed run.now.entries }
         ensures { OnOk result (StandsAt self.new run.now place) }
     {
         self.back_before(alloc, run, place)?;
@@ -76,7 +77,7 @@ impl Walk {
     fn follow(&mut self, run: &Run, upto: usize) -> Result<(), NoMemory>
         requires stands { StandsIn self.old run.now }
         requires order { self.old.place ≤ upto }
-        requires logged { Each IsLogged run.now.entries }
+        requires formed { Each IsWellFormed run.now.entries }
         ensures { OnOk result (StandsAt self.new run.now upto) }
     {
         let entries = run.entries.as_slice();
@@ -89,7 +90,7 @@ impl Walk {
 
     /// Takes note of one more entry; where it stands is left to the caller.
     fn add(&mut self, entry: &Entry) -> Result<(), NoMemory>
-        requires { IsLogged entry.now }
+        requires { IsWellFormed entry.now }
         ensures { OnOk result ((repositories : ℕ) (past : List Entry) → Knows self.old repositories past → Knows self.new repositories (entry.now ∷ past)) }
     {
         self.contents.add(entry)?;

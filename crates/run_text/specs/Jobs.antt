@@ -11,10 +11,10 @@ abbrev pub peer_text : List RepoView → List ℕ → Option ℕ → List ℕ
 peer_text repos word None = []
 peer_text repos word (Some p) = word ++ name_of repos p
 
--- the key as the line named it: by its path, or by its text; in double quotes where it has a space
-abbrev pub key_text : Job → Option (List ℕ) → List ℕ
-key_text job None = printed_word job.key
-key_text job (Some path) = printed_word (64 ∷ path)
+-- a key as a line named it: by its path, or by its text; in double quotes where it has a space
+abbrev pub key_text : List ℕ → Option (List ℕ) → List ℕ
+key_text key None = printed_word key
+key_text key (Some path) = printed_word (64 ∷ path)
 
 abbrev pub kind_text : JobKind → List ℕ
 kind_text kinds.Drop = codes "drop "
@@ -32,7 +32,7 @@ way_text kinds.MoveFrom = codes " from "
 
 -- the line of a job of repository r
 abbrev pub job_text : List RepoView → ℕ → Job → List ℕ
-job_text repos r job = kind_text job.kind ++ name_of repos r ++ codes " " ++ key_text job job.path ++ peer_text repos (way_text job.kind) job.peer
+job_text repos r job = kind_text job.kind ++ name_of repos r ++ codes " " ++ key_text job.key job.path ++ peer_text repos (way_text job.kind) job.peer
 
 abbrev pub begun_text : List RepoView → ℕ → Option Job → List ℕ
 begun_text repos r None = []

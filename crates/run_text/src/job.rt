@@ -5,6 +5,8 @@ ghost use Rattle.run_text.specs.Jobs.{kind_text, way_text, peer_text, key_text, 
 ghost use Rattle.script_words.specs.Words.{printed_word};
 
 use crate::names::put_name;
+use annex_base::Text;
+use annex_key::Key;
 use run_data::{Job, JobKind, RepoView};
 use script_words::put_word;
 use std::alloc::AllocError;
@@ -21,7 +23,7 @@ pub fn put_job(
     out.extend_from_slice(kind_word(job.kind))?;
     put_name(out, repos, repo)?;
     out.push(b' ')?;
-    put_key(out, job)?;
+    put_key(out, &job.key, &job.path)?;
     put_peer(out, repos, way_word(job.kind), job.peer)?;
     Ok(())
 }
@@ -61,12 +63,12 @@ fn way_word(kind: JobKind) -> &'static [u8]
     }
 }
 
-/// The key as the line named it: by its path, or by its text.
-fn put_key(out: &mut Vec<u8>, job: &Job) -> Result<(), AllocError>
-    ensures { OnOk result (out.new.items ≡ out.old.items ++ key_text job.now job.now.path) }
+/// Adds a key as a line named it: by the path that named it, or by its text.
+pub fn put_key(out: &mut Vec<u8>, key: &Key, path: &Option<Text>) -> Result<(), AllocError>
+    ensures { OnOk result (out.new.items ≡ out.old.items ++ key_text key.now path.now) }
 {
-    match &job.path {
-        None => put_word(out, job.key.text())?,
+    match path {
+        None => put_word(out, key.text())?,
         Some(path) => put_path(out, path.bytes())?,
     }
     Ok(())

@@ -8,6 +8,6 @@ mod proof;
 mod refusal;
 mod transfer;
 
-pub use job::{put_begun, put_job};
+pub use job::{put_begun, put_job, put_key};
 pub use names::{put_name, put_names};
 pub use outcome::put_outcome;

@@ -2,6 +2,6 @@
 #![tactic(auto)]
 
 #[cfg(test)]
-mod report_text_tests;
+mod driver_script_tests;
 #[cfg(test)]
-mod thin_script_tests;
+mod report_text_tests;

@@ -1,22 +1,22 @@
 //! The report of a run: each outcome, and what each line shows.
-ghost use Rattle.std.specs.Prelude.{◌≡◌, IfOk, OnOk, length};
+ghost use Rattle.std.specs.Prelude.{◌≡◌, [], IfOk, OnOk, length};
 ghost use Rattle.annex_base.specs.Lists.{Each};
 ghost use Rattle.run_data.specs.Files.{HasPath};
-ghost use Rattle.thin_model.specs.Branches.{LogsToPath};
-ghost use Rattle.report_text.specs.Walk.{IsLogged, ShowsKnown};
+ghost use Rattle.report_text.specs.Branches.{LogsLines};
+ghost use Rattle.report_text.specs.Walk.{IsAhead, IsWellFormed, SetsClock, ShowsKnown};
 ghost use Rattle.union_merge.specs.LineSet.{IsLine};
 
-use annex_base::{Items, Line, NoMemory, RepoId, Text};
+use annex_base::{Call, Items, Line, NoMemory, RepoId, Text};
 use annex_key::Key;
 use drop_proof::Need;
 use report_text::report;
 use run_data::{
     By, CandidateCause, Cause, Denial, DropRefusal, Entry, EntryKind, Job, JobKind, LogFile,
-    Outcome, Proof, RepoView, Run, SourceCause, SourceFailure, TransferRefusal,
+    Outcome, Proof, RepoView, Run, SourceCause, SourceFailure, TransferRefusal, TreeMark,
 };
+use script_lang::{Command, NamedKey};
 use std::alloc::Global;
 use std::test::Fail;
-use thin_script::Command;
 use union_merge::is_line;
 
 fn text(alloc: Global, word: &str) -> Result<Text, NoMemory> {
@@ -28,6 +28,14 @@ fn key(alloc: Global, word: &str) -> Result<Key, NoMemory> {
         return Err(NoMemory);
     };
     Ok(key)
+}
+
+/// The key as a line names it by its text.
+fn named(alloc: Global, word: &str) -> Result<NamedKey, NoMemory> {
+    Ok(NamedKey {
+        key: key(alloc, word)?,
+        path: None,
+    })
 }
 
 fn numbers(alloc: Global, repos: &[u32]) -> Result<Items<u32>, NoMemory> {
@@ -52,7 +60,9 @@ fn mixed_proof(alloc: Global) -> Result<Proof, NoMemory> {
     })
 }
 
-fn repo(alloc: Global, name: &str, id: &str) -> Result<RepoView, NoMemory> {
+fn repo(alloc: Global, name: &str, id: &str) -> Result<RepoView, NoMemory>
+    ensures { IfOk result IsAhead }
+{
     let Ok(id) = RepoId::parse(id.as_bytes()) else {
         return Err(NoMemory);
     };
@@ -67,8 +77,9 @@ fn repo(alloc: Global, name: &str, id: &str) -> Result<RepoView, NoMemory> {
 
 /// A run of the repositories a, b and c.
 fn run_of(alloc: Global, entries: Vec<Entry>, marks: &[u32]) -> Result<Run, NoMemory>
-    requires { Each IsLogged entries.items }
-    ensures logged { IfOk result (λ run. Each IsLogged run.entries) }
+    requires { Each IsWellFormed entries.items }
+    ensures formed { IfOk result (λ run. Each IsWellFormed run.entries) }
+    ensures ahead { IfOk result (λ run. Each IsAhead run.repos) }
     ensures repos { IfOk result (λ run. length run.repos ≡ 3) }
 {
     let mut repos = Items::new(alloc);
@@ -84,8 +95,9 @@ fn run_of(alloc: Global, entries: Vec<Entry>, marks: &[u32]) -> Result<Run, NoMe
 }
 
 fn entry(alloc: Global, repo: u32, kind: EntryKind) -> Entry
-    requires { LogsToPath kind }
-    ensures { IsLogged result }
+    requires logs { LogsLines kind [] }
+    requires clock { SetsClock kind }
+    ensures { IsWellFormed result }
 {
     Entry {
         time: 0,
@@ -99,9 +111,9 @@ fn entry(alloc: Global, repo: u32, kind: EntryKind) -> Entry
 }
 
 fn add(entries: &mut Vec<Entry>, entry: Entry) -> Result<(), NoMemory>
-    requires before { Each IsLogged entries.old.items }
-    requires logged { IsLogged entry }
-    ensures { OnOk result (Each IsLogged entries.new.items) }
+    requires before { Each IsWellFormed entries.old.items }
+    requires formed { IsWellFormed entry }
+    ensures { OnOk result (Each IsWellFormed entries.new.items) }
 {
     entries.push(entry)?;
     Ok(())
@@ -396,7 +408,7 @@ fn a_job_that_is_done_says_how(rt: HostRuntime) -> Result<(), Fail> {
 }
 
 fn gain(alloc: Global, repo: u32, word: &str) -> Result<Entry, NoMemory>
-    ensures { IfOk result IsLogged }
+    ensures { IfOk result IsWellFormed }
 {
     let kind = EntryKind::Gain {
         by: By::Script,
@@ -408,7 +420,8 @@ fn gain(alloc: Global, repo: u32, word: &str) -> Result<Entry, NoMemory>
 
 /// What the repository a does as it drops the key.
 fn drop_step(alloc: Global, word: &str, step: usize) -> Result<EntryKind, NoMemory>
-    ensures { IfOk result LogsToPath }
+    ensures logs { IfOk result (λ kind. LogsLines kind []) }
+    ensures clock { IfOk result SetsClock }
 {
     Ok(match step {
         0 => EntryKind::Begin {
@@ -433,7 +446,8 @@ fn drop_step(alloc: Global, word: &str, step: usize) -> Result<EntryKind, NoMemo
 
 /// The key comes to each repository, and a drops it: it begins after three entries, and ends by the sixth.
 fn dropped_run(alloc: Global, word: &str, marks: &[u32]) -> Result<Run, NoMemory>
-    ensures logged { IfOk result (λ run. Each IsLogged run.entries) }
+    ensures formed { IfOk result (λ run. Each IsWellFormed run.entries) }
+    ensures ahead { IfOk result (λ run. Each IsAhead run.repos) }
     ensures repos { IfOk result (λ run. length run.repos ≡ 3) }
 {
     let mut entries = Vec::new(alloc);
@@ -451,7 +465,7 @@ fn show_lines(alloc: Global) -> Result<Vec<Command>, NoMemory>
 {
     let mut script = Vec::new(alloc);
     for word in ["WORM-s3--abc", "WORM-s3--abc", "WORM-s3--a b"] {
-        let key = key(alloc, word)?;
+        let key = named(alloc, word)?;
         add_show(&mut script, Command::ShowPresence { key })?;
     }
     Ok(script)
@@ -487,6 +501,21 @@ fn a_line_shows_what_is_there_when_it_is_done(rt: HostRuntime) -> Result<(), Fai
         let got = report(alloc, &script, &run)?;
         assert_eq!(rt; got.as_slice(), want.as_bytes(), "{want}");
     }
+    Ok(())
+}
+
+#[test]
+fn a_key_is_told_as_its_line_names_it(rt: HostRuntime) -> Result<(), Fail> {
+    let alloc = rt.alloc();
+    let run = dropped_run(alloc, "WORM-s3--abc", &[3])?;
+    let mut key = named(alloc, "WORM-s3--abc")?;
+    key.path = Some(text(alloc, "my photo.jpg")?);
+    let mut script = Vec::new(alloc);
+    add_show(&mut script, Command::ShowPresence { key })?;
+    let got = report(alloc, &script, &run)?;
+    let want =
+        "presence \"@my photo.jpg\" a b c\ndrop a WORM-s3--abc done need=1,1 locked=b trusted=- recent=-\n";
+    assert_eq!(rt; got.as_slice(), want.as_bytes());
     Ok(())
 }
 
@@ -527,7 +556,7 @@ fn log_file(alloc: Global, path: &str) -> Result<LogFile, NoMemory>
 
 /// An entry by which a repository's log gets a line.
 fn log_entry(alloc: Global, repo: u32, name: &str, word: &str) -> Result<Entry, NoMemory>
-    ensures { IfOk result IsLogged }
+    ensures { IfOk result IsWellFormed }
 {
     let file = log_file(alloc, name)?;
     let mut lines = Items::new(alloc);
@@ -545,7 +574,8 @@ fn log_entry(alloc: Global, repo: u32, name: &str, word: &str) -> Result<Entry, 
 
 /// The repository a sets what it reads of b and of itself, and b sets a number of its own.
 fn logged_run(alloc: Global) -> Result<Run, NoMemory>
-    ensures logged { IfOk result (λ run. Each IsLogged run.entries) }
+    ensures formed { IfOk result (λ run. Each IsWellFormed run.entries) }
+    ensures ahead { IfOk result (λ run. Each IsAhead run.repos) }
     ensures repos { IfOk result (λ run. length run.repos ≡ 3) }
 {
     let mut entries = Vec::new(alloc);
@@ -588,10 +618,16 @@ fn logged_run(alloc: Global) -> Result<Run, NoMemory>
 fn show_branch(alloc: Global, place: usize) -> Result<Command, NoMemory>
     ensures { IfOk result (ShowsKnown 3) }
 {
-    let key = key(alloc, "WORM-s3--abc")?;
+    let key = named(alloc, "WORM-s3--abc")?;
     Ok(match place {
-        0 => Command::ShowNumbers { repo: 0 },
-        1 => Command::ShowNumbers { repo: 1 },
+        0 => Command::ShowNumbers {
+            repo: 0,
+            path: None,
+        },
+        1 => Command::ShowNumbers {
+            repo: 1,
+            path: None,
+        },
         2 => Command::ShowLevel { repo: 0, target: 1 },
         3 => Command::ShowLevel { repo: 1, target: 1 },
         4 => Command::ShowClaims { repo: 0, key },
@@ -610,7 +646,8 @@ fn show_branch(alloc: Global, place: usize) -> Result<Command, NoMemory>
 }
 
 fn shown_branch(alloc: Global, run: &Run, place: usize) -> Result<Vec<u8>, NoMemory>
-    requires logged { Each IsLogged run.now.entries }
+    requires formed { Each IsWellFormed run.now.entries }
+    requires ahead { Each IsAhead run.now.repos }
     requires repos { length run.now.repos ≡ 3 }
 {
     let mut script = Vec::new(alloc);
@@ -640,5 +677,225 @@ fn a_line_shows_what_a_branch_has(rt: HostRuntime) -> Result<(), Fail> {
         let got = shown_branch(alloc, &run, place)?;
         assert_eq!(rt; got.as_slice(), want.as_bytes(), "{want}");
     }
+    Ok(())
+}
+
+/// A get of the repository a.
+fn get_job(alloc: Global) -> Result<Job, NoMemory> {
+    job(alloc, JobKind::Get, None)
+}
+
+/// A job of a begins, another of a and one of b find no slot, and the first one ends.
+fn full_run(alloc: Global) -> Result<Run, NoMemory>
+    ensures formed { IfOk result (λ run. Each IsWellFormed run.entries) }
+    ensures ahead { IfOk result (λ run. Each IsAhead run.repos) }
+    ensures repos { IfOk result (λ run. length run.repos ≡ 3) }
+{
+    let mut entries = Vec::new(alloc);
+    let what = get_job(alloc)?;
+    let begin = EntryKind::Begin { job: 1, what };
+    add(&mut entries, entry(alloc, 0, begin))?;
+    let outcome = Outcome::Got {
+        source: None,
+        start: None,
+    };
+    let end = EntryKind::End { job: 1, outcome };
+    add(&mut entries, entry(alloc, 0, end))?;
+    run_of(alloc, entries, &[1, 1, 2])
+}
+
+#[test]
+fn a_job_without_a_slot_is_told(rt: HostRuntime) -> Result<(), Fail> {
+    let alloc = rt.alloc();
+    let run = full_run(alloc)?;
+    let mut script = Vec::new(alloc);
+    let job = get_job(alloc)?;
+    add_show(&mut script, Command::Begin { repo: 0, job })?;
+    let job = get_job(alloc)?;
+    add_show(&mut script, Command::Begin { repo: 0, job })?;
+    let job = get_job(alloc)?;
+    add_show(&mut script, Command::Run { repo: 1, job })?;
+    let got = report(alloc, &script, &run)?;
+    let want = "noslot a\nnoslot b\nget a WORM-s3--abc done source=- start=-\n";
+    assert_eq!(rt; got.as_slice(), want.as_bytes());
+    Ok(())
+}
+
+#[test]
+fn a_fault_is_told(rt: HostRuntime) -> Result<(), Fail> {
+    let alloc = rt.alloc();
+    let mut entries = Vec::new(alloc);
+    for (repo, call, by) in [
+        (0, Call::PutFile, By::Script),
+        (1, Call::Has, By::Job(1)),
+        (2, Call::ReadPart, By::Peer { peer: 0, slot: 3 }),
+    ] {
+        add(
+            &mut entries,
+            entry(alloc, repo, EntryKind::Fault { call, by }),
+        )?;
+    }
+    let run = run_of(alloc, entries, &[])?;
+    let got = report(alloc, &[], &run)?;
+    let want = "fault a putfile\nfault b has\nfault c readpart\n";
+    assert_eq!(rt; got.as_slice(), want.as_bytes());
+    Ok(())
+}
+
+/// Each change of a's row of the key, by its place: the content comes, b and c take holds, job 1 puts its bar, c's
+/// session is closed, a crashes, and b's hold is released.
+fn row_change(alloc: Global, place: usize) -> Result<EntryKind, NoMemory>
+    ensures logs { IfOk result (λ kind. LogsLines kind []) }
+    ensures clock { IfOk result SetsClock }
+{
+    let key = key(alloc, "WORM-s3--abc")?;
+    Ok(match place {
+        0 => EntryKind::Gain {
+            by: By::Script,
+            size: 3,
+            key,
+        },
+        1 => EntryKind::Share {
+            hold: 2,
+            end: 600_000,
+            by: By::Peer { peer: 1, slot: 0 },
+            key,
+        },
+        2 => EntryKind::Share {
+            hold: 3,
+            end: 600_001,
+            by: By::Peer { peer: 2, slot: 0 },
+            key,
+        },
+        3 => EntryKind::Bar {
+            job: 1,
+            need: Need { n: 1, m: 1 },
+            key,
+        },
+        4 => EntryKind::Close {
+            peer: 2,
+            slot: 0,
+            client: false,
+        },
+        5 => EntryKind::Crash { clock: 250 },
+        6 => EntryKind::Release { hold: 2, key },
+        _ => EntryKind::Gone {
+            by: By::Script,
+            key,
+        },
+    })
+}
+
+fn row_run(alloc: Global, marks: &[u32]) -> Result<Run, NoMemory>
+    ensures formed { IfOk result (λ run. Each IsWellFormed run.entries) }
+    ensures ahead { IfOk result (λ run. Each IsAhead run.repos) }
+    ensures repos { IfOk result (λ run. length run.repos ≡ 3) }
+{
+    let mut entries = Vec::new(alloc);
+    for place in 0..8 {
+        add(&mut entries, entry(alloc, 0, row_change(alloc, place)?))?;
+    }
+    run_of(alloc, entries, marks)
+}
+
+fn show_row(alloc: Global) -> Result<Vec<Command>, NoMemory>
+    ensures { IfOk result (λ script. Each (ShowsKnown 3) script.items) }
+{
+    let mut script = Vec::new(alloc);
+    let key = named(alloc, "WORM-s3--abc")?;
+    add_show(&mut script, Command::ShowRow { repo: 0, key })?;
+    Ok(script)
+}
+
+#[test]
+fn a_line_shows_the_row_of_a_key(rt: HostRuntime) -> Result<(), Fail> {
+    let alloc = rt.alloc();
+    let script = show_row(alloc)?;
+    for (place, want) in [
+        (0, "row a WORM-s3--abc absent\n"),
+        (1, "row a WORM-s3--abc present bar=- holds=-\n"),
+        (
+            3,
+            "row a WORM-s3--abc present bar=- holds=600000:open,600001:open\n",
+        ),
+        (
+            4,
+            "row a WORM-s3--abc present bar=1 holds=600000:open,600001:open\n",
+        ),
+        (
+            5,
+            "row a WORM-s3--abc present bar=1 holds=600000:open,600001:kept\n",
+        ),
+        (
+            6,
+            "row a WORM-s3--abc present bar=- holds=600250:kept,600250:kept\n",
+        ),
+        (7, "row a WORM-s3--abc present bar=- holds=600250:kept\n"),
+        (8, "row a WORM-s3--abc absent\n"),
+    ] {
+        let run = row_run(alloc, &[place])?;
+        let got = report(alloc, &script, &run)?;
+        assert_eq!(rt; got.as_slice(), want.as_bytes(), "{want}");
+    }
+    Ok(())
+}
+
+/// A line that gives the tree a path.
+fn file_line(alloc: Global, path: &str) -> Result<Command, NoMemory>
+    ensures { IfOk result (ShowsKnown 3) }
+{
+    Ok(Command::File {
+        path: text(alloc, path)?,
+        key: key(alloc, "WORM-s3--abc")?,
+    })
+}
+
+/// Two lines give the tree a path each, and behind each of them the journal is shown.
+fn journal_lines(alloc: Global) -> Result<Vec<Command>, NoMemory>
+    ensures { IfOk result (λ script. Each (ShowsKnown 3) script.items) }
+{
+    let mut script = Vec::new(alloc);
+    add_show(&mut script, file_line(alloc, "x")?)?;
+    add_show(&mut script, Command::ShowJournal)?;
+    add_show(&mut script, file_line(alloc, "y")?)?;
+    add_show(&mut script, Command::ShowJournal)?;
+    Ok(script)
+}
+
+fn tree_mark(alloc: Global, path: &str) -> Result<TreeMark, NoMemory> {
+    Ok(TreeMark {
+        place: 0,
+        path: text(alloc, path)?,
+        key: key(alloc, "WORM-s3--abc")?,
+    })
+}
+
+/// A run whose tree gets two paths before its only entry.
+fn mapped_run(alloc: Global) -> Result<Run, NoMemory>
+    ensures formed { IfOk result (λ run. Each IsWellFormed run.entries) }
+    ensures ahead { IfOk result (λ run. Each IsAhead run.repos) }
+    ensures repos { IfOk result (λ run. length run.repos ≡ 3) }
+{
+    let mut entries = Vec::new(alloc);
+    add(&mut entries, entry(alloc, 0, EntryKind::Talk { job: None }))?;
+    let mut run = run_of(alloc, entries, &[0, 0, 0, 1])?;
+    run.tree.push(tree_mark(alloc, "x")?)?;
+    run.tree.push(tree_mark(alloc, "y")?)?;
+    Ok(run)
+}
+
+#[test]
+fn a_line_shows_the_journal_so_far(rt: HostRuntime) -> Result<(), Fail> {
+    let alloc = rt.alloc();
+    let run = mapped_run(alloc)?;
+    let script = journal_lines(alloc)?;
+    let got = report(alloc, &script, &run)?;
+    let repos = "repo a 00000000-0000-4000-8000-00000000000a offset=0 version=3 locks\n\
+        repo b 00000000-0000-4000-8000-00000000000b offset=0 version=3 locks\n\
+        repo c 00000000-0000-4000-8000-00000000000c offset=0 version=3 locks\n";
+    let want = format!(in alloc;
+        "journal 0\n{repos}path 0 1 x WORM-s3--abc\njournal 1\n{repos}path 0 1 x WORM-s3--abc\npath 0 1 y WORM-s3--abc\n0.0 a talk -\n"
+    )?;
+    assert_eq!(rt; got.as_slice(), want.as_bytes());
     Ok(())
 }

@@ -1,5 +1,6 @@
 -- What is answered is the one thing that is due.
-use Rattle.thin_driver.specs.Driver.{run_of}
+use Rattle.driver_model.specs.Driving.{run_of}
+use Rattle.driver_script.specs.Given.{given_of}
 use Rattle.report_text.specs.Report.{report}
 use Rattle.annex_cli.proofs.DueLemmas.{HaveOneReading, due_answered, due_report}
 use Rattle.annex_cli.proofs.annex.Goals as goal
@@ -12,5 +13,6 @@ returns-clause-due g c = λ bytes text status words left due read write.
     (λ fault. read (c.run.ensures.read fault)) (λ fault. write (c.run.ensures.write fault))
 
 pub returns-clause-reported : goal.returns-clause-reported
-returns-clause-reported g c = λ bytes script words left short is read write.
-    returns-clause-due g c bytes (report script (run_of script)) _ words left (due_report bytes script short is) read write
+returns-clause-reported g c = λ bytes script lines words left short says built read write.
+    returns-clause-due g c bytes (report script (run_of (given_of script) lines)) _ words left
+    (due_report bytes script lines short (record { says = says; built = built })) read write

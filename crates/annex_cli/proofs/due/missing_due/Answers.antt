@@ -1,7 +1,8 @@
--- The first command that thin runs don't have stands on a line, which is named.
+-- The first command for which a part is missing stands on a line, which is named.
 use Rattle.std.proofs.Common.{◌≡◌, ◌<◌, Some, length, ap, sym, ◌∙◌, arith}
 use Rattle.std.specs.Prelude.{slice_get}
 use Rattle.script_lang.specs.Numbering.{line_numbers}
+use Rattle.driver_script.specs.Lines.{repos_of}
 use Rattle.annex_cli.proofs.DueLemmas.{due_by, missing_is_due}
 use Rattle.annex_cli.proofs.PlaceLemmas.{first_within}
 use Rattle.annex_cli.proofs.due.missing_due.Goals as goal
@@ -9,7 +10,7 @@ use Rattle.annex_cli.proofs.due.missing_due.Goals as goal
 pub line_at-requires : goal.line_at-requires
 line_at-requires c =
     let long = ap length (c.deref.ensures.value ∙ c.in_ok-numbers.ensures) ∙ c.commands_have_lines.ensures c.args.bytes.now c.args._script.now c.requires.says in
-    omega (arith, long, first_within c.args._script.now c.args.place c.requires.first)
+    omega (arith, long, first_within (repos_of c.args._script.now) c.args._script.now c.args.place c.requires.first)
 
 pub returns-clause-due : goal.returns-clause-due
 returns-clause-due c =

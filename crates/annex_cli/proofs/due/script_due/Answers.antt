@@ -1,19 +1,17 @@
--- The lines that thin runs have of a script are its run's, and the first that they don't have is named.
-use Rattle.std.proofs.Common.{◌≡◌, Some, ap, sym, ◌∙◌}
-use Rattle.thin_script.specs.Built.{thin_commands, first_unbuilt}
-use Rattle.annex_cli.proofs.DueLemmas.{found, missed}
+-- Without a missing part the script has its lines; else the first command for which one is missing is named.
+use Rattle.std.proofs.Common.{ap, sym, ◌∙◌}
+use Rattle.driver_script.specs.Lines.{first_unbuilt, repos_of}
+use Rattle.annex_cli.proofs.PlaceLemmas.{lines_unless}
 use Rattle.annex_cli.proofs.due.script_due.Goals as goal
 
-pub report_due-requires-clause-script : goal.report_due-requires-clause-script
-report_due-requires-clause-script c = record {
-  all = c.args.script.now;
-  says = c.requires.says;
-  built = ap thin_commands (sym c.lines.ensures)
-      ∙ found c.in_ok-lines.field-0 c.in-Ok.lines (λ v. thin_commands c.lines.result.now ≡ Some v.items) (λ place. first_unbuilt c.lines.result.now ≡ Some place) c.in-Ok.is c.in_ok-lines.ensures
-      ∙ ap Some (sym c.deref.ensures.value);
-}
+pub run_due-requires-clause-lines : goal.run_due-requires-clause-lines
+run_due-requires-clause-lines c =
+    let repos = repos_of c.args.script.now in
+    lines_unless c.args.bytes.now c.args.script.now c.requires.says
+    (ap (first_unbuilt repos) (sym c.lines-commands.ensures) ∙ sym (c.first_missing.ensures repos) ∙ c.in-None.is)
+    (c.scripts_run_or_miss_a_form.ensures c.args.bytes.now c.args.script.now c.requires.says)
 
 pub missing_due-requires-clause-first : goal.missing_due-requires-clause-first
 missing_due-requires-clause-first c =
-    ap first_unbuilt (sym c.lines.ensures)
-    ∙ missed c.in_ok-lines.field-0 c.in-Err.place (λ v. thin_commands c.lines.result.now ≡ Some v.items) (λ place. first_unbuilt c.lines.result.now ≡ Some place) c.in-Err.is c.in_ok-lines.ensures
+    let repos = repos_of c.args.script.now in
+    ap (first_unbuilt repos) (sym c.lines-commands.ensures) ∙ sym (c.first_missing.ensures repos) ∙ c.in-Some.is

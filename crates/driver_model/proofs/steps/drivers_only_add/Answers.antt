@@ -1,7 +1,7 @@
 -- The past after each step is the past before it with entries in front.
-use Rattle.driver_model.specs.Driving.{does, turns, with_mark}
+use Rattle.driver_model.specs.Driving.{turns, with_mark}
 use Rattle.driver_model.specs.Rounds.{blocks, round, settles}
-use Rattle.driver_model.specs.ScriptSteps.{begins, closes, compacts, crashes, enters, has, merges, sets, sets_part, waits, will_fail, writes}
+use Rattle.driver_model.specs.ScriptSteps.{begins, closes, compacts, crashes, enters, has, merges, sets, sets_part, will_fail, writes}
 use Rattle.driver_model.specs.Turning.{turn}
 use Rattle.driver_model.proofs.Adding.{begins_adds, blocks_adds, closes_adds, compacts_adds, crashes_adds, enters_adds, fail_adds, has_adds, line_adds, mark_adds, merges_adds, only_adds, part_adds, round_adds, sets_adds, settles_adds, turn_adds, turns_adds, waits_adds, writes_adds}
 use Rattle.driver_model.proofs.steps.drivers_only_add.Goals as goal
@@ -18,7 +18,7 @@ returns c = record {
   begins = λ r job d. only_adds d (begins r job d) (begins_adds r job d);
   closes = λ g r other d. only_adds d (closes g r other d) (closes_adds g r other d);
   crashes = λ g r clock d. only_adds d (crashes g r clock d) (crashes_adds g r clock d);
-  waits = λ milliseconds d. only_adds d (waits milliseconds d) (waits_adds milliseconds d);
+  waits = waits_adds;
   enters = λ path key d. only_adds d (enters path key d) (enters_adds path key d);
   will_fail = λ r call d. only_adds d (will_fail r call d) (fail_adds r call d);
   mark = λ d. only_adds d (with_mark d) (mark_adds d);
@@ -26,5 +26,5 @@ returns c = record {
   round = λ g d. only_adds d (round g d) (round_adds g d);
   settles = λ g d. only_adds d (settles g d) (settles_adds g d);
   blocks = λ g lines d. only_adds d (blocks g lines d) (blocks_adds g lines d);
-  line = λ g line d. only_adds d (does g line d) (line_adds g line d);
+  line = λ g line d. (line_adds g line d).0;
 }

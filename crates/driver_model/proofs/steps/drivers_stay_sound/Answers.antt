@@ -14,6 +14,7 @@ returns c =
     let laws : Laws = record {
       finds = c.steps_find_their_cause.ensures;
       first = c.runs_grow.ensures.first;
+      others = c.frames_go_to_others.ensures.sent;
       entry = c.runs_grow.ensures.entry;
       tree = c.runs_grow.ensures.tree;
       command = c.runs_grow.ensures.command;

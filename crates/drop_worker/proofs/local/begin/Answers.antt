@@ -1,10 +1,13 @@
 -- The bar, or the refusal by the row.
-use Rattle.std.proofs.Common.{Err, ap, ◌∙◌}
+use Rattle.std.proofs.Common.{Err, ap, sym, subst, ◌∙◌}
 use Rattle.run_data.specs.declared.entry.EntryKind.TheVariants.{Bar}
 use Rattle.drop_worker.specs.declared.phase.Phase.TheVariants as phases
 use Rattle.drop_worker.specs.Worker.{Worker}
-use Rattle.drop_worker.specs.Working.{sight}
+use Rattle.drop_worker.specs.Working.{failed_in, sight}
 use Rattle.drop_worker.specs.Leaving.{store}
+use Rattle.drop_worker.specs.Feeding.{IsOfLocal}
+use Rattle.drop_worker.proofs.Callings.{local_closed}
+use Rattle.drop_worker.proofs.LocalCalls.{begin_makes, unbarred_makes}
 use Rattle.drop_worker.proofs.Firsts.{barred_did, unbarred_did}
 use Rattle.drop_worker.proofs.Goings.{unbarred_gone}
 use Rattle.drop_worker.proofs.local.begin.Goals as goal
@@ -30,3 +33,13 @@ returns-in-Err-clause-does g c =
 pub returns-in-Err-clause-begun : goal.returns-in-Err-clause-begun
 returns-in-Err-clause-begun g c =
     unbarred_gone (g.H.Here.reading c.args.here.now) c.args.worker.now c.unbarred.new.worker c.in_ok-sends.sends c.in-Err.why c.unbarred.result c.requires.bare c.unbarred.ensures
+
+pub returns-in-Ok-clause-calls : goal.returns-in-Ok-clause-calls
+returns-in-Ok-clause-calls g c =
+    begin_makes (sight (g.H.Here.reading c.args.here.now) (g.H.Here.ends c.args.here.now) c.args.input.now.time c.args.input.now.number) (g.K.Keeper.contents c.args.keeper.now) c.args.table.now c.args.worker.now (g.K.Keeper.failing c.args.keeper.now) (g.K.Keeper.failing c.bar.new.keeper) c.requires.local c.requires.fresh
+    (local_closed c.args.worker.now c.args.table.now (subst IsOfLocal (sym c.requires.bare) tt) c.requires.owns) c.quietly.result (ap failed_in c.quietly.ensures.0) c.in-Ok.ensures.failing
+
+pub returns-in-Err-clause-calls : goal.returns-in-Err-clause-calls
+returns-in-Err-clause-calls g c =
+    unbarred_makes (sight (g.H.Here.reading c.args.here.now) (g.H.Here.ends c.args.here.now) c.args.input.now.time c.args.input.now.number) (g.K.Keeper.contents c.args.keeper.now) c.args.table.now c.args.worker.now (g.K.Keeper.failing c.args.keeper.now) (g.K.Keeper.failing c.bar.new.keeper) c.requires.local c.requires.fresh
+    (local_closed c.args.worker.now c.args.table.now (subst IsOfLocal (sym c.requires.bare) tt) c.requires.owns) c.unbarred.new.worker c.in_ok-sends.sends c.in-Err.why c.unbarred.result c.in-Err.ensures.failing c.unbarred.ensures

@@ -1,7 +1,7 @@
 -- What it states.
 use Rattle.std.proofs.Common.{ap, ◌∙◌, []}
 use Rattle.drop_proof.specs.declared.rule.Side.TheVariants.{Local}
-use Rattle.drop_worker.specs.Judging.{gathered}
+use Rattle.drop_worker.specs.Judging.{evidence_of}
 use Rattle.drop_worker.specs.Working.{sight}
 use Rattle.drop_worker.proofs.Stated.{dropped_did}
 use Rattle.drop_worker.proofs.local.drop_done.Goals as goal
@@ -11,4 +11,4 @@ returns-clause-does g c = λ time number k.
     let r = g.H.Here.reading c.args.here.now in
     let w = c.args.worker.now in
     dropped_did (sight r (g.H.Here.ends c.args.here.now) time number) c.args.table.now c.finish.new.table k w c.finish.new.worker c.finish.result c.deref-2.result.now c.in_ok-proof.proof c.requires.side
-    (c.deref-2.ensures.value ∙ (c.in_ok-items.ensures.known ∙ ap (λ l. gathered Local r w l []) (c.deref.ensures.value ∙ c.in_ok-candidates.ensures.all))) c.in_ok-proof.ensures c.requires.at (c.finish.ensures.does time number k)
+    (c.deref-2.ensures.value ∙ (c.in_ok-items.ensures.known ∙ ap (λ l. evidence_of Local r w l []) (c.deref.ensures.value ∙ c.in_ok-candidates.ensures.all))) c.in_ok-proof.ensures c.requires.at (c.finish.ensures.does time number k)

@@ -4,6 +4,7 @@ use Rattle.drop_worker.specs.Leaving.{store}
 use Rattle.drop_worker.specs.Working.{sight}
 use Rattle.drop_worker.proofs.Doings.{talks_barred}
 use Rattle.drop_worker.proofs.Machines.{acts_did, hears_did}
+use Rattle.drop_worker.proofs.TakingCalls.{local_makes, phase_makes}
 use Rattle.drop_worker.proofs.Goings.{acts_gone, hears_gone}
 use Rattle.drop_worker.proofs.machine.step_local.Goals as goal
 
@@ -25,3 +26,13 @@ returns-in-Some-clause-begun g c =
 
 pub returns-in-None-clause-begun : goal.returns-in-None-clause-begun
 returns-in-None-clause-begun g c = acts_gone (g.H.Here.reading c.args.here.now) c.args.worker.now c.act.new.worker c.act.result c.act.ensures.begun
+
+pub returns-in-Some-clause-calls : goal.returns-in-Some-clause-calls
+returns-in-Some-clause-calls g c =
+    local_makes (sight (g.H.Here.reading c.args.here.now) (g.H.Here.ends c.args.here.now) c.args.input.now.time c.args.input.now.number) (g.K.Keeper.contents c.args.keeper.now) c.args.table.now c.args.worker.now c.hear.new.worker
+    c.in-Some.peer c.args.input.now.taken (g.K.Keeper.failing c.args.keeper.now) c.hear.result (sym c.awaits.ensures ∙ c.in-Some.is) c.requires.fits c.hear.ensures.talks
+
+pub returns-in-None-clause-calls : goal.returns-in-None-clause-calls
+returns-in-None-clause-calls g c =
+    phase_makes (sight (g.H.Here.reading c.args.here.now) (g.H.Here.ends c.args.here.now) c.args.input.now.time c.args.input.now.number) (g.K.Keeper.contents c.args.keeper.now) c.args.table.now c.args.worker.now
+    c.args.input.now.taken (g.K.Keeper.failing c.args.keeper.now) (g.K.Keeper.failing c.act.new.keeper) c.act.result (sym c.awaits.ensures ∙ c.in-None.is) c.act.ensures.calls

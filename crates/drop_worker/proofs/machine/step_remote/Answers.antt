@@ -3,6 +3,7 @@ use Rattle.std.proofs.Common.{sym, ◌∙◌}
 use Rattle.drop_worker.specs.Leaving.{store}
 use Rattle.drop_worker.specs.Working.{sight}
 use Rattle.drop_worker.proofs.Machines.{acts_alike, hears_alike}
+use Rattle.drop_worker.proofs.TakingCalls.{fed_makes, phase_makes}
 use Rattle.drop_worker.proofs.Numbers.{each_number}
 use Rattle.drop_worker.proofs.machine.step_remote.Goals as goal
 
@@ -18,3 +19,13 @@ returns-in-None-clause-did g c =
 
 pub returns-in-Some-clause-numbered : goal.returns-in-Some-clause-numbered
 returns-in-Some-clause-numbered g c = each_number c.args.input.now.number c.hear.result c.hear.ensures.numbered
+
+pub returns-in-Some-clause-calls : goal.returns-in-Some-clause-calls
+returns-in-Some-clause-calls g c =
+    fed_makes (sight (g.H.Here.reading c.args.here.now) (g.H.Here.ends c.args.here.now) c.args.input.now.time c.args.input.now.number) (g.K.Keeper.contents c.args.keeper.now) c.args.table.now c.args.worker.now
+    c.in-Some.peer c.args.input.now.taken (g.K.Keeper.failing c.args.keeper.now) (g.K.Keeper.failing c.hear.new.keeper) c.hear.result (sym c.awaits.ensures ∙ c.in-Some.is) (c.hear.ensures.calls c.args.input.now.number)
+
+pub returns-in-None-clause-calls : goal.returns-in-None-clause-calls
+returns-in-None-clause-calls g c =
+    phase_makes (sight (g.H.Here.reading c.args.here.now) (g.H.Here.ends c.args.here.now) c.args.input.now.time c.args.input.now.number) (g.K.Keeper.contents c.args.keeper.now) c.args.table.now c.args.worker.now
+    c.args.input.now.taken (g.K.Keeper.failing c.args.keeper.now) (g.K.Keeper.failing c.act.new.keeper) c.act.result (sym c.awaits.ensures ∙ c.in-None.is) c.act.ensures.calls

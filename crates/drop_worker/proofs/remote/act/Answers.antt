@@ -1,6 +1,8 @@
 -- Where it goes on from.
 use Rattle.std.proofs.Common.{rules}
 use Rattle.drop_worker.specs.Leaving.{store}
+use Rattle.drop_worker.specs.Working.{sight}
+use Rattle.drop_worker.proofs.RemoteCalls.{outcome_makes}
 use Rattle.drop_worker.proofs.RemoteGoings.{outcome_goes}
 use Rattle.drop_worker.proofs.Numbers.{each_number}
 use Rattle.drop_worker.proofs.remote.act.Goals as goal
@@ -19,3 +21,11 @@ returns-in-Next-clause-numbered g c = each_number c.args.input.now.number c.go_o
 
 pub returns-in_ok-outcome-in-Removed-clause-numbered : goal.returns-in_ok-outcome-in-Removed-clause-numbered
 returns-in_ok-outcome-in-Removed-clause-numbered g c = each_number c.args.input.now.number c.finish.result c.finish.ensures.numbered
+
+pub returns-in-Next-clause-calls : goal.returns-in-Next-clause-calls
+returns-in-Next-clause-calls g c = c.go_on.ensures.calls c.args.input.now.number
+
+pub returns-in_ok-outcome-in-Removed-clause-calls : goal.returns-in_ok-outcome-in-Removed-clause-calls
+returns-in_ok-outcome-in-Removed-clause-calls g c =
+    outcome_makes (sight (g.H.Here.reading c.args.here.now) (g.H.Here.ends c.args.here.now) c.args.input.now.time c.args.input.now.number) (g.K.Keeper.contents c.args.keeper.now) c.args.table.now c.args.worker.now (g.K.Keeper.failing c.args.keeper.now) (g.K.Keeper.failing c.finish.new.keeper) c.in_ok-outcome-in-Removed.outcome c.finish.result (search rules)
+    (λ p fails rest. c.in_ok-outcome-in-Removed.ensures c.args.input.now.time c.args.input.now.number c.args.table.now p fails rest) c.finish.ensures.calls

@@ -5,7 +5,9 @@ use Rattle.drop_worker.specs.declared.phase.Token.{Token}
 use Rattle.drop_worker.specs.Doing.{HasToken}
 use Rattle.drop_worker.specs.Leaving.{store}
 use Rattle.drop_worker.specs.Worker.{Worker}
-use Rattle.drop_worker.specs.Working.{partings}
+use Rattle.drop_worker.specs.Working.{failed_in, partings}
+use Rattle.drop_worker.specs.declared.turn.Output.{Output}
+use Rattle.drop_worker.proofs.RemoteCalls.{bare_makes, lost_makes, released_makes, unreleased_makes}
 use Rattle.drop_worker.proofs.RemoteEndings.{agrees_still, bare_did, failed_did, lost_did, released_did}
 use Rattle.drop_worker.proofs.remote.finish.Goals as goal
 
@@ -56,3 +58,21 @@ returns-in-Err-clause-did g c =
     c.in-Err.ensures.err.1 c.in-Err.ensures.err.0 (subst (λ (t : Token). HasToken w.number w.job.key t c.args.table.now) (sym c.take_token.ensures.token ∙ c.in-Share.is) c.requires.owns)
     c.take_token.ensures.bare c.unreleased.ensures.does (sym c.is_lost-lost.ensures ∙ c.if-lost.false) c.unreleased.ensures.after c.unreleased.ensures.owns c.unreleased.ensures.others c.unreleased.ensures.labels
     c.in-Err.ensures.contents c.in-Err.ensures.agrees c.in-Err.ensures.later c.in-Err.ensures.cause
+
+pub returns-in-Nothing-clause-calls : goal.returns-in-Nothing-clause-calls
+returns-in-Nothing-clause-calls g c =
+    bare_makes c.args.table.now c.args.worker.now c.args.outcome c.ending.result (g.K.Keeper.failing c.args.keeper.now) (subst (λ (t : Token). HasToken c.args.worker.now.number c.args.worker.now.job.key t c.args.table.now) (sym c.take_token.ensures.token ∙ c.in-Nothing.is) c.requires.owns) (ap (λ (o : Output). failed_in o.kind) c.ending.ensures)
+
+pub returns-then-lost-clause-calls : goal.returns-then-lost-clause-calls
+returns-then-lost-clause-calls g c =
+    lost_makes c.args.table.now c.args.worker.now c.args.outcome c.ending-then-lost.result (g.K.Keeper.failing c.args.keeper.now) (sym c.is_lost-lost.ensures ∙ c.if-lost.true) (ap (λ (o : Output). failed_in o.kind) c.ending-then-lost.ensures)
+
+pub returns-in-Ok-clause-calls : goal.returns-in-Ok-clause-calls
+returns-in-Ok-clause-calls g c =
+    released_makes c.args.table.now c.args.worker.now c.args.outcome c.ending-in-Ok.result (g.K.Keeper.failing c.args.keeper.now) (g.K.Keeper.failing c.release.new.keeper) c.in-Share.share
+    (subst (λ (t : Token). HasToken c.args.worker.now.number c.args.worker.now.job.key t c.args.table.now) (sym c.take_token.ensures.token ∙ c.in-Share.is) c.requires.owns) (sym c.is_lost-lost.ensures ∙ c.if-lost.false) (ap (λ (o : Output). failed_in o.kind) c.ending-in-Ok.ensures) c.in-Ok.ensures.failing
+
+pub returns-in-Err-clause-calls : goal.returns-in-Err-clause-calls
+returns-in-Err-clause-calls g c =
+    unreleased_makes c.args.table.now c.args.worker.now c.args.outcome c.unreleased.result (g.K.Keeper.failing c.args.keeper.now) (g.K.Keeper.failing c.release.new.keeper) c.in-Share.share
+    (subst (λ (t : Token). HasToken c.args.worker.now.number c.args.worker.now.job.key t c.args.table.now) (sym c.take_token.ensures.token ∙ c.in-Share.is) c.requires.owns) (sym c.is_lost-lost.ensures ∙ c.if-lost.false) (ap failed_in c.unreleased.ensures.does.kind) c.in-Err.ensures.failing

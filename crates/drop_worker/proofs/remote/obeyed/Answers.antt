@@ -3,7 +3,7 @@ use Rattle.std.proofs.Common.{ℕ, List, [], ap, ◌∙◌}
 use Rattle.drop_proof.specs.declared.rule.Side.TheVariants.{Remote}
 use Rattle.node_model.specs.Knows.{obeyed_outcome}
 use Rattle.drop_worker.specs.Working.{sight}
-use Rattle.drop_worker.specs.Judging.{gathered}
+use Rattle.drop_worker.specs.Judging.{evidence_of}
 use Rattle.drop_worker.proofs.RemoteEvidences.{obeyed_is}
 use Rattle.drop_worker.proofs.remote.obeyed.Goals as goal
 
@@ -14,5 +14,5 @@ returns g c = λ time number rows p fails rest.
     let w = c.args.worker.now in
     c.obeyed_outcome.ensures ∙ (ap (λ o. obeyed_outcome o c.in_ok-proof.proof) c.word.ensures
     ∙ obeyed_is (sight read ends time number) rows p fails rest w c.deref-2.result.now c.args.target c.requires.remote
-    (c.deref-2.ensures.value ∙ (c.in_ok-items.ensures.known ∙ ap (λ (l : List ℕ). gathered Remote read w l []) (c.deref.ensures.value ∙ c.in_ok-candidates.ensures.all)))
+    (c.deref-2.ensures.value ∙ (c.in_ok-items.ensures.known ∙ ap (λ (l : List ℕ). evidence_of Remote read w l []) (c.deref.ensures.value ∙ c.in_ok-candidates.ensures.all)))
     c.in_ok-proof.proof c.in_ok-proof.ensures)

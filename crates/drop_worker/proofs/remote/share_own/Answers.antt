@@ -1,6 +1,7 @@
 -- Why there is no share.
 use Rattle.std.proofs.Common.{ℕ, List, ◌∷◌, subst, ap, ◌∙◌}
-use Rattle.content_lock.specs.Looks.{NotShared}
+use Rattle.content_lock.specs.Looks.{LooksSo, NotShared}
+use Rattle.content_lock.specs.declared.refusals.Look.TheVariants as looks
 use Rattle.content_lock.specs.Rows.{bar_at}
 use Rattle.content_lock.specs.Stored.{HasContent}
 use Rattle.drop_worker.specs.declared.phase.Heard.TheVariants as heards
@@ -10,7 +11,8 @@ use Rattle.drop_worker.specs.Leaving.{store}
 use Rattle.drop_worker.specs.Feeding.{FitsRemote}
 use Rattle.drop_worker.specs.Remote.{Unshared}
 use Rattle.drop_worker.specs.Worker.{Worker}
-use Rattle.drop_worker.specs.Working.{sight}
+use Rattle.drop_worker.specs.Working.{failed_in, sight}
+use Rattle.drop_worker.proofs.RemoteCalls.{shared_makes, unshared_makes}
 use Rattle.drop_worker.proofs.Sharings.{unshared_did}
 use Rattle.drop_worker.proofs.remote.share_own.Goals as goal
 
@@ -26,3 +28,15 @@ returns-in-Err-clause-did g c =
     c.in-Err.ensures.cause
     (subst (λ (u : Worker). Unshared c.in-Err.why u c.unshared.new.worker c.unshared.result)
     (c.in_ok-hear.ensures.ok ∙ (λ i. record w { heard = (c.repo.ensures i, heards.Held c.args.input.now.time) ∷ w.heard; phase = phases.Next })) c.unshared.ensures)
+
+pub returns-in-Ok-clause-calls : goal.returns-in-Ok-clause-calls
+returns-in-Ok-clause-calls g c =
+    shared_makes (sight (g.H.Here.reading c.args.here.now) (g.H.Here.ends c.args.here.now) c.args.input.now.time c.args.input.now.number) (g.K.Keeper.contents c.args.keeper.now) c.args.table.now c.args.worker.now (g.K.Keeper.failing c.args.keeper.now) (g.K.Keeper.failing c.share.new.keeper) c.requires.stands.remote.side c.requires.at c.requires.asked c.quietly.result
+    (subst (λ (key : List ℕ). LooksSo looks.Present (HasContent (g.K.Keeper.contents c.args.keeper.now) key) (bar_at c.args.table.now key)) (c.key-3.ensures ∙ ap (λ (u : Worker). u.job.key) c.in_ok-hear.ensures.ok) c.in-Ok.ensures.free)
+    (ap failed_in c.quietly.ensures.0) c.in-Ok.ensures.failing
+
+pub returns-in-Err-clause-calls : goal.returns-in-Err-clause-calls
+returns-in-Err-clause-calls g c =
+    unshared_makes (sight (g.H.Here.reading c.args.here.now) (g.H.Here.ends c.args.here.now) c.args.input.now.time c.args.input.now.number) (g.K.Keeper.contents c.args.keeper.now) c.args.table.now c.args.worker.now (g.K.Keeper.failing c.args.keeper.now) (g.K.Keeper.failing c.share.new.keeper) c.requires.stands.remote.side c.requires.at c.requires.asked c.hear.new.self c.unshared.new.worker c.in-Err.why c.unshared.result
+    (subst (λ (key : List ℕ). NotShared c.in-Err.why (HasContent (g.K.Keeper.contents c.args.keeper.now) key) (bar_at c.args.table.now key)) (c.key-3.ensures ∙ ap (λ (u : Worker). u.job.key) c.in_ok-hear.ensures.ok) c.in-Err.ensures.why)
+    c.unshared.ensures c.in-Err.ensures.failing

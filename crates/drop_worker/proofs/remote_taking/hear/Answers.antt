@@ -1,7 +1,11 @@
 -- What the proof of `remote_taking::hear` needs beside the tactics.
+use Rattle.std.proofs.Common.{◌≡◌, sym, ◌∙◌}
 use Rattle.drop_worker.specs.declared.turn.Taken.TheVariants as takens
+use Rattle.drop_worker.specs.Working.{sight}
 use Rattle.drop_worker.specs.Leaving.{store}
 use Rattle.drop_worker.specs.Remote.{TakesRemote}
+use Rattle.drop_worker.proofs.Callings.{spoken_well}
+use Rattle.drop_worker.proofs.TakingCalls.{unsaid_makes}
 use Rattle.drop_worker.proofs.Feedings.{closed_so, other_so, speaks_did}
 use Rattle.drop_worker.proofs.Numbers.{speaks_numbered}
 use Rattle.drop_worker.proofs.remote_taking.hear.Goals as goal
@@ -32,3 +36,16 @@ returns-in-Other-clause-numbered g c = speaks_numbered c.args.worker.now c.take_
 
 pub returns-in-Closed-clause-numbered : goal.returns-in-Closed-clause-numbered
 returns-in-Closed-clause-numbered g c = speaks_numbered c.args.worker.now c.close.new.worker c.close.result c.close.ensures.speaks
+
+pub returns-in-Message-clause-calls : goal.returns-in-Message-clause-calls
+returns-in-Message-clause-calls g c = rw c.in-Message.is c.take_message.ensures.calls
+
+pub returns-in-Other-clause-calls : goal.returns-in-Other-clause-calls
+returns-in-Other-clause-calls g c = λ number.
+    unsaid_makes (sight (g.H.Here.reading c.args.here.now) (g.H.Here.ends c.args.here.now) c.args.input.now.time number) c.args.table.now c.args.worker.now c.args.peer c.args.input.now.taken (g.K.Keeper.failing c.args.keeper.now) c.take_other.result
+    (λ m is. let both : takens.Other ≡ takens.Message m = sym c.in-Other.is ∙ is in cc) (spoken_well c.args.worker.now c.take_other.new.worker c.take_other.result c.take_other.ensures.speaks)
+
+pub returns-in-Closed-clause-calls : goal.returns-in-Closed-clause-calls
+returns-in-Closed-clause-calls g c = λ number.
+    unsaid_makes (sight (g.H.Here.reading c.args.here.now) (g.H.Here.ends c.args.here.now) c.args.input.now.time number) c.args.table.now c.args.worker.now c.args.peer c.args.input.now.taken (g.K.Keeper.failing c.args.keeper.now) c.close.result
+    (λ m is. let both : takens.Closed ≡ takens.Message m = sym c.in-Closed.is ∙ is in cc) (spoken_well c.args.worker.now c.close.new.worker c.close.result c.close.ensures.speaks)

@@ -1,9 +1,11 @@
 -- What the proof of `remote_taking::order_at` needs beside the tactics.
-use Rattle.std.proofs.Common.{None, sym, ◌∙◌}
+use Rattle.std.proofs.Common.{None, refl, sym, ◌∙◌}
 use Rattle.p2p_wire.specs.declared.message.Message.TheVariants.{Timestamp}
 use Rattle.drop_worker.specs.declared.turn.Taken.TheVariants as takens
 use Rattle.drop_worker.specs.Leaving.{store}
 use Rattle.drop_worker.specs.Remote.{Says, Speaks, TakesRemote, order_of}
+use Rattle.drop_worker.proofs.Callings.{spoken_well}
+use Rattle.drop_worker.proofs.TakingCalls.{order_makes}
 use Rattle.drop_worker.proofs.Feedings.{speaks_did}
 use Rattle.drop_worker.proofs.Takings.{if_ok}
 use Rattle.drop_worker.proofs.Timing.{order_plain, order_speaks, order_takes}
@@ -24,3 +26,10 @@ returns-in-None-clause-did g c =
     order_takes read ends c.args.time w target c.args.now remote c.requires.at w' None out c.args.table.now c.requires.early lines.order.0 s
     (λ number p rest f. order_plain read ends c.args.time w target c.args.now remote c.requires.at (sym c.in-None.is ∙ c.in_ok-locks_end.ensures) number c.args.table.now p rest f)))
     (if_ok c.order.result (Says (order_of read.need w target None) target w w') (Speaks w w') c.order.ensures.says (λ out s. order_speaks read w w' target None out s)) c.order.ensures.err
+
+pub returns-in-None-clause-calls : goal.returns-in-None-clause-calls
+returns-in-None-clause-calls g c = λ number.
+    order_makes (g.H.Here.reading c.args.here.now) (g.H.Here.ends c.args.here.now) c.args.time number c.args.table.now c.args.worker.now c.args.target c.args.now c.requires.stands.remote c.requires.at None (g.K.Keeper.failing c.args.keeper.now) c.order.result
+    c.requires.early (sym c.in-None.is ∙ c.in_ok-locks_end.ensures) (λ t read clocks time. refl)
+    (spoken_well c.args.worker.now c.order.new.worker c.order.result (if_ok c.order.result (Says (order_of (g.H.Here.reading c.args.here.now).need c.args.worker.now c.args.target None) c.args.target c.args.worker.now c.order.new.worker) (Speaks c.args.worker.now c.order.new.worker) c.order.ensures.says
+    (λ out s. order_speaks (g.H.Here.reading c.args.here.now) c.args.worker.now c.order.new.worker c.args.target None out s)))

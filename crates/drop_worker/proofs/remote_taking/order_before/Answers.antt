@@ -6,6 +6,8 @@ use Rattle.p2p_wire.specs.declared.message.Message.TheVariants.{Timestamp}
 use Rattle.drop_worker.specs.declared.turn.Taken.TheVariants as takens
 use Rattle.drop_worker.specs.Leaving.{store}
 use Rattle.drop_worker.specs.Remote.{EndsSo, Says, Speaks, TakesRemote, order_of}
+use Rattle.drop_worker.proofs.Callings.{spoken_well}
+use Rattle.drop_worker.proofs.TakingCalls.{expired_makes, order_makes, timed_none}
 use Rattle.drop_worker.proofs.Feedings.{did_as_remote, speaks_did}
 use Rattle.drop_worker.proofs.Takings.{if_ok}
 use Rattle.drop_worker.proofs.Timing.{late_takes, order_speaks, order_takes, order_timed}
@@ -39,3 +41,15 @@ returns-in-Err-clause-did g c =
     did_as_remote c.args.table.now c.finish.new.table (store (g.K.Keeper.contents c.args.keeper.now) (g.K.Keeper.records c.args.keeper.now) (g.K.Keeper.faults c.args.keeper.now)) (store (g.K.Keeper.contents c.finish.new.keeper) (g.K.Keeper.records c.finish.new.keeper) (g.K.Keeper.faults c.finish.new.keeper)) w w'
     (EndsSo read ends c.args.time c.args.table.now c.finish.new.table w w' why) (TakesRemote read ends c.args.time c.args.table.now c.finish.new.table target (takens.Message (Timestamp c.args.now)) w w') c.finish.result c.finish.ensures.did
     (λ out d. late_takes read ends c.args.time w target c.args.now c.requires.stands.remote c.requires.at c.args.table.now c.finish.new.table w' c.clock-clock.result c.args.end out c.requires.early c.requires.known c.clock-clock.ensures.same c.in-Err.ensures.told.0 d)
+
+pub returns-in-Ok-clause-calls : goal.returns-in-Ok-clause-calls
+returns-in-Ok-clause-calls g c = λ number.
+    order_makes (g.H.Here.reading c.args.here.now) (g.H.Here.ends c.args.here.now) c.args.time number c.args.table.now c.args.worker.now c.args.target c.args.now c.requires.stands.remote c.requires.at (Some c.args.end) (g.K.Keeper.failing c.args.keeper.now) c.order.result
+    c.requires.early c.requires.known (timed_none (g.H.Here.reading c.args.here.now) (g.H.Here.ends c.args.here.now) c.args.time number c.args.table.now c.args.worker.now c.args.target c.args.now c.requires.stands.remote c.requires.at c.clock-clock.result c.args.end c.clock-clock.ensures.same c.in-Ok.ensures.told.0)
+    (spoken_well c.args.worker.now c.order.new.worker c.order.result (if_ok c.order.result (Says (order_of (g.H.Here.reading c.args.here.now).need c.args.worker.now c.args.target (Some c.in-Ok.before)) c.args.target c.args.worker.now c.order.new.worker) (Speaks c.args.worker.now c.order.new.worker) c.order.ensures.says
+    (λ out s. order_speaks (g.H.Here.reading c.args.here.now) c.args.worker.now c.order.new.worker c.args.target (Some c.in-Ok.before) out s)))
+
+pub returns-in-Err-clause-calls : goal.returns-in-Err-clause-calls
+returns-in-Err-clause-calls g c = λ number.
+    expired_makes (g.H.Here.reading c.args.here.now) (g.H.Here.ends c.args.here.now) c.args.time number c.args.table.now c.args.worker.now c.args.target c.args.now c.requires.stands.remote c.requires.at c.clock-clock.result c.args.end (g.K.Keeper.failing c.args.keeper.now) (g.K.Keeper.failing c.finish.new.keeper) c.finish.result
+    c.requires.early c.requires.known c.clock-clock.ensures.same c.in-Err.ensures.told.0 c.finish.ensures.calls

@@ -2,10 +2,15 @@
 use Rattle.std.proofs.Common.{ℕ, sym, ◌∙◌, subst}
 use Rattle.std.specs.Prelude.{IfOk}
 use Rattle.drop_worker.specs.declared.turn.Taken.TheVariants as takens
+use Rattle.drop_worker.specs.Calling.{MakesFed}
 use Rattle.drop_worker.specs.Doing.{Takes}
 use Rattle.drop_worker.specs.Leaving.{store}
 use Rattle.drop_worker.specs.Remote.{TakesRemote}
-use Rattle.drop_worker.proofs.Feedings.{at_rows, ordered_peer, speaks_did, takes_so}
+use Rattle.drop_worker.specs.declared.phase.Phase.{Phase}
+use Rattle.drop_worker.specs.Working.{sight}
+use Rattle.drop_worker.proofs.Callings.{spoken_well}
+use Rattle.drop_worker.proofs.TakingCalls.{IsTime, spoken_makes}
+use Rattle.drop_worker.proofs.Feedings.{asked_peer, at_rows, ordered_peer, speaks_did, takes_so}
 use Rattle.drop_worker.proofs.Numbers.{speaks_numbered}
 use Rattle.drop_worker.proofs.remote_taking.take_message.Goals as goal
 
@@ -76,3 +81,34 @@ returns-in-AsksLook-clause-numbered g c = speaks_numbered c.args.worker.now c.ta
 
 pub returns-in-Orders-clause-numbered : goal.returns-in-Orders-clause-numbered
 returns-in-Orders-clause-numbered g c = speaks_numbered c.args.worker.now c.take_answer.new.worker c.take_answer.result c.take_answer.ensures.speaks
+
+pub returns-in-Opens-clause-calls : goal.returns-in-Opens-clause-calls
+returns-in-Opens-clause-calls g c = λ number.
+    spoken_makes (sight (g.H.Here.reading c.args.here.now) (g.H.Here.ends c.args.here.now) c.args.input.now.time number) c.args.table.now c.args.worker.now c.args.peer c.args.message.now (g.K.Keeper.failing c.args.keeper.now) c.take_opened.result
+    (spoken_well c.args.worker.now c.take_opened.new.worker c.take_opened.result c.take_opened.ensures.speaks) (λ time. subst (λ (ph : Phase). IsTime ph c.args.message.now) (sym c.phase.ensures ∙ c.in-Opens.is) time)
+
+pub returns-in-Greets-clause-calls : goal.returns-in-Greets-clause-calls
+returns-in-Greets-clause-calls g c = λ number.
+    spoken_makes (sight (g.H.Here.reading c.args.here.now) (g.H.Here.ends c.args.here.now) c.args.input.now.time number) c.args.table.now c.args.worker.now c.args.peer c.args.message.now (g.K.Keeper.failing c.args.keeper.now) c.take_version.result
+    (spoken_well c.args.worker.now c.take_version.new.worker c.take_version.result c.take_version.ensures.speaks) (λ time. subst (λ (ph : Phase). IsTime ph c.args.message.now) (sym c.phase.ensures ∙ c.in-Greets.is) time)
+
+pub returns-in-AsksLock-clause-calls : goal.returns-in-AsksLock-clause-calls
+returns-in-AsksLock-clause-calls g c = λ number.
+    spoken_makes (sight (g.H.Here.reading c.args.here.now) (g.H.Here.ends c.args.here.now) c.args.input.now.time number) c.args.table.now c.args.worker.now c.args.peer c.args.message.now (g.K.Keeper.failing c.args.keeper.now) c.take_lock.result
+    (spoken_well c.args.worker.now c.take_lock.new.worker c.take_lock.result c.take_lock.ensures.speaks) (λ time. subst (λ (ph : Phase). IsTime ph c.args.message.now) (sym c.phase.ensures ∙ c.in-AsksLock.is) time)
+
+pub returns-in-AsksLook-clause-calls : goal.returns-in-AsksLook-clause-calls
+returns-in-AsksLook-clause-calls g c = λ number.
+    spoken_makes (sight (g.H.Here.reading c.args.here.now) (g.H.Here.ends c.args.here.now) c.args.input.now.time number) c.args.table.now c.args.worker.now c.args.peer c.args.message.now (g.K.Keeper.failing c.args.keeper.now) c.take_look.result
+    (spoken_well c.args.worker.now c.take_look.new.worker c.take_look.result c.take_look.ensures.speaks) (λ time. subst (λ (ph : Phase). IsTime ph c.args.message.now) (sym c.phase.ensures ∙ c.in-AsksLook.is) time)
+
+pub returns-in-Orders-clause-calls : goal.returns-in-Orders-clause-calls
+returns-in-Orders-clause-calls g c = λ number.
+    spoken_makes (sight (g.H.Here.reading c.args.here.now) (g.H.Here.ends c.args.here.now) c.args.input.now.time number) c.args.table.now c.args.worker.now c.args.peer c.args.message.now (g.K.Keeper.failing c.args.keeper.now) c.take_answer.result
+    (spoken_well c.args.worker.now c.take_answer.new.worker c.take_answer.result c.take_answer.ensures.speaks) (λ time. subst (λ (ph : Phase). IsTime ph c.args.message.now) (sym c.phase.ensures ∙ c.in-Orders.is) time)
+
+pub returns-in-AsksTime-clause-calls : goal.returns-in-AsksTime-clause-calls
+returns-in-AsksTime-clause-calls g c = λ number.
+    subst (λ (q : ℕ). MakesFed (sight (g.H.Here.reading c.args.here.now) (g.H.Here.ends c.args.here.now) c.args.input.now.time number) c.args.table.now c.args.worker.now q (takens.Message c.args.message.now) (g.K.Keeper.failing c.args.keeper.now)
+    (g.K.Keeper.failing c.take_time.new.keeper) c.take_time.result)
+    (asked_peer c.args.worker.now c.args.target c.args.peer c.requires.stands.remote.peer (sym c.phase.ensures ∙ c.in-AsksTime.is) c.requires.awaits) (c.take_time.ensures.calls number)

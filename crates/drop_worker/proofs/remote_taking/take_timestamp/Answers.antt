@@ -4,6 +4,8 @@ use Rattle.p2p_wire.specs.declared.message.Message.TheVariants.{Timestamp}
 use Rattle.drop_worker.specs.declared.turn.Taken.TheVariants as takens
 use Rattle.drop_worker.specs.Leaving.{store}
 use Rattle.drop_worker.specs.Remote.{TakesRemote}
+use Rattle.drop_worker.proofs.Callings.{spoken_well}
+use Rattle.drop_worker.proofs.TakingCalls.{untold_makes}
 use Rattle.drop_worker.proofs.Feedings.{at_rows, lost_takes, speaks_did}
 use Rattle.drop_worker.proofs.Losses.{shuts_speaks}
 use Rattle.drop_worker.proofs.Timing.{no_time}
@@ -23,3 +25,8 @@ returns-then-now-ge-NO_TIME-clause-did g c =
     (lost_takes read ends c.args.time w w' target target m c.shut.result c.requires.stands.remote c.shut.ensures.shuts (λ rest f line. rw c.requires.at refl) (rw c.requires.at c.requires.stands.remote.peer)
     (λ x rows p rest f. no_time x rows p rest w f target c.args.now c.requires.stands.remote c.requires.at c.if-now-ge-NO_TIME.true)))
     (shuts_speaks w w' target target c.shut.result c.shut.ensures.shuts) c.shut.ensures.err
+
+pub returns-then-now-ge-NO_TIME-clause-calls : goal.returns-then-now-ge-NO_TIME-clause-calls
+returns-then-now-ge-NO_TIME-clause-calls g c = λ number.
+    untold_makes (g.H.Here.reading c.args.here.now) (g.H.Here.ends c.args.here.now) c.args.time number c.args.table.now c.args.worker.now c.args.target c.args.now c.requires.stands.remote c.requires.at (g.K.Keeper.failing c.args.keeper.now) c.shut.result
+    c.if-now-ge-NO_TIME.true (spoken_well c.args.worker.now c.shut.new.worker c.shut.result (shuts_speaks c.args.worker.now c.shut.new.worker c.args.target c.args.target c.shut.result c.shut.ensures.shuts))

@@ -4,10 +4,11 @@ use Rattle.std.specs.Prelude.{IfOk}
 use Rattle.drop_proof.specs.declared.rule.Side.TheVariants.{Local}
 use Rattle.node_model.specs.Jobs.{drop_side}
 use Rattle.trust_groups.specs.View.{settings_of}
+use Rattle.node_jobs.specs.Calling.{JobMakes}
 use Rattle.node_jobs.specs.Doings.{Acts}
 use Rattle.node_jobs.specs.Reads.{Known}
 use Rattle.node_jobs.specs.Running.{DropJob, HasRead, Stands}
-use Rattle.node_jobs.proofs.Knowing.{acts_ok, acts_so, knows_logs, knows_read}
+use Rattle.node_jobs.proofs.Knowing.{acts_ok, acts_so, knows_logs, knows_read, makes_ok, makes_so}
 use Rattle.node_jobs.proofs.acting.act.Goals as goal
 
 pub returns-in-Some-clause-acts : goal.returns-in-Some-clause-acts
@@ -34,3 +35,28 @@ returns-in_ok-out-in-None-clause-acts g c =
     (λ s st place read logs nameless. knows_logs p s st j settings c.in_ok-known-in-None.known place (subst (HasRead s st j.worker) c.in-None.is read) logs nameless c.in_ok-known-in-None.ensures.need
     (rw (c.key.ensures, c.ids.ensures) at c.in_ok-known-in-None.ensures.standings))
     (subst (λ (was : DropJob). Stands p was.worker.phase was.known) (sym c.job.view_is) c.requires.stands) c.in_ok-out-in-None.ensures.does c.in_ok-out-in-None.ensures.steps)
+
+pub returns-in-Some-clause-calls : goal.returns-in-Some-clause-calls
+returns-in-Some-clause-calls g c =
+    let p = c.args.place.now in
+    let j : DropJob = record { worker = c.job.inside.worker; known = c.job.inside.known } in
+    let settings = settings_of c.args.settings.now in
+    let contents = g.K.Keeper.contents c.args.keeper.now in
+    let before = g.K.Keeper.failing c.args.keeper.now in
+    let after = g.K.Keeper.failing c.advance.new.keeper in
+    subst (λ (was : DropJob). IfOk c.advance.result (JobMakes p c.args.clock c.args.ends.now settings c.args.input.now contents c.args.table.now before after was)) c.job.view_is
+    (makes_ok p c.args.clock c.args.ends.now settings c.args.input.now contents c.args.table.now j c.in-Some.known before after c.advance.result
+    (λ s st place read logs nameless. knows_read s st j c.in-Some.known (subst (HasRead s st j.worker) c.in-Some.is read)) c.advance.ensures.calls)
+
+pub returns-in_ok-out-in-None-clause-calls : goal.returns-in_ok-out-in-None-clause-calls
+returns-in_ok-out-in-None-clause-calls g c =
+    let p = c.args.place.now in
+    let j : DropJob = record { worker = c.job.inside.worker; known = c.job.inside.known } in
+    let settings = settings_of c.args.settings.now in
+    let contents = g.K.Keeper.contents c.args.keeper.now in
+    let before = g.K.Keeper.failing c.args.keeper.now in
+    let after = g.K.Keeper.failing c.advance-in-None.new.keeper in
+    subst (λ (was : DropJob). JobMakes p c.args.clock c.args.ends.now settings c.args.input.now contents c.args.table.now before after was c.in_ok-out-in-None.out) c.job.view_is
+    (makes_so p c.args.clock c.args.ends.now settings c.args.input.now contents c.args.table.now j c.in_ok-known-in-None.known before after c.in_ok-out-in-None.out
+    (λ s st place read logs nameless. knows_logs p s st j settings c.in_ok-known-in-None.known place (subst (HasRead s st j.worker) c.in-None.is read) logs nameless c.in_ok-known-in-None.ensures.need
+    (rw (c.key.ensures, c.ids.ensures) at c.in_ok-known-in-None.ensures.standings)) c.in_ok-out-in-None.ensures.calls)

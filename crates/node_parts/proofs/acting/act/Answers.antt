@@ -1,6 +1,6 @@
 -- What is sent is what the definitions send.
-use Rattle.std.proofs.Common.{sym, subst, ◌∙◌}
-use Rattle.node_parts.specs.Posting.{Posts}
+use Rattle.std.proofs.Common.{None, sym, subst, ◌∙◌}
+use Rattle.node_parts.specs.Posting.{PostsOnly}
 use Rattle.node_parts.proofs.Posting.{sent_well}
 use Rattle.node_parts.proofs.acting.act.Goals as goal
 
@@ -16,5 +16,5 @@ returns-clause-posts c =
     let kind = c.args.acted.kind in
     let was = c.args.ends.now in
     let taken = c.take_from-taken.result in
-    subst (Posts c.args.stamp kind was c.post_all.new.ends taken) (sym c.from_vec.ensures)
-    (c.post_all.ensures.posts kind was taken (subst (Posts c.args.stamp kind was c.take_from-taken.new.ends taken) (sym c.into_parts-parcels.ensures.room.empty) (c.take_from-taken.ensures.posts c.args.stamp kind)))
+    subst (PostsOnly None c.args.stamp kind was c.post_all.new.ends taken) (sym c.from_vec.ensures)
+    (c.post_all.ensures.posts None kind was taken (subst (PostsOnly None c.args.stamp kind was c.take_from-taken.new.ends taken) (sym c.into_parts-parcels.ensures.room.empty) (c.take_from-taken.ensures.posts None c.args.stamp kind)))

@@ -2,7 +2,7 @@
 use Rattle.std.proofs.Common.{[], Option, refl, sym, subst}
 use Rattle.run_data.specs.declared.entry.FrameView.{FrameView}
 use Rattle.drop_worker.specs.Working.{end_in}
-use Rattle.node_parts.specs.Posting.{Posts}
+use Rattle.node_parts.specs.Posting.{PostsNothing}
 use Rattle.node_parts.proofs.Posting.{taken_posted}
 use Rattle.node_parts.proofs.Posts.{posts_nothing}
 use Rattle.node_parts.proofs.acting.take_from.Goals as goal
@@ -12,5 +12,5 @@ returns-clause-posted c =
     taken_posted c.args.ends.now c.take.new.ends (end_in c.args.slot c.in_ok-peer.peer) c.take.result (c.requires.waits c.in_ok-peer.peer c.in_ok-peer.was).0 (c.take.ensures.line []) c.take.ensures.state c.take.ensures.others c.take.ensures.after
 
 pub returns-in_err-peer-clause-posts : goal.returns-in_err-peer-clause-posts
-returns-in_err-peer-clause-posts c = λ sender kind.
-    subst (λ (o : Option FrameView). Posts sender kind c.args.ends.now c.args.ends.now o []) (sym c.from_residual.ensures) (posts_nothing sender kind c.args.ends.now c.args.ends.now refl)
+returns-in_err-peer-clause-posts c =
+    subst (λ (o : Option FrameView). PostsNothing c.args.ends.now c.args.ends.now o) (sym c.from_residual.ensures) (posts_nothing c.args.ends.now c.args.ends.now refl)

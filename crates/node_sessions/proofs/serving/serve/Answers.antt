@@ -33,3 +33,11 @@ returns-clause-serves g c =
     IfOk-weaker c.act.result _ _
     (λ v h. record { was = x; now = c.act.new.session; here = slice_get_read xs (length xs) c.args.first.at x refl c.requires.first.within c.index_mut-session.ensures.value; left = refl; serves = h })
     c.act.ensures.serves
+
+pub returns-clause-calls : goal.returns-clause-calls
+returns-clause-calls g c =
+    let xs = c.args.sessions.now.items in
+    let x = c.index_mut-session.result.now in
+    IfOk-weaker c.act.result _ _
+    (λ v h. record { was = x; here = slice_get_read xs (length xs) c.args.first.at x refl c.requires.first.within c.index_mut-session.ensures.value; makes = h })
+    c.act.ensures.calls

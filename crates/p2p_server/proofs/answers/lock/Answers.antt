@@ -1,8 +1,11 @@
 -- What the proof of `answers::lock` needs beside the tactics.
-use Rattle.std.proofs.Common.{Some, None, refl, ◌∙◌}
+use Rattle.std.proofs.Common.{true, false, Some, None, refl, ◌∙◌}
+use Rattle.annex_base.specs.declared.kinds.Call.TheVariants as calls
 use Rattle.p2p_server.specs.Answers.{here_of}
 use Rattle.p2p_server.proofs.Replies.{lock_gone, lock_barred, lock_failed, share_leaves}
 use Rattle.p2p_server.proofs.Doings.{checks, faults}
+use Rattle.p2p_server.proofs.Calling.{makes_none, makes_turn, makes_turns, turn_unfailed}
+use Rattle.p2p_server.proofs.RowCalls.{hold_fails, hold_left}
 use Rattle.p2p_server.proofs.answers.lock.Goals as goal
 
 pub returns-in-Err-Absent-clause-does : goal.returns-in-Err-Absent-clause-does
@@ -27,3 +30,49 @@ pub returns-in-Err-StoreFault-clause-after : goal.returns-in-Err-StoreFault-clau
 returns-in-Err-StoreFault-clause-after g c =
     let why = rw c.in-Err-StoreFault.field-0-is at c.in-Err-StoreFault.ensures.why in
     rw (c.in-Err-StoreFault.ensures.err, c.failed.ensures) (share_leaves _ _ _ _ _ why)
+
+pub returns-in-Err-Absent-clause-calls : goal.returns-in-Err-Absent-clause-calls
+returns-in-Err-Absent-clause-calls g c = λ p is.
+    let gone = rw c.in-Err-Absent.field-0-is at c.in-Err-Absent.ensures.why in
+    let turns = rw c.in-Err-Absent.field-0-is at c.in-Err-Absent.ensures.failing in
+    rw (c.denied-in-Err-Absent.ensures, c.if-not-scene.false, gone p is) (makes_turn calls.Has false _ _ turns)
+
+pub returns-in-Err-Absent-clause-left : goal.returns-in-Err-Absent-clause-left
+returns-in-Err-Absent-clause-left g c =
+    let turns = rw c.in-Err-Absent.field-0-is at c.in-Err-Absent.ensures.failing in
+    rw c.denied-in-Err-Absent.ensures (makes_turn calls.Has false _ _ turns).left
+
+pub returns-in-Err-Barred-clause-calls : goal.returns-in-Err-Barred-clause-calls
+returns-in-Err-Barred-clause-calls g c = λ p is.
+    let found = rw c.in-Err-Barred.field-0-is at c.in-Err-Barred.ensures.why in
+    let turns = rw c.in-Err-Barred.field-0-is at c.in-Err-Barred.ensures.failing in
+    rw (c.denied-in-Err-Barred.ensures, c.if-not-scene.false, found.0 p is, found.1) (makes_turn calls.Has false _ _ turns)
+
+pub returns-in-Err-Barred-clause-left : goal.returns-in-Err-Barred-clause-left
+returns-in-Err-Barred-clause-left g c =
+    let turns = rw c.in-Err-Barred.field-0-is at c.in-Err-Barred.ensures.failing in
+    rw c.denied-in-Err-Barred.ensures (makes_turn calls.Has false _ _ turns).left
+
+pub returns-in-Err-StoreFault-clause-calls : goal.returns-in-Err-StoreFault-clause-calls
+returns-in-Err-StoreFault-clause-calls g c = λ p is.
+    let why = rw c.in-Err-StoreFault.field-0-is at c.in-Err-StoreFault.ensures.why in
+    let turns = rw c.in-Err-StoreFault.field-0-is at c.in-Err-StoreFault.ensures.failing in
+    rw (c.failed.ensures, c.if-not-scene.false) (hold_fails _ _ p c.args.key _ _ _ why turns is)
+
+pub returns-in-Err-StoreFault-clause-left : goal.returns-in-Err-StoreFault-clause-left
+returns-in-Err-StoreFault-clause-left g c =
+    let why = rw c.in-Err-StoreFault.field-0-is at c.in-Err-StoreFault.ensures.why in
+    let turns = rw c.in-Err-StoreFault.field-0-is at c.in-Err-StoreFault.ensures.failing in
+    rw c.failed.ensures (hold_left _ _ c.args.key _ _ _ why turns)
+
+pub returns-in-Ok-clause-calls : goal.returns-in-Ok-clause-calls
+returns-in-Ok-clause-calls g c = λ p is.
+    rw (c.granted.ensures, c.if-not-scene.false, c.in-Ok.ensures.free.0 p is, c.in-Ok.ensures.free.1) (makes_turns calls.Has calls.Hold false _ _ c.in-Ok.ensures.failing)
+
+pub returns-in-Ok-clause-left : goal.returns-in-Ok-clause-left
+returns-in-Ok-clause-left g c = rw c.granted.ensures (makes_turns calls.Has calls.Hold false _ _ c.in-Ok.ensures.failing).left
+
+pub returns-in-Err-NoMemory-clause-err_failing : goal.returns-in-Err-NoMemory-clause-err_failing
+returns-in-Err-NoMemory-clause-err_failing g c =
+    let turns = rw c.in-Err-NoMemory.field-0-is at c.in-Err-NoMemory.ensures.failing in
+    turn_unfailed calls.Has _ _ turns

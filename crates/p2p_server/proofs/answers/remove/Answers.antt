@@ -1,8 +1,11 @@
 -- What the proof of `answers::remove` needs beside the tactics.
-use Rattle.std.proofs.Common.{Some, None, refl, ◌∙◌}
+use Rattle.std.proofs.Common.{true, false, Some, None, refl, ◌∙◌}
+use Rattle.annex_base.specs.declared.kinds.Call.TheVariants as calls
 use Rattle.p2p_server.specs.Answers.{here_of}
 use Rattle.p2p_server.proofs.Replies.{remove_there, remove_gone, remove_barred, remove_held, remove_failed, remove_leaves}
 use Rattle.p2p_server.proofs.Doings.{checks, faults, removes, no_bar}
+use Rattle.p2p_server.proofs.Calling.{makes_turn, makes_turns}
+use Rattle.p2p_server.proofs.RowCalls.{remove_fails, remove_left}
 use Rattle.p2p_server.proofs.Telling.{told_after_change}
 use Rattle.p2p_server.proofs.answers.remove.Goals as goal
 
@@ -48,3 +51,65 @@ pub returns-in-Err-StoreFault-clause-after : goal.returns-in-Err-StoreFault-clau
 returns-in-Err-StoreFault-clause-after g c =
     let why = rw c.in-Err-StoreFault.field-0-is at c.in-Err-StoreFault.ensures.why in
     rw c.failed.ensures (remove_leaves _ _ _ _ _ _ _ why)
+
+pub returns-in-Ok-Gone-clause-calls : goal.returns-in-Ok-Gone-clause-calls
+returns-in-Ok-Gone-clause-calls g c = λ p is.
+    let found = rw c.in-Ok-Gone.field-0-is at c.in-Ok-Gone.ensures.found in
+    let turns = rw c.in-Ok-Gone.field-0-is at c.in-Ok-Gone.ensures.failing in
+    rw (c.granted.ensures, found.0 p is, found.1, found.2) (makes_turns calls.Has calls.Remove false _ _ turns)
+
+pub returns-in-Ok-Gone-clause-left : goal.returns-in-Ok-Gone-clause-left
+returns-in-Ok-Gone-clause-left g c =
+    let turns = rw c.in-Ok-Gone.field-0-is at c.in-Ok-Gone.ensures.failing in
+    rw c.granted.ensures (makes_turns calls.Has calls.Remove false _ _ turns).left
+
+pub returns-in-Ok-Absent-clause-calls : goal.returns-in-Ok-Absent-clause-calls
+returns-in-Ok-Absent-clause-calls g c = λ p is.
+    let gone = rw c.in-Ok-Absent.field-0-is at c.in-Ok-Absent.ensures.found in
+    let turns = rw c.in-Ok-Absent.field-0-is at c.in-Ok-Absent.ensures.failing in
+    rw (c.granted-in-Ok-Absent.ensures, gone p is) (makes_turn calls.Has false _ _ turns)
+
+pub returns-in-Ok-Absent-clause-left : goal.returns-in-Ok-Absent-clause-left
+returns-in-Ok-Absent-clause-left g c =
+    let turns = rw c.in-Ok-Absent.field-0-is at c.in-Ok-Absent.ensures.failing in
+    rw c.granted-in-Ok-Absent.ensures (makes_turn calls.Has false _ _ turns).left
+
+pub returns-in-Err-Barred-clause-calls : goal.returns-in-Err-Barred-clause-calls
+returns-in-Err-Barred-clause-calls g c = λ p is.
+    let found = rw c.in-Err-Barred.field-0-is at c.in-Err-Barred.ensures.why in
+    let turns = rw c.in-Err-Barred.field-0-is at c.in-Err-Barred.ensures.failing in
+    rw (c.denied.ensures, found.0 p is, found.1) (makes_turn calls.Has false _ _ turns)
+
+pub returns-in-Err-Barred-clause-left : goal.returns-in-Err-Barred-clause-left
+returns-in-Err-Barred-clause-left g c =
+    let turns = rw c.in-Err-Barred.field-0-is at c.in-Err-Barred.ensures.failing in
+    rw c.denied.ensures (makes_turn calls.Has false _ _ turns).left
+
+pub returns-in-Err-Held-clause-calls : goal.returns-in-Err-Held-clause-calls
+returns-in-Err-Held-clause-calls g c = λ p is.
+    let found = rw c.in-Err-Held.field-0-is at c.in-Err-Held.ensures.why in
+    let turns = rw c.in-Err-Held.field-0-is at c.in-Err-Held.ensures.failing in
+    rw (c.denied-in-Err-Held.ensures, found.0 p is, found.1, found.2) (makes_turn calls.Has false _ _ turns)
+
+pub returns-in-Err-Held-clause-left : goal.returns-in-Err-Held-clause-left
+returns-in-Err-Held-clause-left g c =
+    let turns = rw c.in-Err-Held.field-0-is at c.in-Err-Held.ensures.failing in
+    rw c.denied-in-Err-Held.ensures (makes_turn calls.Has false _ _ turns).left
+
+pub returns-in-Err-StoreFault-clause-calls : goal.returns-in-Err-StoreFault-clause-calls
+returns-in-Err-StoreFault-clause-calls g c = λ p is.
+    let why = rw c.in-Err-StoreFault.field-0-is at c.in-Err-StoreFault.ensures.why in
+    let turns = rw c.in-Err-StoreFault.field-0-is at c.in-Err-StoreFault.ensures.failing in
+    rw c.failed.ensures (remove_fails _ _ p c.args.key _ _ _ _ _ why turns is)
+
+pub returns-in-Err-StoreFault-clause-left : goal.returns-in-Err-StoreFault-clause-left
+returns-in-Err-StoreFault-clause-left g c =
+    let why = rw c.in-Err-StoreFault.field-0-is at c.in-Err-StoreFault.ensures.why in
+    let turns = rw c.in-Err-StoreFault.field-0-is at c.in-Err-StoreFault.ensures.failing in
+    rw c.failed.ensures (remove_left _ _ c.args.key _ _ _ _ _ why turns)
+
+pub returns-in-Ok-Gone-clause-contents : goal.returns-in-Ok-Gone-clause-contents
+returns-in-Ok-Gone-clause-contents g c = rw c.granted.ensures (c.in-Ok-Gone.ensures.gone c.in-Ok-Gone.field-0-is)
+
+pub returns-in-Ok-Absent-clause-contents : goal.returns-in-Ok-Absent-clause-contents
+returns-in-Ok-Absent-clause-contents g c = rw c.granted-in-Ok-Absent.ensures (c.in-Ok-Absent.ensures.absent c.in-Ok-Absent.field-0-is)

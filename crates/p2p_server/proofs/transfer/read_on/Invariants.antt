@@ -1,6 +1,7 @@
 -- How far the part was read.
-use Rattle.std.proofs.Common.{◌≡◌, ◌≤◌, ◌+◌, ◌-◌, length, take}
+use Rattle.std.proofs.Common.{◌≡◌, ◌≤◌, ◌<◌, ◌+◌, ◌-◌, false, length, nat_lt, take}
 use Rattle.std.specs.Option.{ForSome}
+use Rattle.annex_base.specs.declared.kinds.Call.TheVariants as calls
 use Rattle.key_verify.specs.Sums.{HasTaken, bytes_taken}
 use Rattle.p2p_server.proofs.transfer.read_on.Given as goal
 
@@ -12,6 +13,8 @@ invariant-loop-at g l = record {
   records : g.K.Keeper.records l.keeper ≡ g.K.Keeper.records l.fn.keeper;
   files : g.K.Keeper.files l.keeper ≡ g.K.Keeper.files l.fn.keeper;
   later : g.K.Keeper.faults l.fn.keeper ≤ g.K.Keeper.faults l.keeper;
+  failing : g.K.Keeper.failing l.keeper ≡ g.K.Keeper.failing l.fn.keeper;
+  none : 0 < l.at → ForSome (g.K.Keeper.failing l.fn.keeper) (λ failing. false ≡ nat_lt 0 (failing calls.ReadPart));
   room : length l.room ≡ 32768;
   count : bytes_taken l.digester ≡ l.at;
   within : l.at ≤ l.size + 32768;

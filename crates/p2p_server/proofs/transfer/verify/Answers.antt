@@ -3,6 +3,7 @@ use Rattle.std.proofs.Common.{refl, ◌∙◌}
 use Rattle.std.proofs.lemmas.Result.{IfOk-weaker}
 use Rattle.p2p_server.proofs.Calm.{each_ok}
 use Rattle.p2p_server.proofs.Transfers.{judged_lost, judged_right, judged_so, sees_right, sees_wrong, wrong_digest, wrong_size}
+use Rattle.std.proofs.Common.{sym}
 use Rattle.p2p_server.proofs.transfer.verify.Goals as goal
 
 pub returns-in-Right-clause-does : goal.returns-in-Right-clause-does
@@ -40,3 +41,33 @@ returns-in-WrongDigest-clause-judged g c = judged_lost c.args.taken.now _ c.disc
 
 pub returns-in-None-clause-judged : goal.returns-in-None-clause-judged
 returns-in-None-clause-judged g c = judged_lost c.args.taken.now _ c.discard-in-None.ensures.lost
+
+pub returns-in-Right-clause-calls : goal.returns-in-Right-clause-calls
+returns-in-Right-clause-calls g c =
+    IfOk-weaker c.commit.result _ _
+    (λ step made right sees.
+    let key = c.in_ok-key.ensures ∙ c.key.ensures in
+    let s = sees_right _ c.args.taken.now c.in-Some.sum c.in_ok-key.key right c.in_ok-judge_sum-in-Some.field-0 c.in-Some.is key c.in_ok-judge_sum-in-Some.ensures.right c.in-Right.is sees in
+    rw s.0 made)
+    c.commit.ensures.calls
+
+pub returns-in-WrongSize-clause-calls : goal.returns-in-WrongSize-clause-calls
+returns-in-WrongSize-clause-calls g c = λ right sees.
+    let key = c.in_ok-key.ensures ∙ c.key.ensures in
+    let no = sees_wrong _ c.args.taken.now c.in-Some.sum c.in_ok-key.key right c.in_ok-judge_sum-in-Some.field-0 c.in-Some.is key c.in_ok-judge_sum-in-Some.ensures.right (wrong_size _ _ _ c.in-WrongSize.is) sees in
+    rw no c.discard.ensures.calls
+
+pub returns-in-WrongDigest-clause-calls : goal.returns-in-WrongDigest-clause-calls
+returns-in-WrongDigest-clause-calls g c = λ right sees.
+    let key = c.in_ok-key.ensures ∙ c.key.ensures in
+    let no = sees_wrong _ c.args.taken.now c.in-Some.sum c.in_ok-key.key right c.in_ok-judge_sum-in-Some.field-0 c.in-Some.is key c.in_ok-judge_sum-in-Some.ensures.right (wrong_digest _ _ _ c.in-WrongDigest.is) sees in
+    rw no c.discard-in-WrongDigest.ensures.calls
+
+pub returns-in-WrongSize-clause-contents : goal.returns-in-WrongSize-clause-contents
+returns-in-WrongSize-clause-contents g c = c.discard.ensures.contents ∙ sym (c.discard.ensures.leaves _ _)
+
+pub returns-in-WrongDigest-clause-contents : goal.returns-in-WrongDigest-clause-contents
+returns-in-WrongDigest-clause-contents g c = c.discard-in-WrongDigest.ensures.contents ∙ sym (c.discard-in-WrongDigest.ensures.leaves _ _)
+
+pub returns-in-None-clause-contents : goal.returns-in-None-clause-contents
+returns-in-None-clause-contents g c = c.discard-in-None.ensures.contents ∙ sym (c.discard-in-None.ensures.leaves _ _)

@@ -14,5 +14,5 @@ pub returns-clause-line : goal.returns-clause-line
 returns-clause-line c =
     let time : ℕ = next_stamp (newest_stamp kinds.Location (lines_at c.args.branch.now c.args.path.now) (topics.Repo c.args.id)) c.args.clock in
     subst (λ (line : List ℕ). IsLine line)
-    (sym (c.in_ok-line.ensures.text ∙ ap (λ (v : Value). line_text kinds.Location (record { topic = topics.Repo c.args.id; stamp = Some time; value = v })) c.status.ensures))
+    (sym (c.in_ok-line.ensures ∙ ap (λ (v : Value). line_text kinds.Location (record { topic = topics.Repo c.args.id; stamp = Some time; value = v })) c.status.ensures))
     (status_is_line c.args.id c.args.there time)

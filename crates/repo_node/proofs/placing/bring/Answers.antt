@@ -1,5 +1,9 @@
 -- What the proof of `placing::bring` needs beside the tactics.
 use Rattle.repo_node.proofs.GainLemmas.{same_later, stops_later}
+use Rattle.std.proofs.Common.{Err, ap}
+use Rattle.repo_node.specs.declared.refused.NodeRefused.{NodeRefused}
+use Rattle.repo_node.proofs.CallLemmas.{handed}
+use Rattle.repo_node.proofs.PlaceCallLemmas.{StopsTold, ready_stops, told_later}
 use Rattle.repo_node.proofs.placing.bring.Goals as goal
 
 pub returns-clause-same : goal.returns-clause-same
@@ -7,3 +11,11 @@ returns-clause-same g c = same_later c.bring_ready.result c.args.past.now c.read
 
 pub returns-clause-err : goal.returns-clause-err
 returns-clause-err g c = stops_later c.bring_ready.result c.args.past.now c.ready.new.past c.bring_ready.new.past c.ready.ensures.same c.bring_ready.ensures.err
+
+pub returns-in_err-ready-clause-stops : goal.returns-in_err-ready-clause-stops
+returns-in_err-ready-clause-stops g c =
+    handed (λ e. StopsTold c.args.key.now c.args.bytes.now c.args.table.now (g.K.Keeper.contents c.args.keeper.now) (g.K.Keeper.parts c.args.keeper.now) (g.K.Keeper.parts c.args.keeper.now) (g.K.Keeper.failing c.args.keeper.now) (g.K.Keeper.failing c.args.keeper.now) e c.args.past.now c.ready.new.past) c.from_residual.result c.in_err-ready.field-0.0 c.from_residual.ensures.1
+    (ready_stops c.in_err-ready.field-0.0 c.args.key.now c.args.bytes.now c.args.table.now (g.K.Keeper.contents c.args.keeper.now) (g.K.Keeper.parts c.args.keeper.now) (g.K.Keeper.failing c.args.keeper.now) c.args.past.now c.ready.new.past c.in_err-ready.ensures.fails (λ is. c.in_err-ready.ensures.no_fault (ap (λ (e : NodeRefused). Err e) is)))
+
+pub returns-clause-stops : goal.returns-clause-stops
+returns-clause-stops g c = told_later c.bring_ready.result c.args.key.now c.args.bytes.now c.args.table.now (g.K.Keeper.contents c.args.keeper.now) (g.K.Keeper.parts c.args.keeper.now) (g.K.Keeper.parts c.bring_ready.new.keeper) (g.K.Keeper.failing c.args.keeper.now) (g.K.Keeper.failing c.bring_ready.new.keeper) c.args.past.now c.ready.new.past c.bring_ready.new.past c.ready.ensures.same c.bring_ready.ensures.stops

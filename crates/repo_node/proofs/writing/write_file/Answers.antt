@@ -1,8 +1,10 @@
 -- What the proof of `writing::write_file` needs beside the tactics.
-use Rattle.std.proofs.Common.{List, ℕ, Some, option_map, ◌∙◌, ap}
+use Rattle.std.proofs.Common.{List, ℕ, Some, option_map, ◌∙◌, ap, ◌∷◌, []}
 use Rattle.annex_base.specs.declared.kinds.Call.TheVariants.{PutFile}
 use Rattle.object_store.specs.Stores.{Files, with_at}
 use Rattle.repo_node.proofs.PastLemmas.{adds_after, fails_after}
+use Rattle.repo_node.specs.declared.writing.Draft.{Draft}
+use Rattle.repo_node.proofs.CallLemmas.{makes_early}
 use Rattle.repo_node.proofs.writing.write_file.Goals as goal
 
 pub returns-in-Ok-clause-past : goal.returns-in-Ok-clause-past
@@ -17,3 +19,6 @@ returns-in-Err-clause-err g c = fails_after c.args.by c.in-Err.refused PutFile c
 
 pub returns-in-Err-clause-err_branch : goal.returns-in-Err-clause-err_branch
 returns-in-Err-clause-err_branch g c = c.put_back.ensures ∙ c.in_ok-draft.ensures.back
+
+pub returns-in_err-draft-clause-calls : goal.returns-in_err-draft-clause-calls
+returns-in_err-draft-clause-calls g c = makes_early {Y = Draft} (PutFile ∷ []) PutFile c.from_residual.result c.in_err-draft.field-0.0 (g.K.Keeper.failing c.args.keeper.now) c.from_residual.ensures.1 c.in_err-draft.ensures.no_fault

@@ -1,6 +1,6 @@
 -- What holds at each turn of the loops of `lines::begun_job`.
 use Rattle.std.proofs.Common.{◌≡◌, length, reverse}
-use Rattle.thin_model.specs.Past.{begun_job}
+use Rattle.run_model.specs.Past.{begun_job}
 use Rattle.report_text.proofs.lines.begun_job.Given as goal
 
 abbrev pub invariant-loop-last : goal.invariant-loop-last

@@ -2,8 +2,8 @@
 use Rattle.std.proofs.Common.{◌≡◌, List, filter}
 use Rattle.std.specs.List.{range_with_len}
 use Rattle.run_data.specs.declared.entry.Entry.{Entry}
-use Rattle.thin_model.specs.Contents.{Tracks}
-use Rattle.thin_model.specs.Past.{present}
+use Rattle.report_text.specs.Contents.{Tracks}
+use Rattle.run_model.specs.Past.{present}
 use Rattle.report_text.proofs.shown.having.Given as goal
 
 abbrev pub invariant-loop-repo : goal.invariant-loop-repo

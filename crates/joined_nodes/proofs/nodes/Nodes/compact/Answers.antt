@@ -32,3 +32,9 @@ returns-clause-cause g c = at_node c.args.self.now c.self.inside.nodes.items c.a
 
 pub returns-clause-others : goal.returns-clause-others
 returns-clause-others g c = others_stay c.args.self.now c.self.inside.nodes.items c.args.repo c.compact.new.self c.self.view_is
+
+pub returns-clause-calls : goal.returns-clause-calls
+returns-clause-calls g c = at_node c.args.self.now c.self.inside.nodes.items c.args.repo c.index_mut.result.now c.compact.new.self c.self.view_is c.requires.there c.index_mut.ensures.value _ c.compact.ensures.calls
+
+pub returns-clause-alone : goal.returns-clause-alone
+returns-clause-alone g c = at_node c.args.self.now c.self.inside.nodes.items c.args.repo c.index_mut.result.now c.compact.new.self c.self.view_is c.requires.there c.index_mut.ensures.value _ c.compact.ensures.alone

@@ -43,3 +43,12 @@ returns-clause-cause g c = at_node c.args.self.now c.self.inside.nodes.items c.a
 
 pub returns-clause-others : goal.returns-clause-others
 returns-clause-others g c = others_stay c.args.self.now c.self.inside.nodes.items c.args.repo c.merge_bundle.new.self c.self.view_is
+
+pub returns-clause-calls : goal.returns-clause-calls
+returns-clause-calls g c = λ files is. at_node c.args.self.now c.self.inside.nodes.items c.args.repo c.index_mut.result.now c.merge_bundle.new.self c.self.view_is c.requires.there c.index_mut.ensures.value _ (c.merge_bundle.ensures.calls files is)
+
+pub returns-clause-left : goal.returns-clause-left
+returns-clause-left g c = at_node c.args.self.now c.self.inside.nodes.items c.args.repo c.index_mut.result.now c.merge_bundle.new.self c.self.view_is c.requires.there c.index_mut.ensures.value _ c.merge_bundle.ensures.left
+
+pub returns-clause-alone : goal.returns-clause-alone
+returns-clause-alone g c = at_node c.args.self.now c.self.inside.nodes.items c.args.repo c.index_mut.result.now c.merge_bundle.new.self c.self.view_is c.requires.there c.index_mut.ensures.value _ c.merge_bundle.ensures.alone

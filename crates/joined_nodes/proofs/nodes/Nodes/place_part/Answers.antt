@@ -30,3 +30,9 @@ returns-clause-cause g c = at_node c.args.self.now c.self.inside.nodes.items c.a
 
 pub returns-clause-others : goal.returns-clause-others
 returns-clause-others g c = others_stay c.args.self.now c.self.inside.nodes.items c.args.repo c.place_part.new.self c.self.view_is
+
+pub returns-clause-done : goal.returns-clause-done
+returns-clause-done g c = at_node c.args.self.now c.self.inside.nodes.items c.args.repo c.index_mut.result.now c.place_part.new.self c.self.view_is c.requires.there c.index_mut.ensures.value _ c.place_part.ensures.done
+
+pub returns-clause-stops : goal.returns-clause-stops
+returns-clause-stops g c = at_node c.args.self.now c.self.inside.nodes.items c.args.repo c.index_mut.result.now c.place_part.new.self c.self.view_is c.requires.there c.index_mut.ensures.value _ c.place_part.ensures.stops

@@ -3,13 +3,16 @@ use Rattle.joined_nodes.proofs.Staying.{at_node, others_stay, read_at}
 use Rattle.joined_nodes.proofs.Keeping.{turn_setup}
 use Rattle.std.specs.Prelude.{map}
 use Rattle.link_ring.specs.Ends.{after_drop}
+use Rattle.repo_node.specs.Stored.{store_view}
 use Rattle.joined_nodes.proofs.nodes.Nodes.turn.Goals as goal
 
 pub invariant_of-self : goal.invariant_of-self
 invariant_of-self g c =
     c.nodes_stay_joined.ensures c.self.inside.nodes.items c.args.repo c.index_mut.result.now c.turn.new.self c.self.invariant
     (read_at c.args.self.now c.self.inside.nodes.items c.args.repo c.index_mut.result.now c.self.view_is c.requires.there c.index_mut.ensures.value)
-    (turn_setup c.turn.result c.index_mut.result.now c.turn.new.self (map after_drop c.index_mut.result.now.parts.links) (g.K.Keeper.faults c.index_mut.result.now.keeper) (g.K.Keeper.faults c.turn.new.self.keeper) c.turn.ensures.moved c.turn.ensures.stays) c.turn.ensures.paired
+    (turn_setup c.turn.result c.index_mut.result.now c.turn.new.self (map after_drop c.index_mut.result.now.parts.links) (store_view (g.K.Keeper.contents c.index_mut.result.now.keeper) (g.K.Keeper.parts c.index_mut.result.now.keeper) (g.K.Keeper.failing c.index_mut.result.now.keeper) (g.K.Keeper.faults c.index_mut.result.now.keeper))
+    (store_view (g.K.Keeper.contents c.turn.new.self.keeper) (g.K.Keeper.parts c.turn.new.self.keeper) (g.K.Keeper.failing c.turn.new.self.keeper) (g.K.Keeper.faults c.turn.new.self.keeper))
+    c.turn.ensures.moved c.turn.ensures.stays) c.turn.ensures.paired
 
 pub returns-clause-moved : goal.returns-clause-moved
 returns-clause-moved g c = at_node c.args.self.now c.self.inside.nodes.items c.args.repo c.index_mut.result.now c.turn.new.self c.self.view_is c.requires.there c.index_mut.ensures.value _ c.turn.ensures.moved
@@ -37,6 +40,9 @@ returns-clause-unasked g c = at_node c.args.self.now c.self.inside.nodes.items c
 
 pub returns-clause-told_parts : goal.returns-clause-told_parts
 returns-clause-told_parts g c = at_node c.args.self.now c.self.inside.nodes.items c.args.repo c.index_mut.result.now c.turn.new.self c.self.view_is c.requires.there c.index_mut.ensures.value _ c.turn.ensures.told_parts
+
+pub returns-clause-small : goal.returns-clause-small
+returns-clause-small g c = at_node c.args.self.now c.self.inside.nodes.items c.args.repo c.index_mut.result.now c.turn.new.self c.self.view_is c.requires.there c.index_mut.ensures.value _ c.turn.ensures.small
 
 pub returns-clause-told_contents : goal.returns-clause-told_contents
 returns-clause-told_contents g c = at_node c.args.self.now c.self.inside.nodes.items c.args.repo c.index_mut.result.now c.turn.new.self c.self.view_is c.requires.there c.index_mut.ensures.value _ c.turn.ensures.told_contents

@@ -18,10 +18,6 @@ pub write_log-requires-clause-line : goal.write_log-requires-clause-line
 write_log-requires-clause-line g c =
     c.requires.line c.index_mut.result.now (whole_at c.args.self.now c.self.inside.nodes.items c.args.repo c.index_mut.result.now c.self.view_is c.requires.there c.index_mut.ensures.value)
 
-pub write_log-requires-clause-short : goal.write_log-requires-clause-short
-write_log-requires-clause-short g c =
-    c.requires.short c.index_mut.result.now (whole_at c.args.self.now c.self.inside.nodes.items c.args.repo c.index_mut.result.now c.self.view_is c.requires.there c.index_mut.ensures.value)
-
 pub returns-clause-ok : goal.returns-clause-ok
 returns-clause-ok g c = at_node c.args.self.now c.self.inside.nodes.items c.args.repo c.index_mut.result.now c.write_log.new.self c.self.view_is c.requires.there c.index_mut.ensures.value _ c.write_log.ensures.ok
 
@@ -42,3 +38,6 @@ returns-clause-cause g c = at_node c.args.self.now c.self.inside.nodes.items c.a
 
 pub returns-clause-others : goal.returns-clause-others
 returns-clause-others g c = others_stay c.args.self.now c.self.inside.nodes.items c.args.repo c.write_log.new.self c.self.view_is
+
+pub returns-clause-calls : goal.returns-clause-calls
+returns-clause-calls g c = at_node c.args.self.now c.self.inside.nodes.items c.args.repo c.index_mut.result.now c.write_log.new.self c.self.view_is c.requires.there c.index_mut.ensures.value _ c.write_log.ensures.calls

@@ -7,11 +7,12 @@ use Rattle.content_lock.specs.Rows.{Rows}
 use Rattle.drop_worker.specs.Doing.{HasToken}
 use Rattle.node_jobs.specs.declared.finding.Found.{Found}
 use Rattle.node_jobs.specs.Acting.{SeesActed, SeesJobs, StepsJobs}
+use Rattle.node_jobs.specs.Calls.{job_calls}
 use Rattle.node_jobs.specs.Finding.{Finds}
 use Rattle.node_jobs.specs.Leaving.{Leaves}
 use Rattle.node_jobs.specs.Running.{DropJob, IsOwn, Jobs, OwnAll}
 use Rattle.node_jobs.proofs.Owning.{leaves_after, owns_after}
-use Rattle.node_jobs.proofs.Stepping.{kind_is, first_of_found, in_a_slot, none_steps, sees_each, steps_jobs, takes_waiting}
+use Rattle.node_jobs.proofs.Stepping.{all_left, calls_so, kind_is, first_of_found, in_a_slot, none_calls, none_made, none_steps, sees_each, steps_jobs, takes_waiting}
 use Rattle.node_jobs.proofs.jobs.Jobs.step.Goals as goal
 
 pub returns-in_default-clause-step : goal.returns-in_default-clause-step
@@ -24,6 +25,17 @@ returns-in_default-clause-step g c = λ x tells s st k sees keeps acted.
           (sees_each c.args.ends.now c.args.clock (settings_of c.args.settings.now) jobs c.args.number c.args.time s st k sees) keeps sees.works.works;
       works = refl;
     }
+
+pub returns-in_default-clause-calls : goal.returns-in_default-clause-calls
+returns-in_default-clause-calls g c = λ x tells s st k sees keeps acted.
+    let jobs : Jobs = c.args.self.now in
+    none_made (job_calls s st k) (g.K.Keeper.failing c.args.keeper.now)
+    (none_calls jobs.place c.args.clock c.args.ends.now jobs.running c.args.time c.args.table.now x s st k
+    (subst (λ (js : Jobs). Finds js.place c.args.clock c.args.ends.now js.running c.args.time None) c.self.view_is (subst (λ (o : Option Found). Finds c.self.inside.place c.args.clock c.args.ends.now c.self.inside.running.items c.args.time o) c.in_default.is (rw c.deref.ensures.value at c.in_ok-found.ensures.finds)))
+    (sees_each c.args.ends.now c.args.clock (settings_of c.args.settings.now) jobs c.args.number c.args.time s st k sees) keeps sees.works.works)
+
+pub returns-in_default-clause-left : goal.returns-in_default-clause-left
+returns-in_default-clause-left g c = all_left (g.K.Keeper.failing c.args.keeper.now)
 
 pub turn-requires-clause-owns : goal.turn-requires-clause-owns
 turn-requires-clause-owns g c =
@@ -40,6 +52,16 @@ returns-clause-step g c = λ x tells s st k sees keeps acted.
     (subst (λ (o : Option Found). Finds c.self.inside.place c.args.clock c.args.ends.now c.self.inside.running.items c.args.time o) c.in-Some.is (rw c.deref.ensures.value at c.in_ok-found.ensures.finds)) (rw c.find_ready.ensures.same at c.in_ok-acted.ensures.changes) x tells s st k
     (subst (λ (js : Jobs). SeesJobs c.args.ends.now c.args.clock settings js c.args.number c.args.time s st k) (sym c.self.view_is) sees) keeps
     (subst (λ (js : Jobs). SeesActed js k (Some c.in_ok-acted.acted)) (sym c.self.view_is) acted))
+
+pub returns-clause-calls : goal.returns-clause-calls
+returns-clause-calls g c = λ x tells s st k sees keeps acted.
+    let jobs : Jobs = record { place = c.self.inside.place; running = c.self.inside.running.items; begun = c.self.inside.begun } in
+    let settings = settings_of c.args.settings.now in
+    calls_so c.args.ends.now c.args.clock settings jobs c.args.number c.args.time c.in-Some.found (g.K.Keeper.contents c.args.keeper.now) (g.K.Keeper.contents c.turn.new.keeper) c.args.table.now c.turn.new.table c.turn.new.running.items c.in_ok-acted.acted
+    (subst (λ (js : Jobs). OwnAll js c.args.table.now) (sym c.self.view_is) c.requires.owns)
+    (subst (λ (o : Option Found). Finds c.self.inside.place c.args.clock c.args.ends.now c.self.inside.running.items c.args.time o) c.in-Some.is (rw c.deref.ensures.value at c.in_ok-found.ensures.finds)) (rw c.find_ready.ensures.same at c.in_ok-acted.ensures.changes) x tells s st k
+    (subst (λ (js : Jobs). SeesJobs c.args.ends.now c.args.clock settings js c.args.number c.args.time s st k) (sym c.self.view_is) sees) keeps
+    (subst (λ (js : Jobs). SeesActed js k (Some c.in_ok-acted.acted)) (sym c.self.view_is) acted) (g.K.Keeper.failing c.args.keeper.now) (g.K.Keeper.failing c.turn.new.keeper) (rw c.find_ready.ensures.same at c.in_ok-acted.ensures.calls)
 
 pub returns-clause-waits : goal.returns-clause-waits
 returns-clause-waits g c =

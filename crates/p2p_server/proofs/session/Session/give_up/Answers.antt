@@ -1,12 +1,21 @@
 -- ERROR closes the connection.
-use Rattle.std.proofs.Common.{ap, ◌∙◌}
+use Rattle.std.proofs.Common.{refl, ap, ◌∙◌}
 use Rattle.std.specs.Prelude.{None, true, false}
 use Rattle.run_data.specs.declared.entry.EntryKind.TheVariants.{Close}
 use Rattle.p2p_server.specs.declared.session.Session.{Session}
+use Rattle.p2p_wire.specs.declared.message.Message.TheVariants as messages
+use Rattle.p2p_server.specs.Answers.{failed_in}
+use Rattle.p2p_server.specs.declared.incoming.Incoming.TheVariants as incoming
+use Rattle.p2p_server.specs.declared.step.Step.{Step}
+use Rattle.p2p_server.proofs.Making.{quiet}
 use Rattle.p2p_server.proofs.Stepping.{gives_up_so}
 use Rattle.p2p_server.proofs.session.Session.give_up.Goals as goal
 
-pub returns : goal.returns
-returns c = λ x text contents parts records faults here agrees.
+pub returns-clause-goes : goal.returns-clause-goes
+returns-clause-goes c = λ x text contents parts records faults here agrees.
     gives_up_so x text c.args.self.now c.reset.new.self c.args.table.now c.reset.new.table contents parts records faults _ here agrees c.reset.ensures.table c.reset.ensures.session
     (c.closes.ensures ∙ (λ j. record { kind = (c.close_kind.ensures ∙ ap (λ (s : Session). Close s.place.peer s.place.slot false) c.reset.ensures.session) j; reply = None; close = true }))
+
+pub returns-clause-calls : goal.returns-clause-calls
+returns-clause-calls c = λ x text contents parts failing.
+    quiet x (incoming.Message (messages.Error text)) c.args.self.now c.args.table.now contents parts failing _ (ap (λ (t : Step). failed_in t.kind) c.closes.ensures ∙ ap failed_in c.close_kind.ensures) (λ h. refl)

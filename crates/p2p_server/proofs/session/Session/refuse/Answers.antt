@@ -5,10 +5,17 @@ use Rattle.run_data.specs.declared.entry.EntryKind.TheVariants.{Close}
 use Rattle.p2p_wire.specs.declared.message.Message.TheVariants.{Error}
 use Rattle.p2p_server.specs.declared.session.Session.{Session}
 use Rattle.std.specs.Prelude.{true, false}
+use Rattle.p2p_server.specs.Answers.{failed_in}
+use Rattle.p2p_server.specs.declared.step.Step.{Step}
+use Rattle.p2p_server.proofs.Making.{unexpected_makes}
 use Rattle.p2p_server.proofs.Stepping.{refuses_so}
 use Rattle.p2p_server.proofs.session.Session.refuse.Goals as goal
 
-pub returns : goal.returns
-returns c = λ x i contents parts records faults here un agrees.
+pub returns-clause-goes : goal.returns-clause-goes
+returns-clause-goes c = λ x i contents parts records faults here un agrees.
     refuses_so x i c.args.self.now c.reset.new.self c.args.table.now c.reset.new.table contents parts records faults _ here un agrees c.reset.ensures.table c.reset.ensures.session
     (c.closes.ensures ∙ (λ j. record { kind = (c.close_kind.ensures ∙ ap (λ (s : Session). Close s.place.peer s.place.slot false) c.reset.ensures.session) j; reply = Some (Error (c.in_ok-text.ensures j)); close = true }))
+
+pub returns-clause-calls : goal.returns-clause-calls
+returns-clause-calls c = λ x i contents parts failing un.
+    unexpected_makes x i c.args.self.now c.args.table.now contents parts failing _ (ap (λ (t : Step). failed_in t.kind) c.closes.ensures ∙ ap failed_in c.close_kind.ensures) un

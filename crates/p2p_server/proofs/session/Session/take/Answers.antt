@@ -2,6 +2,7 @@
 use Rattle.std.proofs.Common.{refl}
 use Rattle.p2p_server.proofs.Numbers.{guards_so}
 use Rattle.p2p_server.proofs.Taking.{after_told, bars_told, cause_told, contents_as_before, fed_told, filled_told, judged_told, kind_told, next_told, numbers_told, parts_as_before, parts_told, records_as_before, remains, reply_told, rows_told, session_as_before, step_told}
+use Rattle.p2p_server.proofs.Making.{calls_told, failing_as_before, left_told}
 use Rattle.p2p_server.proofs.session.Session.take.Goals as goal
 
 pub hear-requires-clause-at : goal.hear-requires-clause-at
@@ -78,3 +79,12 @@ returns-clause-err_parts g c = parts_as_before _ _ _ _ c.hear.result c.hear.ensu
 
 pub returns-clause-err_records : goal.returns-clause-err_records
 returns-clause-err_records g c = records_as_before _ _ _ _ c.hear.result c.hear.ensures.goes
+
+pub returns-clause-calls : goal.returns-clause-calls
+returns-clause-calls g c = calls_told _ _ _ _ _ _ _ _ c.hear.result c.hear.ensures.calls
+
+pub returns-clause-left : goal.returns-clause-left
+returns-clause-left g c = left_told _ _ _ _ _ _ _ _ c.hear.result c.hear.ensures.calls
+
+pub returns-clause-err_failing : goal.returns-clause-err_failing
+returns-clause-err_failing g c = failing_as_before _ _ _ _ _ _ _ _ c.hear.result c.hear.ensures.calls

@@ -1,10 +1,12 @@
 -- What the proof of `node::Node::act` needs beside the tactics.
 use Rattle.std.proofs.Common.{inr, is_some, sym, ap, ◌∙◌}
 use Rattle.node_model.specs.Turns.{job_step}
+use Rattle.node_jobs.specs.Calls.{job_calls}
 use Rattle.repo_node.specs.Nodes.{told_of}
 use Rattle.repo_node.specs.Owing.{is_owing}
+use Rattle.repo_node.specs.Stored.{store_view}
 use Rattle.repo_node.proofs.BeginLemmas.{fed_links}
-use Rattle.repo_node.proofs.MoveLemmas.{acted_does, adds_if, leaves_at, posts_at, steps_if}
+use Rattle.repo_node.proofs.MoveLemmas.{acted_calls, acted_does, adds_if, leaves_at, posts_at, steps_if}
 use Rattle.repo_node.proofs.NoteLemmas.{debts_if, kept_if, owed_if_none}
 use Rattle.repo_node.proofs.OwedLemmas.{owed_in}
 use Rattle.repo_node.proofs.TurnLemmas.{none_owing}
@@ -25,7 +27,8 @@ invariant_of-self-2 g c =
       kept_if job_step c.tables_fill_as_states.ensures c.states_have_their_settings.ensures.made it.done i.past room.new.past e.new.past i.parts w.new.self i.branch i.debts.items room.new.debts.items e.new.debts.items
           (g.K.Keeper.contents i.keeper) (g.K.Keeper.contents w.new.keeper) (g.K.Keeper.parts i.keeper) (g.K.Keeper.parts w.new.keeper) c.table.ensures.sound c.table-2.ensures.sound room.ensures.same room.ensures.same_debts e.ensures.enters c.self.invariant.4 none
           (leaves_at at.result i.past room.new.past i.parts w.new.self it.done at.ensures room.ensures.same it.ensures.leaves) it.ensures.kind
-          (acted_does at.result i.past room.new.past i.parts w.new.self i.branch (owed_in i.past i.debts.items) (g.K.Keeper.contents i.keeper) (g.K.Keeper.contents w.new.keeper) (g.K.Keeper.parts i.keeper) settings it.done at.ensures room.ensures.same law.read reads c.self.invariant.0 it.ensures.step)
+          (acted_does at.result i.past room.new.past i.parts i.branch (owed_in i.past i.debts.items) (g.K.Keeper.contents i.keeper) (g.K.Keeper.parts i.keeper) settings it.done at.ensures room.ensures.same law.read reads c.self.invariant.0
+          w.new.self (g.K.Keeper.contents w.new.keeper) it.ensures.step it.ensures.asked)
           (ap (λ o. is_some o) w.ensures.parts) (λ there. w.ensures.told) w.ensures.place w.ensures.begun c.self.invariant.0,
       λ f told. c.self.invariant.1 f (sym w.ensures.files ∙ told),
       w.ensures.agrees,
@@ -41,9 +44,11 @@ returns-clause-adds g c =
     let w = c.act in
     let it = c.in_ok-done in
     let e = c.enter_if in
-    adds_if it.done e.result i.keeper w.new.keeper i.parts w.new.self i.branch c.moment-moment.result.number i.past room.new.past e.new.past room.new.debts.items e.new.debts.items (owed_in i.past i.debts.items) (owed_in e.new.past e.new.debts.items)
-    g.K.Keeper.faults (g.K.Keeper.faults w.new.keeper) c.args.self.now c.self.view_is e.ensures.made room.ensures.same e.ensures.enters it.ensures.leaves
-    (posts_at c.moment-moment.result i.past room.new.past i.parts w.new.self it.done c.moment-moment.ensures room.ensures.same c.self.invariant.0.place it.ensures.posts) (λ d is. inr (w.ensures.sessions, it.ensures.jobs d is)) it.ensures.kind it.ensures.cause
+    adds_if (λ x. store_view (g.K.Keeper.contents x) (g.K.Keeper.parts x) (g.K.Keeper.failing x) (g.K.Keeper.faults x))
+    it.done e.result i.keeper w.new.keeper i.parts w.new.self i.branch c.moment-moment.result.number i.past room.new.past e.new.past room.new.debts.items e.new.debts.items (owed_in i.past i.debts.items) (owed_in e.new.past e.new.debts.items)
+    c.args.self.now c.self.view_is e.ensures.made room.ensures.same e.ensures.enters it.ensures.leaves
+    (posts_at c.moment-moment.result i.past room.new.past i.parts w.new.self (g.K.Keeper.contents i.keeper) it.done c.moment-moment.ensures room.ensures.same c.self.invariant.0.place it.ensures.posts) (λ d is. inr (w.ensures.sessions, it.ensures.jobs d is)) it.ensures.kind it.ensures.cause
+    (record { contents = it.ensures.contents; parts = it.ensures.left_parts; left = it.ensures.left })
     (owed_if_none it.done i.past room.new.past e.new.past i.debts.items room.new.debts.items e.new.debts.items room.ensures.same room.ensures.same_debts e.ensures.enters c.self.invariant.4) it.ensures.unasked
 
 pub returns-clause-step : goal.returns-clause-step
@@ -58,7 +63,11 @@ returns-clause-step g c =
     let settings = c.in-Some.settings in
     let reads = c.make_index.ensures.reads c.self.invariant.3 settings c.in-Some.is in
     λ x told.
-    steps_if job_step c.states_have_their_settings.ensures.made it.done e.result i.keeper w.new.keeper i.parts w.new.self i.branch i.past room.new.past e.new.past room.new.debts.items e.new.debts.items (owed_in i.past i.debts.items) (owed_in e.new.past e.new.debts.items)
-    (g.K.Keeper.contents i.keeper) (g.K.Keeper.contents w.new.keeper) (g.K.Keeper.parts i.keeper) c.args.self.now c.self.view_is e.ensures.made room.ensures.same e.ensures.enters c.self.invariant.0
-    (acted_does at.result i.past room.new.past i.parts w.new.self i.branch (owed_in i.past i.debts.items) (g.K.Keeper.contents i.keeper) (g.K.Keeper.contents w.new.keeper) (g.K.Keeper.parts i.keeper) settings it.done at.ensures room.ensures.same law.read reads c.self.invariant.0 it.ensures.step)
+    steps_if (λ x. store_view (g.K.Keeper.contents x) (g.K.Keeper.parts x) (g.K.Keeper.failing x) (g.K.Keeper.faults x))
+    job_step job_calls c.states_have_their_settings.ensures.made it.done e.result i.keeper w.new.keeper i.parts w.new.self i.branch i.past room.new.past e.new.past room.new.debts.items e.new.debts.items
+    (owed_in i.past i.debts.items) (owed_in e.new.past e.new.debts.items) c.args.self.now c.self.view_is e.ensures.made room.ensures.same e.ensures.enters c.self.invariant.0
+    (acted_does at.result i.past room.new.past i.parts i.branch (owed_in i.past i.debts.items) (g.K.Keeper.contents i.keeper) (g.K.Keeper.parts i.keeper) settings it.done at.ensures room.ensures.same law.read reads c.self.invariant.0
+    w.new.self (g.K.Keeper.contents w.new.keeper) it.ensures.step it.ensures.asked)
+    (acted_calls at.result i.past room.new.past i.parts i.branch (owed_in i.past i.debts.items) (g.K.Keeper.contents i.keeper) (g.K.Keeper.parts i.keeper) settings it.done at.ensures room.ensures.same law.read reads c.self.invariant.0
+    (g.K.Keeper.failing i.keeper) (g.K.Keeper.failing w.new.keeper) it.ensures.calls)
     x (ap (λ v. told_of (g.K.Keeper.contents v.keeper) (g.K.Keeper.parts v.keeper)) c.self.view_is ∙ told)

@@ -1,11 +1,14 @@
 -- What the proof of `node::Node::bring` needs beside the tactics.
-use Rattle.std.proofs.Common.{subst, sym, ◌∙◌}
+use Rattle.std.proofs.Common.{IfErr, refl, subst, sym, ◌∙◌}
 use Rattle.content_lock.specs.Rows.{Rows}
 use Rattle.repo_node.specs.Nodes.{told_of}
 use Rattle.repo_node.specs.Placing.{LeavesFilled}
 use Rattle.repo_node.proofs.GainLemmas.{fed_left, grows_brought, kept_brought, seen_same, seen_stops, told_same}
 use Rattle.repo_node.proofs.OwedLemmas.{debts_grow, owed_grows, owed_in}
 use Rattle.repo_node.proofs.StateLemmas.{laws_of}
+use Rattle.repo_node.proofs.PlaceCallLemmas.{node_brought}
+use Rattle.repo_node.specs.Calls.{StopsAt, to_place_part}
+use Rattle.repo_node.proofs.WriteLemmas.{node_of}
 use Rattle.repo_node.proofs.node.Node.bring.Goals as goal
 
 pub returns-clause-ok : goal.returns-clause-ok
@@ -43,3 +46,17 @@ invariant_of-self g c =
       debts_grow i.past w.new.past i.debts.items grows c.self.invariant.4,
       fed_left c.others_leave_it.ensures.fed i.parts stored stored' c.table.ensures.sound leaves c.self.invariant.5,
     )
+
+pub returns-clause-stops : goal.returns-clause-stops
+returns-clause-stops g c =
+    let i = c.self.inside in
+    let w = c.bring in
+    let owed = owed_in i.past i.debts.items in
+    let owed' = owed_in w.new.past i.debts.items in
+    let grows = grows_brought w.result i.past w.new.past w.ensures.same w.ensures.err in
+    subst
+    (λ v. IfErr w.result (λ e. StopsAt to_place_part c.args.key.now c.args.bytes.now (g.K.Keeper.contents v.keeper) (g.K.Keeper.contents w.new.keeper) (g.K.Keeper.parts v.keeper) (g.K.Keeper.parts w.new.keeper) (g.K.Keeper.failing v.keeper) (g.K.Keeper.failing w.new.keeper) e v (node_of w.new.keeper i.parts i.branch w.new.past owed')))
+    c.self.view_is
+    (node_brought w.result i.keeper w.new.keeper i.parts i.branch i.past w.new.past owed owed' (node_of i.keeper i.parts i.branch i.past owed) c.args.key.now c.args.bytes.now c.table.result.now
+    (g.K.Keeper.contents i.keeper) (g.K.Keeper.contents w.new.keeper) (g.K.Keeper.parts i.keeper) (g.K.Keeper.parts w.new.keeper) (g.K.Keeper.failing i.keeper) (g.K.Keeper.failing w.new.keeper)
+    refl c.table.ensures.rows w.ensures.stops w.ensures.contents (owed_grows i.past w.new.past i.debts.items grows c.self.invariant.4))

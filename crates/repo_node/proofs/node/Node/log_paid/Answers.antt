@@ -1,5 +1,5 @@
 -- What the proof of `node::Node::log_paid` needs beside the tactics.
-use Rattle.std.proofs.Common.{ℕ, Bool, if◌then◌else◌, List, bytes_eq, sym, ap, subst, ◌∙◌}
+use Rattle.std.proofs.Common.{ℕ, Bool, if◌then◌else◌, List, bytes_eq, sym, ap, subst, ◌∙◌, ◌∷◌, []}
 use Rattle.union_merge.specs.Branch.{Files, lines_at, with_file}
 use Rattle.union_merge.specs.LineSet.{union}
 use Rattle.trust_groups.specs.Adding.{lines_and}
@@ -8,6 +8,8 @@ use Rattle.repo_node.specs.Nodes.{are_due}
 use Rattle.repo_node.specs.Owing.{rest_if}
 use Rattle.repo_node.proofs.IndexLemmas.{log_alike}
 use Rattle.repo_node.proofs.LogLemmas.{logged, logged_listed, ok_entry, ok_some}
+use Rattle.annex_base.specs.declared.kinds.Call.TheVariants.{PutFile}
+use Rattle.repo_node.proofs.CallLemmas.{makes_short}
 use Rattle.repo_node.proofs.node.Node.log_paid.Goals as goal
 
 pub write-requires-clause-lines : goal.write-requires-clause-lines
@@ -51,3 +53,9 @@ write-requires-clause-owed g c =
     let n = c.args.self.now in
     ap (λ (ls : List (List ℕ)). rest_if (are_due n c.args.file ls n.owed) n.owed) (c.in_ok-lines.ensures ∙ c.lines.ensures.value)
     ∙ ap (λ (b : Bool). rest_if b n.owed) (sym c.requires.paid)
+
+pub returns-in_err-all-clause-calls : goal.returns-in_err-all-clause-calls
+returns-in_err-all-clause-calls g c = makes_short (PutFile ∷ []) PutFile c.from_residual.result (g.K.Keeper.failing c.args.self.now.keeper) c.from_residual.ensures.1
+
+pub returns-in_err-lines-clause-calls : goal.returns-in_err-lines-clause-calls
+returns-in_err-lines-clause-calls g c = makes_short (PutFile ∷ []) PutFile c.from_residual-in_err-lines.result (g.K.Keeper.failing c.args.self.now.keeper) c.from_residual-in_err-lines.ensures.1

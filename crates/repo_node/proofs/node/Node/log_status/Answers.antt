@@ -1,8 +1,14 @@
 -- What the proof of `node::Node::log_status` needs beside the tactics.
 use Rattle.repo_node.proofs.DebtLemmas.{ok_status}
+use Rattle.std.proofs.Common.{◌∷◌, []}
+use Rattle.annex_base.specs.declared.kinds.Call.TheVariants.{PutFile}
+use Rattle.repo_node.proofs.CallLemmas.{makes_short}
 use Rattle.repo_node.proofs.node.Node.log_status.Goals as goal
 
 pub returns-clause-ok : goal.returns-clause-ok
 returns-clause-ok g c =
     let d = c.in_ok-draft.draft in
     ok_status c.log.result c.args.self.now c.log.new.self c.args.key.now c.args.repo c.args.there d.file d.new c.in_ok-draft.ensures.file c.in_ok-draft.ensures.new c.log.ensures.ok
+
+pub returns-in_err-draft-clause-calls : goal.returns-in_err-draft-clause-calls
+returns-in_err-draft-clause-calls g c = makes_short (PutFile ∷ []) PutFile c.from_residual.result (g.K.Keeper.failing c.args.self.now.keeper) c.from_residual.ensures.1

@@ -1,5 +1,8 @@
 -- What the proof of `node::Node::pay` needs beside the tactics.
+use Rattle.std.proofs.Common.{◌∷◌, []}
+use Rattle.annex_base.specs.declared.kinds.Call.TheVariants.{PutFile}
 use Rattle.repo_node.specs.Nodes.{told_of}
+use Rattle.repo_node.proofs.CallLemmas.{makes_short}
 use Rattle.repo_node.proofs.DebtLemmas.{err_paid, ok_paid, pays_due, rest_paid, step_paid}
 use Rattle.repo_node.proofs.node.Node.pay.Goals as goal
 
@@ -27,3 +30,6 @@ returns-clause-pays g c x told s k fits time count fails =
     let is = c.history.ensures.state s fits in
     step_paid c.log_paid.result n c.log_paid.new.self c.in_ok-draft.draft s k (told_of (g.K.Keeper.contents n.keeper) (g.K.Keeper.parts n.keeper)) c.in_ok-draft.ensures
     (is.stands x told).owed_are fits is time count fails c.log_paid.ensures.ok c.log_paid.ensures.err
+
+pub returns-in_err-draft-clause-calls : goal.returns-in_err-draft-clause-calls
+returns-in_err-draft-clause-calls g c = makes_short (PutFile ∷ []) PutFile c.from_residual.result (g.K.Keeper.failing c.args.self.now.keeper) c.from_residual.ensures.1

@@ -1,11 +1,13 @@
 -- What the proof of `node::Node::shrink` needs beside the tactics.
-use Rattle.std.proofs.Common.{ℕ, if◌then◌else◌, List, Option, bytes_eq, sym, ap, ◌∙◌}
+use Rattle.std.proofs.Common.{ℕ, if◌then◌else◌, List, Option, bytes_eq, sym, ap, ◌∙◌, ◌∷◌, []}
 use Rattle.log_lines.specs.declared.entry.LogKind.{LogKind}
 use Rattle.run_data.specs.Files.{kind_of}
 use Rattle.node_model.specs.Files.{compact_lines}
 use Rattle.union_merge.specs.Branch.{Files, lines_at, with_file}
 use Rattle.repo_node.proofs.IndexLemmas.{shrunk_alike}
 use Rattle.repo_node.proofs.LogLemmas.{ok_shrunk, shrunk}
+use Rattle.annex_base.specs.declared.kinds.Call.TheVariants.{PutFile}
+use Rattle.repo_node.proofs.CallLemmas.{makes_short}
 use Rattle.repo_node.proofs.node.Node.shrink.Goals as goal
 
 pub write-requires-clause-lines : goal.write-requires-clause-lines
@@ -37,3 +39,6 @@ write-requires-clause-reads g c =
     (law.there b path all) (λ p differ. law.other b path p all differ) q
     ∙ ap (λ (w : List ℕ). if bytes_eq w q then compact_lines (kind_of c.args.file) (lines_at b q) else lines_at b q) (sym c.requires.here)
     ∙ ap (λ (o : Option LogKind). if bytes_eq path q then compact_lines o (lines_at b q) else lines_at b q) c.requires.kind)
+
+pub returns-in_err-all-clause-calls : goal.returns-in_err-all-clause-calls
+returns-in_err-all-clause-calls g c = makes_short (PutFile ∷ []) PutFile c.from_residual.result (g.K.Keeper.failing c.args.self.now.keeper) c.from_residual.ensures.1

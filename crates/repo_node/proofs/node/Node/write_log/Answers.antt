@@ -1,13 +1,18 @@
 -- What the proof of `node::Node::write_log` needs beside the tactics.
-use Rattle.std.proofs.Common.{List, ℕ, ◌≤◌, ◌+◌, length, sym, ap, subst, ◌∙◌}
+use Rattle.std.proofs.Common.{◌≡◌, List, ℕ, ◌+◌, OnOk, sym, ap, subst, ◌∙◌, [], ◌∷◌}
 use Rattle.std.specs.Option.{option_copied}
 use Rattle.log_lines.specs.declared.entry.Entry.{Entry}
-use Rattle.log_lines.specs.LineText.{HasLine, line_text}
+use Rattle.log_lines.specs.LineText.{line_text}
 use Rattle.node_model.specs.Owed.{stamp_at}
 use Rattle.run_data.specs.Files.{file_path}
+use Rattle.run_data.specs.declared.entry.LogFile.{LogFile}
 use Rattle.union_merge.specs.Branch.{Files, lines_at}
 use Rattle.union_merge.specs.LineSet.{IsLine}
-use Rattle.repo_node.specs.Logs.{log_of, stamped}
+use Rattle.repo_node.specs.Logs.{log_of, stamped, stamped_by, with_lines}
+use Rattle.annex_base.specs.declared.kinds.Call.TheVariants.{PutFile}
+use Rattle.repo_node.specs.Calls.{to_log}
+use Rattle.repo_node.proofs.CallLemmas.{makes_short}
+use Rattle.repo_node.proofs.WalkCallLemmas.{logged_as}
 use Rattle.repo_node.proofs.node.Node.write_log.Goals as goal
 
 pub set_of_line-requires : goal.set_of_line-requires
@@ -21,5 +26,46 @@ set_of_line-requires g c =
     ap (λ (b : Files). stamped kind (lines_at b c.bytes.result.now) clock e) c.branch-branch.ensures
     ∙ ap (λ (p : List ℕ). stamped kind (lines_at n.branch p) clock e) (c.bytes.ensures ∙ c.in_ok-path.ensures.value ∙ ap file_path c.in_ok-file.ensures.value)
     ∙ ap (λ (t : ℕ). stamped kind (lines_at n.branch place) t e) (c.stamp-clock.ensures ∙ ap (λ v. stamp_at (v.time + v.setup.offset)) c.self.view_is) in
-    subst (λ (l : List ℕ). IsLine l) (sym c.bytes-2.ensures)
-    (c.in_ok-line.ensures.line (subst (λ (x : Entry). HasLine kind x) (sym is) c.requires.line) (subst (λ (x : Entry). length (line_text kind x) ≤ 8192) (sym is) c.requires.short))
+    subst (λ (l : List ℕ). IsLine l) (sym (c.bytes-2.ensures ∙ c.in_ok-line.ensures ∙ ap (line_text kind) is)) c.requires.line
+
+pub returns-clause-ok : goal.returns-clause-ok
+returns-clause-ok g c =
+    let n = c.args.self.now in
+    let kind = c.args.kind in
+    let e : Entry = c.args.entry.now in
+    let clock = c.stamp-clock.result in
+    let place = file_path (log_of kind (option_copied c.args.key)) in
+    let line = line_text kind (stamped_by n kind (option_copied c.args.key) e) in
+    let is =
+    ap (λ (b : Files). stamped kind (lines_at b c.bytes.result.now) clock e) c.branch-branch.ensures
+    ∙ ap (λ (p : List ℕ). stamped kind (lines_at n.branch p) clock e) (c.bytes.ensures ∙ c.in_ok-path.ensures.value ∙ ap file_path c.in_ok-file.ensures.value)
+    ∙ ap (λ (t : ℕ). stamped kind (lines_at n.branch place) t e) (c.stamp-clock.ensures ∙ ap (λ v. stamp_at (v.time + v.setup.offset)) c.self.view_is) in
+    subst (λ (f : LogFile). OnOk c.add_lines.result (c.add_lines.new.self ≡ with_lines n c.add_lines.new.self.keeper f (line ∷ []))) c.in_ok-file.ensures.value
+    (subst (λ (ls : List (List ℕ)). OnOk c.add_lines.result (c.add_lines.new.self ≡ with_lines n c.add_lines.new.self.keeper c.in_ok-file.file ls))
+    (c.in_ok-lines.ensures ∙ ap (λ (l : List ℕ). l ∷ []) (c.bytes-2.ensures ∙ c.in_ok-line.ensures ∙ ap (line_text kind) is)) c.add_lines.ensures.ok)
+
+pub returns-in_err-file-clause-calls : goal.returns-in_err-file-clause-calls
+returns-in_err-file-clause-calls g c = makes_short (to_log c.args.self.now (log_of c.args.kind (option_copied c.args.key)) (line_text c.args.kind (stamped_by c.args.self.now c.args.kind (option_copied c.args.key) c.args.entry.now) ∷ [])) PutFile c.from_residual.result (g.K.Keeper.failing c.args.self.now.keeper) c.from_residual.ensures.1
+
+pub returns-in_err-path-clause-calls : goal.returns-in_err-path-clause-calls
+returns-in_err-path-clause-calls g c = makes_short (to_log c.args.self.now (log_of c.args.kind (option_copied c.args.key)) (line_text c.args.kind (stamped_by c.args.self.now c.args.kind (option_copied c.args.key) c.args.entry.now) ∷ [])) PutFile c.from_residual-in_err-path.result (g.K.Keeper.failing c.args.self.now.keeper) c.from_residual-in_err-path.ensures.1
+
+pub returns-in_err-line-clause-calls : goal.returns-in_err-line-clause-calls
+returns-in_err-line-clause-calls g c = makes_short (to_log c.args.self.now (log_of c.args.kind (option_copied c.args.key)) (line_text c.args.kind (stamped_by c.args.self.now c.args.kind (option_copied c.args.key) c.args.entry.now) ∷ [])) PutFile c.from_residual-in_err-line.result (g.K.Keeper.failing c.args.self.now.keeper) c.from_residual-in_err-line.ensures.1
+
+pub returns-in_err-lines-clause-calls : goal.returns-in_err-lines-clause-calls
+returns-in_err-lines-clause-calls g c = makes_short (to_log c.args.self.now (log_of c.args.kind (option_copied c.args.key)) (line_text c.args.kind (stamped_by c.args.self.now c.args.kind (option_copied c.args.key) c.args.entry.now) ∷ [])) PutFile c.from_residual-in_err-lines.result (g.K.Keeper.failing c.args.self.now.keeper) c.from_residual-in_err-lines.ensures.1
+
+pub returns-clause-calls : goal.returns-clause-calls
+returns-clause-calls g c =
+    let n = c.args.self.now in
+    let kind = c.args.kind in
+    let e : Entry = c.args.entry.now in
+    let clock = c.stamp-clock.result in
+    let place = file_path (log_of kind (option_copied c.args.key)) in
+    let is =
+    ap (λ (b : Files). stamped kind (lines_at b c.bytes.result.now) clock e) c.branch-branch.ensures
+    ∙ ap (λ (p : List ℕ). stamped kind (lines_at n.branch p) clock e) (c.bytes.ensures ∙ c.in_ok-path.ensures.value ∙ ap file_path c.in_ok-file.ensures.value)
+    ∙ ap (λ (t : ℕ). stamped kind (lines_at n.branch place) t e) (c.stamp-clock.ensures ∙ ap (λ v. stamp_at (v.time + v.setup.offset)) c.self.view_is) in
+    logged_as c.add_lines.result n c.in_ok-file.file (log_of kind (option_copied c.args.key)) c.in_ok-lines.lines (line_text kind (stamped_by n kind (option_copied c.args.key) e) ∷ []) (g.K.Keeper.failing c.args.self.now.keeper) (g.K.Keeper.failing c.add_lines.new.self.keeper)
+    c.in_ok-file.ensures.value (c.in_ok-lines.ensures ∙ ap (λ (l : List ℕ). l ∷ []) (c.bytes-2.ensures ∙ c.in_ok-line.ensures ∙ ap (line_text kind) is)) c.add_lines.ensures.calls

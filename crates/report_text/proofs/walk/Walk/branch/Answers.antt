@@ -1,6 +1,6 @@
 -- What the proof of `walk::Walk::branch` needs beside the tactics.
 use Rattle.std.proofs.Common.{length}
-use Rattle.thin_model.specs.Safety.{past_at}
+use Rattle.run_model.specs.Safety.{past_at}
 use Rattle.report_text.proofs.walk.Walk.branch.Goals as goal
 
 pub returns : goal.returns

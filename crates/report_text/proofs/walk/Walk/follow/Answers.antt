@@ -1,13 +1,13 @@
 -- What the proof of `walk::Walk::follow` needs beside the tactics.
 use Rattle.std.proofs.Common.{◌<◌, ◌≤◌, min, length, arith}
-use Rattle.report_text.specs.Walk.{IsLogged}
+use Rattle.report_text.specs.Walk.{IsWellFormed}
 use Rattle.report_text.proofs.Pasts.{each_at, knows_more, stands_walked}
 use Rattle.report_text.proofs.walk.Walk.follow.Goals as goal
 
 pub add-requires : goal.add-requires
 add-requires c =
     let within : c.loop-place.place < length c.as_slice-entries.result.now = omega arith in
-    each_at IsLogged c.args.run.now.entries c.as_slice-entries.result.now c.loop-place.place _ c.as_slice-entries.ensures c.requires.logged within c.index-entries-place.is
+    each_at IsWellFormed c.args.run.now.entries c.as_slice-entries.result.now c.loop-place.place _ c.as_slice-entries.ensures c.requires.formed within c.index-entries-place.is
 
 pub loop-place-preserved : goal.loop-place-preserved
 loop-place-preserved c =

@@ -1,6 +1,6 @@
 -- What holds at each turn of the loops of `walk::Walk::follow`.
 use Rattle.std.proofs.Common.{◌≤◌, length}
-use Rattle.thin_model.specs.Safety.{past_at}
+use Rattle.run_model.specs.Safety.{past_at}
 use Rattle.report_text.specs.Walk.{Knows}
 use Rattle.report_text.proofs.walk.Walk.follow.Given as goal
 

@@ -1,0 +1,135 @@
+-- A fleet does the lines of a script, one after the other.
+use Rattle.std.proofs.Common.{◌≡◌, ℕ, ◌+◌, ◌<◌, ◌≤◌, true, List, [], ◌∷◌, length, drop, get_or, reverse, Option, Some, None, refl, sym, ap, ◌∙◌, subst, arith, length-append}
+use Rattle.std.specs.Prelude.{is_some}
+use Rattle.std.specs.Option.{option_map_or}
+use Rattle.std.proofs.lemmas.List.{drop_all, drop_more, reverse-reverse}
+use Rattle.annex_base.specs.OptionSteps.{◌>>=◌}
+use Rattle.annex_base.proofs.Options.{bind_some}
+use Rattle.run_data.specs.declared.run.RepoView.{RepoView}
+use Rattle.run_data.specs.declared.run.Run.{Run}
+use Rattle.run_model.specs.Past.{now}
+use Rattle.repo_node.specs.Stored.{StoreView}
+use Rattle.script_lang.specs.declared.command.Command.{Command}
+use Rattle.script_lang.specs.Script as script
+use Rattle.script_lang.specs.Script.{context_with, no_context, wait_of}
+use Rattle.script_lang.specs.Standing.{AllStand}
+use Rattle.driver_model.specs.Driver.{Driver, Given, at_first}
+use Rattle.driver_model.specs.Driving.{does, driver_after, drives, run_with, with_mark}
+use Rattle.driver_model.specs.Lines.{Line, waited_by}
+use Rattle.driver_model.specs.Scripts.{Fits}
+use Rattle.driver_script.specs.Given.{given_of}
+use Rattle.driver_script.specs.Lines.{declared_by, line_of, lines_of, repos_of}
+use Rattle.fleet_model.specs.Fleets.{FleetView}
+use Rattle.fleet_run.specs.Commands.{MayBeDone, does_and_marks}
+use Rattle.fleet_run.specs.Standing.{GoesOn, Stands}
+use Rattle.annex_cli.specs.Runs.{AreLines, HasDone, IsRunOf}
+use Rattle.annex_cli.proofs.ReportLemmas.{declares_alike}
+
+some_is : {X : Type 0} (x y : X) → Some x ≡ Some y → x ≡ y
+some_is x y e = cc
+
+-- the laws that the lemmas take
+abbrev pub TimeLaw : Type 0
+TimeLaw = (g : Given) (line : Line) (d : Driver) → now (does g line d).past ≡ now d.past + waited_by line
+
+abbrev pub WaitLaw : Type 0
+WaitLaw = (repos : List RepoView) (command : Command) (line : Line) → line_of repos command ≡ Some line → waited_by line ≡ wait_of command
+
+-- the commands from a place on
+rest_at : {X : Type 0} (xs : List X) (i : ℕ) (x : X) → i < length xs → x ≡ get_or xs i x → drop i xs ≡ x ∷ drop (i + 1) xs
+rest_at xs i x within is = drop_more xs i x within ∙ ap (λ y. y ∷ drop (i + 1) xs) (sym is)
+
+module _ {K : Type 0} (tells : K → StoreView) (all : List Command) where
+  abbrev Done : List Command → FleetView K → Type 0
+  Done left f = HasDone tells all left f
+
+  -- before the first line
+  pub done_at_first : (f : FleetView K) (lines : List Line) → AreLines all lines → AllStand no_context all → Stands tells (given_of all) at_first f → HasDone tells all all f
+  done_at_first f lines are stand stands = record {
+    lines = lines;
+    are = are;
+    context = no_context;
+    stand = stand;
+    repos = omega arith;
+    driver = at_first;
+    waited = refl;
+    stands = stands;
+    others = lines;
+    behind = are;
+    ends = refl;
+  }
+
+  module _ (c : Command) (left : List Command) (f : FleetView K) (h : Done (c ∷ left) f) where
+    abbrev g : Given
+    g = given_of all
+
+    -- the line of the command, and those behind it
+    record Next : Type 0 where
+      line : Line
+      others : List Line
+      here : line_of (repos_of all) c ≡ Some line
+      behind : lines_of (repos_of all) left ≡ Some others
+      both : line ∷ others ≡ h.others
+
+    next : Next
+    next =
+        let one = bind_some (line_of (repos_of all) c) (λ t. lines_of (repos_of all) left >>= λ ts. Some (t ∷ ts)) h.others h.behind in
+        let more = bind_some (lines_of (repos_of all) left) (λ ts. Some (one.0 ∷ ts)) h.others one.2 in
+        record { line = one.0; others = more.0; here = one.1; behind = more.1; both = some_is (one.0 ∷ more.0) h.others more.2 }
+
+    -- the command may be done
+    pub may_be_done : MayBeDone f c
+    may_be_done =
+        let run = h.stands.come.run in
+        let count = h.stands.come.count in
+        let repos = h.repos in
+        record {
+          context = h.context;
+          repos = omega (arith, count, repos);
+          waited = h.waited ∙ ap now (sym (ap (λ (r : Run). reverse r.entries) run ∙ reverse-reverse h.driver.past));
+          stands = h.stand.0;
+          within = h.stand.1;
+          built = ap (λ (r : Run). is_some (line_of r.repos c)) run ∙ ap is_some next.here;
+        }
+
+    -- and then the rest is left
+    pub done_next : TimeLaw → WaitLaw → (after : FleetView K) → GoesOn tells (does_and_marks c) f after → HasDone tells all left after
+    done_next time wait after goes =
+        let after_line : Driver = with_mark (does g next.line h.driver) in
+        let both = length-append (declared_by c) (repos_of left) in
+        let long = length-append h.context.repos (script.declared_by c) in
+        let alike = declares_alike c in
+        let repos = h.repos in
+        record {
+          lines = h.lines;
+          are = h.are;
+          context = context_with h.context c;
+          stand = h.stand.2;
+          repos = omega (arith, repos, both, long, alike);
+          driver = after_line;
+          waited = ap (λ n. n + wait_of c) h.waited ∙ ap (λ n. now h.driver.past + n) (sym (wait (repos_of all) c next.line next.here)) ∙ sym (time g next.line h.driver);
+          stands = subst (λ (o : Option Line). Stands tells g (with_mark (option_map_or (λ line. does g line h.driver) o h.driver)) after) next.here (goes g h.driver h.stands);
+          others = next.others;
+          behind = next.behind;
+          ends = ap (λ ls. drives g ls h.driver) next.both ∙ h.ends;
+        }
+
+  -- after the last line
+  pub done_at_last : (f : FleetView K) → HasDone tells all [] f → IsRunOf all f.run
+  done_at_last f h =
+      let none : [] ≡ h.others = some_is [] h.others h.behind in
+      let last : h.driver ≡ driver_after (given_of all) h.lines = ap (λ ls. drives (given_of all) ls h.driver) none ∙ h.ends in
+      record {
+        lines = h.lines;
+        are = h.are;
+        run_is = h.stands.come.run ∙ ap (run_with (given_of all)) last;
+        fits = subst Fits last h.stands.come.fits;
+      }
+
+  -- the command at a place is the first of those that are left
+  pub done_before : (i : ℕ) (c : Command) (f : FleetView K) → i < length all → c ≡ get_or all i c → HasDone tells all (drop i all) f → HasDone tells all (c ∷ drop (i + 1) all) f
+  done_before i c f within is h = subst (λ (left : List Command). HasDone tells all left f) (rest_at all i c within is) h
+
+  -- behind the last none is left
+  pub none_left : (i : ℕ) (f : FleetView K) → length all ≤ i → HasDone tells all (drop i all) f → HasDone tells all [] f
+  none_left i f past h = subst (λ (left : List Command). HasDone tells all left f) (drop_all i all past) h

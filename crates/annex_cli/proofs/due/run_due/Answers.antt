@@ -1,0 +1,15 @@
+-- The script may be run.
+use Rattle.std.proofs.Common.{◌≤◌, ◌<◌, ◌^◌, length, arith}
+use Rattle.driver_script.specs.Script.{IsScript}
+use Rattle.annex_cli.proofs.due.run_due.Goals as goal
+
+pub run_script-requires-clause-stand : goal.run_script-requires-clause-stand
+run_script-requires-clause-stand c = c.commands_stand.ensures c.args.bytes.now c.args.script.now c.requires.says
+
+pub run_script-requires-clause-run : goal.run_script-requires-clause-run
+run_script-requires-clause-run c =
+    let lines = c.requires.lines in
+    let is : IsScript c.args.bytes.now c.args.script.now lines.0 = record { says = c.requires.says; built = lines.1 } in
+    let law = c.scripts_may_be_driven.ensures in
+    let few = law.few c.args.bytes.now c.args.script.now lines.0 is in
+    record { few = omega (arith, few); each = law.repos c.args.bytes.now c.args.script.now lines.0 is; apart = law.apart c.args.bytes.now c.args.script.now lines.0 is }

@@ -1,0 +1,35 @@
+-- One line more, and after the last none is left.
+use Rattle.std.proofs.Common.{◌+◌, ◌<◌, ◌≤◌, [], List, length, drop, sym, subst, arith}
+use Rattle.repo_node.specs.Stored.{store_view}
+use Rattle.script_lang.specs.declared.command.Command.{Command}
+use Rattle.annex_cli.specs.Runs.{HasDone}
+use Rattle.annex_cli.proofs.RunLemmas.{done_at_first, done_before, done_next, may_be_done, none_left}
+use Rattle.annex_cli.proofs.runs.run_lines.Goals as goal
+
+pub loop-command-init : goal.loop-command-init
+loop-command-init g c =
+    subst (λ (cs : List Command). HasDone (λ k. store_view (g.K.Keeper.contents k) (g.K.Keeper.parts k) (g.K.Keeper.failing k) (g.K.Keeper.faults k)) cs cs c.args.fleet.now) (sym c.lines-commands.ensures)
+    (done_at_first _ c.args.script.now c.args.fleet.now c.requires.lines.0 c.requires.lines.1 c.requires.stand c.requires.stands)
+
+pub line-requires : goal.line-requires
+line-requires g c =
+    let all : List Command = c.lines-commands.result.now in
+    let i = c.loop-command.command-index in
+    let within : i < length all = omega arith in
+    let before = done_before _ all i c.command-item.result c.loop-command.fleet within c.command-item.is c.loop-command.invariant in
+    may_be_done _ all c.command-item.result (drop (i + 1) all) c.loop-command.fleet before
+
+pub loop-command-preserved : goal.loop-command-preserved
+loop-command-preserved g c =
+    let all : List Command = c.lines-commands.result.now in
+    let i = c.loop-command.command-index in
+    let within : i < length all = omega arith in
+    let before = done_before _ all i c.command-item.result c.loop-command.fleet within c.command-item.is c.loop-command.invariant in
+    done_next _ all c.command-item.result (drop (i + 1) all) c.loop-command.fleet before c.only_waits_take_time.ensures c.lines_wait_as_long.ensures c.line.new.self c.in_ok-line.ensures.ok
+
+pub returns : goal.returns
+returns g c =
+    let all : List Command = c.lines-commands.result.now in
+    let past : length all ≤ c.loop-command.command-index = omega arith in
+    subst (λ (cs : List Command). HasDone (λ k. store_view (g.K.Keeper.contents k) (g.K.Keeper.parts k) (g.K.Keeper.failing k) (g.K.Keeper.faults k)) cs [] c.loop-command.fleet) c.lines-commands.ensures
+    (none_left _ all c.loop-command.command-index c.loop-command.fleet past c.loop-command.invariant)

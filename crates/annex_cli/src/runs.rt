@@ -1,0 +1,56 @@
+//! The run of a script, by a fleet of nodes.
+ghost use Rattle.std.specs.Prelude.{[], List, IfOk, OnOk};
+ghost use Rattle.repo_node.specs.Stored.{store_view};
+ghost use Rattle.script_lang.specs.Script.{no_context};
+ghost use Rattle.script_lang.specs.Standing.{AllStand};
+ghost use Rattle.driver_model.specs.Driver.{at_first};
+ghost use Rattle.driver_model.specs.Lines.{Line};
+ghost use Rattle.driver_script.specs.Given.{given_of};
+ghost use Rattle.driver_script.specs.Lines.{repos_of};
+ghost use Rattle.fleet_run.specs.Standing.{Stands};
+ghost use Rattle.joined_nodes.specs.Joined.{MayRun};
+ghost use Rattle.annex_cli.specs.Runs.{AreLines, HasDone, IsRunOf};
+
+use annex_base::NoMemory;
+use driver_model::only_waits_take_time;
+use driver_script::{bytes_are_matched, lines_wait_as_long};
+use fleet_run::{Fleet, FleetStop};
+use object_store::{FailingKeeper, MemoryKeeper};
+use run_data::Run;
+use script_lang::Script;
+use std::alloc::Global;
+
+/// Does the script's lines, one after the other.
+fn run_lines<K: FailingKeeper>(fleet: &mut Fleet<K>, script: &Script) -> Result<(), FleetStop>
+    requires lines { (lines : List Line) × AreLines script.now lines }
+    requires stand { AllStand no_context script.now }
+    requires stands { Stands (λ k. store_view (K.contents k) (K.parts k) (K.failing k) (K.faults k)) (given_of script.now) at_first fleet.old }
+    ensures { OnOk result (HasDone (λ k. store_view (K.contents k) (K.parts k) (K.failing k) (K.faults k)) script.now [] fleet.new) }
+{
+    // Laws, for the proof.
+    only_waits_take_time();
+    lines_wait_as_long();
+    let commands = script.lines();
+    for command in commands {
+        fleet.line(command)?;
+    }
+    Ok(())
+}
+
+/// The run of the script, each repository over a store in memory. A full history is want of memory (own).
+pub fn run_script(alloc: Global, script: &Script) -> Result<Run, NoMemory>
+    requires lines { (lines : List Line) × AreLines script.now lines }
+    requires stand { AllStand no_context script.now }
+    requires run { MayRun (repos_of script.now) }
+    ensures { IfOk result (λ run. IsRunOf script.now run) }
+{
+    // A law, for the proof.
+    bytes_are_matched();
+    let mut fleet = Fleet::new(alloc, script)?;
+    let ended = run_lines(&mut fleet, script);
+    let run = fleet.finish();
+    match ended {
+        Ok(()) => Ok(run),
+        Err(FleetStop::Full { .. } | FleetStop::NoMemory) => Err(NoMemory),
+    }
+}

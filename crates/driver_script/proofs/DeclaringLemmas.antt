@@ -1,0 +1,102 @@
+-- The repositories of a script: few, each set up within its bounds, and no two with one identifier.
+use Rattle.std.proofs.Common.{◌≡◌, ◌≢◌, ◌⊎◌, inl, inr, ℕ, ◌+◌, ◌<◌, ◌≤◌, Bool, true, false, ◌&&◌, ◌==◌, nat_lt, List, [], ◌∷◌, ◌++◌, length, map, get_or, AllPairs, Option, Some, None, refl, sym, ap, ◌∙◌, subst, arith, append_assoc, length-append}
+use Rattle.std.specs.Prelude.{bytes_eq, if◌then◌else◌}
+use Rattle.std.specs.List.{list_any}
+use Rattle.std.proofs.lemmas.Bool.{and_parts, eqb-true, ltb-false, or_parts}
+use Rattle.std.proofs.lemmas.List.{append-nil, length-map, map-append}
+use Rattle.std.proofs.lemmas.List.Quantifiers.{all_pairs_push}
+use Rattle.annex_base.specs.Lists.{Each}
+use Rattle.annex_base.proofs.Conditions.{bytes_eq-refl}
+use Rattle.annex_base.proofs.Lists.{Each-get_or, Each-push, Each-map, list_any_nowhere}
+use Rattle.annex_base.proofs.Options.{where_some}
+use Rattle.run_data.specs.Repos.{IsSetUp}
+use Rattle.run_data.specs.declared.run.RepoView.{RepoView}
+use Rattle.script_lang.specs.declared.command.Command.{Command}
+use Rattle.script_lang.specs.declared.command.Command.TheVariants as commands
+use Rattle.script_lang.specs.declared.context.Repository.{Repository}
+use Rattle.script_lang.specs.declared.fault.Quantity.{Quantity}
+use Rattle.script_lang.specs.Context.{Context, has_id}
+use Rattle.script_lang.specs.Limits.{first_limit}
+use Rattle.script_lang.specs.Script as script
+use Rattle.script_lang.specs.Script.{context_with}
+use Rattle.script_lang.specs.Standing as standing
+use Rattle.driver_model.specs.Lines.{Line}
+use Rattle.driver_model.specs.Lines as driver
+use Rattle.driver_script.specs.Lines.{declared_by, is_plain_repo, line_of, lines_of, repos_of}
+use Rattle.driver_script.proofs.BuiltLemmas.{first_line}
+
+-- a repository of a script as runs show it
+abbrev pub view_of : Repository → RepoView
+view_of r = record { name = r.name; id = r.id; offset = r.offset; version = r.version; locks = r.locks }
+
+abbrev id_in : RepoView → List ℕ
+id_in r = r.id
+
+abbrev Differ : List ℕ → List ℕ → Type 0
+Differ a b = a ≢ b
+
+-- the repositories of a run
+pub record Declares (repos : List RepoView) : Type 0 where
+  pub each : Each IsSetUp repos
+  pub few : length repos ≤ 8
+  pub apart : AllPairs Differ (map id_in repos)
+
+-- ---- one more
+
+within : (quantity : Quantity) (limit n : ℕ) → (if nat_lt limit n then Some quantity else None) ≡ None → n ≤ limit
+within quantity limit n e = from (nat_lt limit n) refl e
+  where
+    from : (b : Bool) → nat_lt limit n ≡ b → (if b then Some quantity else None) ≡ None → n ≤ limit
+    from true is e = absurd cc
+    from false is e = ltb-false limit n is
+
+-- a repository whose identifier none has is apart from each
+other_id : (id : List ℕ) (d : Repository) → bytes_eq d.id id ≡ false → (view_of d).id ≢ id
+other_id id d unlike same = absurd (let alike : bytes_eq d.id id ≡ true = rw same (bytes_eq-refl id) in cc)
+
+new_id : (repos : List Repository) (id : List ℕ) → has_id repos id ≡ false → Each (λ a. a ≢ id) (map id_in (map view_of repos))
+new_id [] id unused = tt
+new_id (d ∷ repos) id unused =
+    let each = or_parts (bytes_eq d.id id) (has_id repos id) unused in
+    (other_id id d each.0, new_id repos id each.1)
+
+version_is : (version : ℕ) (locks : Bool) (l : Line) → line_of [] (commands.Repo [] [] 0 version locks) ≡ Some l → version ≡ 3
+version_is version locks l e = let w = where_some (is_plain_repo version locks) (Some driver.Shows) l e in eqb-true version 3 (and_parts (version == 3) locks w.0).0
+
+one_more : (repos : List RepoView) (x : Context) (c : Command) (l : Line) → standing.Stands x c → first_limit x c ≡ None → line_of repos c ≡ Some l → Declares (map view_of x.repos)
+    → Declares (map view_of x.repos ++ declared_by c)
+one_more repos x (commands.Repo name id offset version locks) l s p e d =
+    let new : RepoView = record { name = name; id = id; offset = offset; version = version; locks = locks } in
+    let three = version_is version locks l e in
+    let long = length-append (map view_of x.repos) (new ∷ []) in
+    let count = length-map x.repos view_of in
+    let few = within _ 8 (length x.repos + 1) p in
+    let ids = map-append id_in (map view_of x.repos) (new ∷ []) in
+    let fresh = new_id x.repos id s.0.new_id in
+    record {
+      each = Each-push IsSetUp (map view_of x.repos) new d.each (record { id = s.0.good_id; offset = s.1; oldest = omega (arith, three); newest = s.2 });
+      few = omega (arith, long, count, few);
+      apart = subst (AllPairs Differ) (sym ids) (all_pairs_push Differ (map id_in (map view_of x.repos)) id d.apart (λ k e less. Each-get_or (λ a. a ≢ id) (map id_in (map view_of x.repos)) k e less fresh));
+    }
+one_more repos x c l s p e d = subst Declares (sym (append-nil (map view_of x.repos))) d
+
+-- ---- all of them
+
+views_alike : (c : Command) → map view_of (script.declared_by c) ≡ declared_by c
+views_alike (commands.Repo name id offset version locks) = refl
+views_alike c = refl
+
+views_with : (x : Context) (c : Command) → map view_of (context_with x c).repos ≡ map view_of x.repos ++ declared_by c
+views_with x c = map-append view_of x.repos (script.declared_by c) ∙ ap (λ more. map view_of x.repos ++ more) (views_alike c)
+
+pub all_declare : (repos : List RepoView) (x : Context) (cs : List Command) (lines : List Line) → standing.AllStand x cs → lines_of repos cs ≡ Some lines → Declares (map view_of x.repos)
+    → Declares (map view_of x.repos ++ repos_of cs)
+all_declare repos x [] lines s e d = subst Declares (sym (append-nil (map view_of x.repos))) d
+all_declare repos x (c ∷ cs) lines s e d =
+    let first = first_line repos c cs lines e in
+    let one = one_more repos x c first.line s.0 s.1 first.here d in
+    let all = all_declare repos (context_with x c) cs first.others s.2 first.behind (subst Declares (sym (views_with x c)) one) in
+    subst Declares (append_assoc (map view_of x.repos) (declared_by c) (repos_of cs)) (subst (λ front. Declares (front ++ repos_of cs)) (views_with x c) all)
+
+pub none_declared : Declares []
+none_declared = record { each = tt; few = omega arith; apart = λ i j d less short. absurd (omega (arith, less, short)) }

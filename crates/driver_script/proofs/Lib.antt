@@ -1,0 +1,5 @@
+-- The lemmas of this crate.
+mod BuiltLemmas
+mod StandingLemmas
+mod DeclaringLemmas
+mod WaitingLemmas

@@ -1,0 +1,4 @@
+-- The definitions of this crate.
+pub mod Given
+pub mod Lines
+pub mod Script

@@ -1,0 +1,207 @@
+-- The first call of a step that is to fail is the first of all that the driver finds.
+use Rattle.std.proofs.Common.{◌≡◌, ◌≢◌, ℕ, ◌<◌, ◌≤◌, Bool, true, false, List, [], ◌∷◌, Option, Some, None, length, inl, inr, refl, sym, ap, ◌∙◌, subst, arith}
+use Rattle.std.specs.Prelude.{◌==◌, ◌&&◌, ◌||◌, filter, find, if◌then◌else◌, nat_lt}
+use Rattle.std.specs.List.{list_all, list_any}
+use Rattle.std.proofs.lemmas.Bool.Decides.{nat_tests}
+use Rattle.std.proofs.lemmas.Option.{same_Some}
+use Rattle.annex_base.specs.Calls.{call_number, same_call}
+use Rattle.annex_base.specs.declared.kinds.Call.{Call}
+use Rattle.annex_base.specs.declared.kinds.Call.TheVariants as calls
+use Rattle.annex_base.specs.Lists.{Each}
+use Rattle.annex_base.proofs.Lists.{Each-from_list_all, Each-from_members, Each-weaker}
+use Rattle.node_model.specs.Look.{Look}
+use Rattle.node_model.specs.SetUp.{SetUp}
+use Rattle.node_model.specs.State.{State}
+use Rattle.driver_model.specs.Driver.{Driver, fails_at, is_failing}
+use Rattle.driver_model.specs.Finding.{FailsFirst, calls_before}
+use Rattle.driver_model.specs.Turning.{all_calls, meets}
+use Rattle.content_lock.specs.CallsMade.{AreRising, MakesCalls}
+use Rattle.fleet_model.specs.Stores.{IsStoreOf, IsTold, waiting_fails}
+use Rattle.repo_node.specs.Stored.{StoreView}
+use Rattle.fleet_model.proofs.Failing.{any_counted}
+
+-- ---- calls by their numbers
+
+abbrev call_at : ℕ → Call
+call_at n =
+    if n == 0 then calls.Has else (if n == 1 then calls.Size else (if n == 2 then calls.Read else (if n == 3 then calls.PartSize else (if n == 4 then calls.ReadPart else
+    (if n == 5 then calls.Append else (if n == 6 then calls.Commit else (if n == 7 then calls.DropPart else (if n == 8 then calls.Remove else (if n == 9 then calls.Hold else
+    (if n == 10 then calls.Unhold else (if n == 11 then calls.Holds else (if n == 12 then calls.PutFile else calls.File))))))))))))
+
+call_found : (call : Call) → call_at (call_number call) ≡ call
+call_found calls.Has = refl
+call_found calls.Size = refl
+call_found calls.Read = refl
+call_found calls.PartSize = refl
+call_found calls.ReadPart = refl
+call_found calls.Append = refl
+call_found calls.Commit = refl
+call_found calls.DropPart = refl
+call_found calls.Remove = refl
+call_found calls.Hold = refl
+call_found calls.Unhold = refl
+call_found calls.Holds = refl
+call_found calls.PutFile = refl
+call_found calls.File = refl
+
+same_number : (n m : ℕ) → (n == m) ≡ true → n ≡ m
+same_number n m e = grind (arith, nat_tests)
+
+same_is : (c d : Call) → same_call c d ≡ true → c ≡ d
+same_is c d same = sym (call_found c) ∙ (ap call_at (same_number (call_number c) (call_number d) same) ∙ call_found d)
+
+-- ---- the first of rising calls
+
+-- a call among these is no less than the least
+among_all : (least : ℕ) (cs : List Call) (c : Call) → Each (λ b. least < call_number b) cs → list_any (same_call c) cs ≡ true → least < call_number c
+among_all least [] c all among = absurd (cc)
+among_all least (d ∷ cs) c all among = go (same_call c d) refl (among_all least cs c all.1)
+  where
+    go : (b : Bool) → same_call c d ≡ b → (list_any (same_call c) cs ≡ true → least < call_number c) → least < call_number c
+    go true e rest = subst (λ (x : Call). least < call_number x) (sym (same_is c d e)) all.0
+    go false e rest = rest (subst (λ (b : Bool). (b || list_any (same_call c) cs) ≡ true) e among)
+
+-- what is found is no greater than a call among them that passes
+pub record IsLeast (o : Option Call) (c : Call) : Type 0 where
+  pub call : Call
+  pub is : o ≡ Some call
+  pub least : call_number call ≤ call_number c
+
+at_most : (n m : ℕ) → n < m → n ≤ m
+at_most n m e = grind arith
+
+itself : (n m : ℕ) → (n == m) ≡ true → m ≤ n
+itself n m e = grind (arith, nat_tests)
+
+found_least : (p : Call → Bool) (cs : List Call) (c : Call) → AreRising cs → list_any (same_call c) cs ≡ true → p c ≡ true → IsLeast (find p cs) c
+found_least p [] c rising among passes = absurd (cc)
+found_least p (d ∷ cs) c rising among passes = go (p d) refl (same_call c d) refl (found_least p cs c rising.1)
+  where
+    more : same_call c d ≡ false → list_any (same_call c) cs ≡ true
+    more f = subst (λ (b : Bool). (b || list_any (same_call c) cs) ≡ true) f among
+
+    go : (b : Bool) → p d ≡ b → (e : Bool) → same_call c d ≡ e → (list_any (same_call c) cs ≡ true → p c ≡ true → IsLeast (find p cs) c) → IsLeast (find p (d ∷ cs)) c
+    go true is true same rest = record { call = d; is = (rw is refl); least = itself (call_number c) (call_number d) same }
+    go true is false other rest = record { call = d; is = (rw is refl); least = at_most (call_number d) (call_number c) (among_all (call_number d) cs c rising.0 (more other)) }
+    go false is true same rest = absurd (differ (sym is ∙ (ap p (sym (same_is c d same)) ∙ passes)))
+      where
+        differ : false ≡ true → ⊥
+        differ e = cc
+    go false is false other rest = let l = rest (more other) passes in record { call = l.call; is = (rw is l.is); least = l.least }
+
+found_passes : (p : Call → Bool) (cs : List Call) (c : Call) → find p cs ≡ Some c → p c ≡ true
+found_passes p [] c is = absurd (cc)
+found_passes p (d ∷ cs) c is = go (p d) refl (found_passes p cs c)
+  where
+    go : (b : Bool) → p d ≡ b → (find p cs ≡ Some c → p c ≡ true) → p c ≡ true
+    go true e rest = subst (λ (x : Call). p x ≡ true) (same_Some d c (subst (λ (b : Bool). (if b then Some d else find p cs) ≡ Some c) e is)) e
+    go false e rest = rest (subst (λ (b : Bool). (if b then Some d else find p cs) ≡ Some c) e is)
+
+-- ---- the calls before one
+
+before_all : (limit : Call) (cs : List Call) → AreRising cs → list_any (same_call limit) cs ≡ true → Each (λ c. call_number c < call_number limit) (calls_before (Some limit) cs)
+before_all limit [] rising among = tt
+before_all limit (c ∷ cs) rising among = go (same_call c limit) refl (before_all limit cs rising.1)
+  where
+    turned : (a b : Call) → same_call a b ≡ false → same_call b a ≡ false
+    turned a b e = grind (arith, nat_tests)
+
+    more : same_call c limit ≡ false → list_any (same_call limit) cs ≡ true
+    more f = subst (λ (b : Bool). (b || list_any (same_call limit) cs) ≡ true) (turned c limit f) among
+
+    go : (b : Bool) → same_call c limit ≡ b → (list_any (same_call limit) cs ≡ true → Each (λ c. call_number c < call_number limit) (calls_before (Some limit) cs))
+        → Each (λ c. call_number c < call_number limit) (calls_before (Some limit) (c ∷ cs))
+    go true e rest = rw e tt
+    go false e rest = rw e ((among_all (call_number c) cs limit rising.0 (more e), rest (more e)))
+
+-- ---- all calls
+
+rises : List Call → Bool
+rises [] = true
+rises (c ∷ cs) = list_all (λ d. nat_lt (call_number c) (call_number d)) cs && rises cs
+
+smaller : (n m : ℕ) → nat_lt n m ≡ true → n < m
+smaller n m e = grind (arith, nat_tests)
+
+and_left : (a b : Bool) → (a && b) ≡ true → a ≡ true
+and_left true b e = refl
+and_left false b e = absurd (cc)
+
+and_right : (a b : Bool) → (a && b) ≡ true → b ≡ true
+and_right true b e = e
+and_right false b e = absurd (cc)
+
+rising_checked : (cs : List Call) → rises cs ≡ true → AreRising cs
+unfolding rises
+rising_checked [] e = tt
+rising_checked (c ∷ cs) e = (
+  Each-weaker (λ d. nat_lt (call_number c) (call_number d) ≡ true) (λ d. call_number c < call_number d) (λ d. smaller (call_number c) (call_number d)) cs
+      (Each-from_list_all (λ d. nat_lt (call_number c) (call_number d)) cs (and_left (list_all (λ d. nat_lt (call_number c) (call_number d)) cs) (rises cs) e)),
+  rising_checked cs (and_right (list_all (λ d. nat_lt (call_number c) (call_number d)) cs) (rises cs) e),
+)
+
+all_rising : AreRising all_calls
+unfolding rises
+all_rising = rising_checked all_calls refl
+
+all_found : (c : Call) → list_any (same_call c) all_calls ≡ true
+all_found calls.Has = refl
+all_found calls.Size = refl
+all_found calls.Read = refl
+all_found calls.PartSize = refl
+all_found calls.ReadPart = refl
+all_found calls.Append = refl
+all_found calls.Commit = refl
+all_found calls.DropPart = refl
+all_found calls.Remove = refl
+all_found calls.Hold = refl
+all_found calls.Unhold = refl
+all_found calls.Holds = refl
+all_found calls.PutFile = refl
+all_found calls.File = refl
+
+-- ---- what the driver finds
+
+not_both : (n m : ℕ) → n < m → m ≤ n → ⊥
+not_both n m less least = grind arith
+
+-- a call that waits and is met comes no sooner than the one that failed
+no_sooner : (d : Driver) (r : ℕ) (s : SetUp) (st : State) (k : Look) (cs : List Call) (failed : Option Call) (n : Call → ℕ)
+    → AreRising cs → ((c : Call) → meets s st k c ≡ true → list_any (same_call c) cs ≡ true) → ((c : Call) → n c ≡ waiting_fails d r c) → failed ≡ find (λ c. nat_lt 0 (n c)) cs
+    → (c : Call) → fails_at d r c ≡ true → meets s st k c ≡ true → IsLeast failed c
+no_sooner d r s st k cs failed n rising met told first c waits meets_it =
+    let l = found_least (λ c. nat_lt 0 (n c)) cs c rising (met c meets_it) (ap (nat_lt 0) (told c) ∙ (any_counted (is_failing r c) d.fails ∙ waits)) in
+    record { call = l.call; is = first ∙ l.is; least = l.least }
+
+unmet : (b : Bool) → (b ≡ true → ⊥) → b ≡ false
+unmet true never = absurd (never refl)
+unmet false never = refl
+
+none_some : (c : Call) → None ≡ Some c → ⊥
+none_some c e = cc
+
+none_before : (d : Driver) (r : ℕ) (s : SetUp) (st : State) (k : Look) (failed : Option Call) → ((c : Call) → fails_at d r c ≡ true → meets s st k c ≡ true → IsLeast failed c)
+    → (o : Option Call) → failed ≡ o → Each (λ call. fails_at d r call ≡ true → meets s st k call ≡ false) (calls_before o all_calls)
+none_before d r s st k failed least None e =
+    Each-from_members (λ call. fails_at d r call ≡ true → meets s st k call ≡ false) all_calls
+    (λ c among waits. unmet (meets s st k c) (λ meets_it. let l = least c waits meets_it in none_some l.call (sym e ∙ l.is)))
+none_before d r s st k failed least (Some x) e =
+    Each-weaker (λ c. call_number c < call_number x) (λ call. fails_at d r call ≡ true → meets s st k call ≡ false)
+    (λ c less waits. unmet (meets s st k c) (λ meets_it.
+    let l = least c waits meets_it in
+    not_both (call_number c) (call_number x) less (subst (λ (y : Call). call_number y ≤ call_number c) (same_Some l.call x (sym l.is ∙ e)) l.least)))
+    (calls_before (Some x) all_calls)
+    (before_all x all_calls all_rising (all_found x))
+
+-- of the calls that a step makes, in the order of all, the first that is to fail is the one that failed
+pub fails_first : (d : Driver) (r : ℕ) (s : SetUp) (st : State) (k : Look) (cs : List Call) (failed : Option Call) (v : StoreView) (after : Option (Call → ℕ))
+    → IsStoreOf d r v → MakesCalls cs failed v.failing after → AreRising cs → ((c : Call) → meets s st k c ≡ true → list_any (same_call c) cs ≡ true) → FailsFirst d r s st k failed
+fails_first d r s st k cs failed v after is made rising met = go v.failing is.failing made
+  where
+    go : (o : Option (Call → ℕ)) → IsTold o (λ n. (c : Call) → n c ≡ waiting_fails d r c) → MakesCalls cs failed o after → FailsFirst d r s st k failed
+    go None told made = absurd told
+    go (Some n) told made = record {
+      waits = λ call e.
+          sym (any_counted (is_failing r call) d.fails) ∙ (ap (nat_lt 0) (sym (told call)) ∙ found_passes (λ c. nat_lt 0 (n c)) cs call (sym (made.first n refl) ∙ e));
+      before = none_before d r s st k failed (no_sooner d r s st k cs failed n rising met told (made.first n refl)) failed refl;
+    }

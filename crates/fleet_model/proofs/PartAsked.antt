@@ -1,0 +1,103 @@
+-- The part that a session's step asks for is the driver's.
+use Rattle.std.proofs.Common.{◌≡◌, ◌↔◌, ℕ, Bool, true, false, List, [], ◌∷◌, Option, Some, None, length, refl, sym, ap, ◌∙◌, subst}
+use Rattle.run_data.specs.declared.entry.FrameText.{FrameText}
+use Rattle.run_data.specs.declared.entry.FrameText.TheVariants.{Bytes, Closing, Line, Opening}
+use Rattle.run_data.specs.declared.entry.FrameView.{FrameView}
+use Rattle.p2p_wire.specs.declared.message.Message.{Message}
+use Rattle.p2p_wire.specs.declared.message.Message.TheVariants.{Put, Valid}
+use Rattle.p2p_wire.specs.Messages.{message_of}
+use Rattle.object_store.specs.Stores.{Parts}
+use Rattle.key_verify.specs.Matching.{MatchesKey}
+use Rattle.node_model.specs.Look.{Look, Made, first_of}
+use Rattle.node_model.specs.Sessions as sessions
+use Rattle.node_model.specs.Sessions.{line_in}
+use Rattle.node_model.specs.SetUp.{SetUp}
+use Rattle.node_model.specs.Slots.{job_of}
+use Rattle.node_model.specs.State.{State}
+use Rattle.node_model.specs.Step.{step}
+use Rattle.p2p_server.specs.declared.doing.Doing.{Doing}
+use Rattle.p2p_server.specs.declared.doing.Doing.TheVariants as doings
+use Rattle.p2p_server.specs.declared.doing.Taken.{Taken}
+use Rattle.p2p_server.specs.declared.incoming.Incoming.{Incoming}
+use Rattle.p2p_server.specs.declared.incoming.Incoming.TheVariants as incoming
+use Rattle.p2p_server.specs.declared.session.Session.{Session}
+use Rattle.p2p_server.specs.Talking.{Brings, heard_line, IsTakenOf, SeesPart, SeesPartOf, SeesTaken, Tells, doing_of, session_of}
+use Rattle.node_sessions.specs.Serving.{SeesPartAt}
+use Rattle.driver_model.specs.Driver.{Driver, Given, end_to, part_at}
+use Rattle.driver_model.specs.Turning.{asked_key, filled_key, part_right, part_size, put_key, session_key, step_key}
+use Rattle.fleet_model.specs.Matches.{DecidesMatches}
+use Rattle.fleet_model.specs.Stores.{IsTold}
+use Rattle.fleet_model.proofs.StepFinds.{Finds, serves_no_job}
+
+-- the key that a session's step asks for, by what it does and what it is told
+abbrev key_asked : sessions.Doing → Option Message → Option (List ℕ)
+key_asked doing told = first_of (put_key told) (filled_key doing)
+
+session_key_is : (st : State) (m : Made) (x : Session) (f : FrameView) → session_of x ≡ st.sessions (end_to f) → job_of m.kind ≡ None → m.taken ≡ Some f
+    → asked_key st m ≡ key_asked (doing_of x.doing) (line_in f.body)
+session_key_is st m x f same no_job taken =
+    ap (λ (o : Option ℕ). step_key st o m.taken) no_job
+    ∙ (ap (λ (o : Option FrameView). session_key st o) taken ∙ ap (λ (y : sessions.Session). key_asked y.doing (line_in f.body)) (sym same))
+
+-- what the store tells of the part that has come is the driver's
+taken_right : (g : Given) (d : Driver) (r : ℕ) (known : Option Parts) (t : Taken) (right : Bool) → DecidesMatches g → IsTold known (λ p. (key : List ℕ) → p key ≡ part_at d r key)
+    → SeesTaken known t right → SeesTaken known t (g.matches t.fill (part_at d r t.fill))
+taken_right g d r None t right decides told sees = absurd sees
+taken_right g d r (Some p) t right decides told sees =
+    (sees.0, subst (λ (bytes : List ℕ). (g.matches t.fill bytes ≡ true) ↔ MatchesKey t.fill (p t.fill)) (told t.fill) (decides.decides t.fill (p t.fill)))
+
+told_size : (d : Driver) (r : ℕ) (known : Option Parts) (key : List ℕ) → IsTold known (λ p. (key : List ℕ) → p key ≡ part_at d r key) → Tells known (λ p. length (part_at d r key) ≡ length (p key))
+told_size d r None key told = absurd told
+told_size d r (Some p) key told = ap length (sym (told key))
+
+-- where a message comes
+message_sees : (g : Given) (d : Driver) (r : ℕ) (known : Option Parts) (doing : Doing) (m : Message) (part : ℕ) (right : Bool) → DecidesMatches g
+    → IsTold known (λ p. (key : List ℕ) → p key ≡ part_at d r key) → SeesPart known doing (incoming.Message m) part right
+    → SeesPart known doing (incoming.Message m) (part_size d r (key_asked (doing_of doing) (Some m))) (part_right g d r (key_asked (doing_of doing) (Some m)))
+message_sees g d r known (doings.Took t) Valid part right decides told sees = taken_right g d r known t right decides told sees
+message_sees g d r known doing (Put file key) part right decides told sees = told_size d r known key told
+message_sees g d r known doing m part right decides told sees = tt
+
+-- what is no message asks for no part
+abbrev IsNoMessage : Incoming → Type 0
+IsNoMessage (incoming.Message m) = ⊥
+IsNoMessage i = Unit {0}
+
+unasked : (known : Option Parts) (doing : Doing) (i : Incoming) (part : ℕ) (right : Bool) → IsNoMessage i → SeesPart known doing i part right
+unasked known doing (incoming.Message m) part right none = absurd none
+unasked known (doings.Took t) i part right none = tt
+unasked known doing i part right none = tt
+
+-- where a frame comes
+frame_sees : (g : Given) (d : Driver) (r : ℕ) (known : Option Parts) (doing : Doing) (body : FrameText) (i : Incoming) (part : ℕ) (right : Bool) → DecidesMatches g
+    → IsTold known (λ p. (key : List ℕ) → p key ≡ part_at d r key) → Brings body i → SeesPart known doing i part right
+    → SeesPart known doing i (part_size d r (key_asked (doing_of doing) (line_in body))) (part_right g d r (key_asked (doing_of doing) (line_in body)))
+frame_sees g d r known doing body (incoming.Message m) part right decides told brings sees = go body brings
+  where
+    line : (text : List ℕ) (o : Option Message) → message_of text ≡ o → heard_line o (incoming.Message m) → line_in (Line text) ≡ Some m
+    line text None is heard = absurd (cc)
+    line text (Some n) is heard = let same : m ≡ n = cc in is ∙ ap Some (sym same)
+
+    go : (body : FrameText) → Brings body (incoming.Message m)
+        → SeesPart known doing (incoming.Message m) (part_size d r (key_asked (doing_of doing) (line_in body))) (part_right g d r (key_asked (doing_of doing) (line_in body)))
+    go Opening brings = absurd (cc)
+    go Closing brings = absurd (cc)
+    go (Bytes n) brings = absurd brings
+    go (Line text) brings =
+        subst (λ (o : Option Message). SeesPart known doing (incoming.Message m) (part_size d r (key_asked (doing_of doing) o)) (part_right g d r (key_asked (doing_of doing) o)))
+        (sym (line text (message_of text) refl brings))
+        (message_sees g d r known doing m part right decides told sees)
+frame_sees g d r known doing body i part right decides told brings sees =
+    unasked known doing i (part_size d r (key_asked (doing_of doing) (line_in body))) (part_right g d r (key_asked (doing_of doing) (line_in body))) tt
+
+-- what the store's part is, the driver says
+pub part_asked : (g : Given) (d : Driver) (r : ℕ) (st : State) (m : Made) (known : Option Parts) (x : Session) (f : FrameView) (part : ℕ) (right : Bool) → DecidesMatches g
+    → session_of x ≡ st.sessions (end_to f) → job_of m.kind ≡ None → m.taken ≡ Some f → IsTold known (λ p. (key : List ℕ) → p key ≡ part_at d r key)
+    → SeesPartAt known (Some x) (Some f) part right → SeesPartAt known (Some x) (Some f) (part_size d r (asked_key st m)) (part_right g d r (asked_key st m))
+part_asked g d r st m known x f part right decides same no_job taken told sees =
+    λ i brings. subst (λ (key : Option (List ℕ)). SeesPartOf known x i (part_size d r key) (part_right g d r key)) (sym (session_key_is st m x f same no_job taken))
+    (frame_sees g d r known x.doing f.body i part right decides told brings (sees i brings))
+
+-- a step that took a frame which came to a server is no job's
+pub asks_no_job : Finds → (s : SetUp) (st : State) (k : Look) (m : Made) (f : FrameView) → step s st k ≡ Some m → m.taken ≡ Some f → f.up ≡ true → job_of m.kind ≡ None
+asks_no_job laws s st k m f e taken up = serves_no_job s st k m f (laws.found s st k m e) taken up

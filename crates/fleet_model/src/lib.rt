@@ -1,0 +1,6 @@
+//! A fleet of nodes beside the driver of scripts: when it has done the same, and the laws by which each step keeps it so.
+#![tactic(auto)]
+
+mod laws;
+
+pub use laws::{fleets_begin, fleets_do_lines, fleets_settle, fleets_take_turns};

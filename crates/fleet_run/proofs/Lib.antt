@@ -1,0 +1,13 @@
+-- The lemmas of this crate.
+mod Called
+mod Writing
+mod Placing
+mod Beginning
+mod Growing
+mod Commands
+mod Steps
+mod Turning
+mod Driving
+mod Declared
+mod Whole
+mod Begun

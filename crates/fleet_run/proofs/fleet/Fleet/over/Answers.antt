@@ -1,0 +1,18 @@
+-- What the proof of `fleet::Fleet::over` needs beside the tactics.
+use Rattle.std.proofs.Common.{List, subst}
+use Rattle.run_data.specs.declared.run.RepoView.{RepoView}
+use Rattle.joined_nodes.specs.Joined.{AreNew}
+use Rattle.repo_node.specs.Stored.{StoreView, store_view}
+use Rattle.fleet_run.proofs.Begun.{begins_so, driven_first}
+use Rattle.fleet_run.proofs.fleet.Fleet.over.Goals as goal
+
+pub invariant_of-result : goal.invariant_of-result
+invariant_of-result g c =
+    let tells : g.row.K.Denot → StoreView = λ k. store_view (g.K.Keeper.contents k) (g.K.Keeper.parts k) (g.K.Keeper.failing k) (g.K.Keeper.faults k) in
+    λ going. driven_first tells c.args.repos _ c.bytes_are_matched.ensures
+    (begins_so tells c.args.repos c.args.keepers.items c.in_ok-nodes.nodes c.empty_run.result c.fleets_begin.ensures c.drivers_stay_sound.ensures.first (subst (λ (rs : List RepoView). AreNew rs c.args.keepers.items c.in_ok-nodes.nodes) c.as_slice.ensures c.in_ok-nodes.ensures) c.requires.count c.requires.tells c.requires.run.each c.empty_run.ensures)
+
+pub returns-clause-stands : goal.returns-clause-stands
+returns-clause-stands g c =
+    let tells : g.row.K.Denot → StoreView = λ k. store_view (g.K.Keeper.contents k) (g.K.Keeper.parts k) (g.K.Keeper.failing k) (g.K.Keeper.faults k) in
+    begins_so tells c.args.repos c.args.keepers.items c.in_ok-nodes.nodes c.empty_run.result c.fleets_begin.ensures c.drivers_stay_sound.ensures.first (subst (λ (rs : List RepoView). AreNew rs c.args.keepers.items c.in_ok-nodes.nodes) c.as_slice.ensures c.in_ok-nodes.ensures) c.requires.count c.requires.tells c.requires.run.each c.empty_run.ensures

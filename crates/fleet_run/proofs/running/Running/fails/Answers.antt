@@ -1,0 +1,19 @@
+-- What the proof of `running::Running::fails` needs beside the tactics.
+use Rattle.repo_node.specs.Stored.{StoreView, store_view}
+use Rattle.fleet_run.proofs.Beginning.{fails_go_so}
+use Rattle.fleet_run.proofs.running.Running.fails.Goals as goal
+
+pub returns : goal.returns
+returns g c =
+    let tells : g.row.K.Denot → StoreView = λ k. store_view (g.K.Keeper.contents k) (g.K.Keeper.parts k) (g.K.Keeper.failing k) (g.K.Keeper.faults k) in
+    record {
+      ok = fails_go_so tells c.args.repo c.args.self.now c.self.inside.nodes c.fail_next.new.self c.self.inside.run c.args.call c.self.view_is (c.fleets_do_lines.ensures.fail tells) c.requires.there
+          c.fail_next.ensures.others c.fail_next.ensures.count
+          (λ n m at_n at_m. record {
+            rest = c.fail_next.ensures.rest n m at_n at_m;
+            contents = c.fail_next.ensures.contents n m at_n at_m;
+            parts = c.fail_next.ensures.parts n m at_n at_m;
+            failing = c.in_ok-fail_next.ensures.ok n m at_n at_m;
+          })
+          (λ given d. c.drivers_stay_sound.ensures.will_fail given c.args.repo c.args.call d);
+    }

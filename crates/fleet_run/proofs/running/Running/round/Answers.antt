@@ -1,0 +1,31 @@
+-- What the proof of `running::Running::round` needs beside the tactics.
+use Rattle.std.proofs.Common.{rules, ℕ, ◌≡◌, ◌<◌, ◌∙◌, ap, length, subst, sym}
+use Rattle.std.specs.List.{range_with_len}
+use Rattle.repo_node.specs.Stored.{StoreView, store_view}
+use Rattle.driver_model.specs.Rounds.{turns_of}
+use Rattle.fleet_model.specs.Fleets.{FleetView}
+use Rattle.fleet_run.proofs.Driving.{driven_on, one_more_of_round, same_count, whole_round}
+use Rattle.fleet_run.proofs.running.Running.round.Goals as goal
+
+pub turn-requires-clause-there : goal.turn-requires-clause-there
+turn-requires-clause-there g c =
+    let tells : g.row.K.Denot → StoreView = λ k. store_view (g.K.Keeper.contents k) (g.K.Keeper.parts k) (g.K.Keeper.failing k) (g.K.Keeper.faults k) in
+    let below : c.loop-repo.repo < length c.self.inside.nodes = search rules in
+    subst (λ (n : ℕ). c.loop-repo.repo < n) (ap (λ (f : FleetView g.row.K.Denot). length f.nodes) c.self.view_is
+    ∙ sym (same_count tells (λ given d. turns_of given (range_with_len 0 c.loop-repo.repo) d) c.args.self.now c.loop-repo.self c.requires.driven c.loop-repo.invariant)) below
+
+pub turn-requires-clause-driven : goal.turn-requires-clause-driven
+turn-requires-clause-driven g c =
+    let tells : g.row.K.Denot → StoreView = λ k. store_view (g.K.Keeper.contents k) (g.K.Keeper.parts k) (g.K.Keeper.failing k) (g.K.Keeper.faults k) in
+    driven_on tells (λ given d. turns_of given (range_with_len 0 c.loop-repo.repo) d) c.args.self.now c.loop-repo.self c.requires.driven c.loop-repo.invariant
+
+pub loop-repo-preserved : goal.loop-repo-preserved
+loop-repo-preserved g c =
+    let tells : g.row.K.Denot → StoreView = λ k. store_view (g.K.Keeper.contents k) (g.K.Keeper.parts k) (g.K.Keeper.failing k) (g.K.Keeper.faults k) in
+    one_more_of_round tells c.loop-repo.repo c.args.self.now c.loop-repo.self c.turn.new.self c.fleets_settle.ensures.turn c.loop-repo.invariant c.in_ok-turn.ensures.ok
+
+pub returns : goal.returns
+returns g c =
+    let tells : g.row.K.Denot → StoreView = λ k. store_view (g.K.Keeper.contents k) (g.K.Keeper.parts k) (g.K.Keeper.failing k) (g.K.Keeper.faults k) in
+    let all : c.loop-repo.repo ≡ length c.self.inside.nodes = search rules in
+    record { ok = whole_round tells c.loop-repo.repo c.args.self.now c.loop-repo.self (all ∙ ap (λ (f : FleetView g.row.K.Denot). length f.nodes) c.self.view_is) c.loop-repo.invariant }

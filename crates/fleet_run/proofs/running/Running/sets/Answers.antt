@@ -1,0 +1,50 @@
+-- What the proof of `running::Running::sets` needs beside the tactics.
+use Rattle.std.proofs.Common.{◌≡◌, ◌∷◌, []}
+use Rattle.std.specs.Prelude.{None}
+use Rattle.annex_base.specs.declared.kinds.Call.TheVariants as calls
+use Rattle.repo_node.specs.Calls.{to_log}
+use Rattle.log_lines.specs.LineText.{line_text}
+use Rattle.run_data.specs.declared.entry.LogFile.TheVariants.{Of}
+use Rattle.repo_node.specs.Logs.{stamped_by, with_lines}
+use Rattle.repo_node.specs.Refusals.{RefusesSo}
+use Rattle.repo_node.specs.Stored.{StoreView, store_view}
+use Rattle.fleet_run.proofs.Called.{called, raised_there, seen_as}
+use Rattle.fleet_run.proofs.Growing.{had_at_most, write_grows}
+use Rattle.fleet_run.proofs.Writing.{WritesFiles, never_bundle, on_ok, one_fault, sets_go}
+use Rattle.fleet_run.proofs.running.Running.sets.Goals as goal
+
+pub write_log-done-requires-clause-line : goal.write_log-done-requires-clause-line
+write_log-done-requires-clause-line g c = λ n at. c.settings_are_lines.ensures c.args.kind c.args.topic _ c.args.value c.requires.topic c.requires.value
+
+pub tell-requires-clause-had : goal.tell-requires-clause-had
+tell-requires-clause-had g c =
+    let tells : g.row.K.Denot → StoreView = λ k. store_view (g.K.Keeper.contents k) (g.K.Keeper.parts k) (g.K.Keeper.failing k) (g.K.Keeper.faults k) in
+    had_at_most tells c.args.repo c.in_ok-had.had c.args.self.now (record { nodes = c.self.inside.nodes; run = c.self.inside.run }) c.write_log-done.new.self
+    (seen_as tells c.args.repo c.in_ok-had.had c.args.self.now c.raise.new.self c.self.inside.nodes c.self.inside.run c.self.view_is c.in_ok-had.ensures.ok) c.requires.there
+    (λ n m at_n at_m. write_grows c.write_log-done.result n m (Of c.args.kind) (line_text c.args.kind (stamped_by n c.args.kind None (record { topic = c.args.topic; stamp = None; value = c.args.value })) ∷ []) (c.write_log-done.ensures.ok n m at_n at_m) (c.write_log-done.ensures.err n m at_n at_m))
+
+pub after_step-requires : goal.after_step-requires
+after_step-requires g c =
+    let tells : g.row.K.Denot → StoreView = λ k. store_view (g.K.Keeper.contents k) (g.K.Keeper.parts k) (g.K.Keeper.failing k) (g.K.Keeper.faults k) in
+    let there = raised_there tells c.args.repo c.in_ok-had.had c.args.self.now c.raise.new.self c.self.inside.nodes c.self.inside.run c.self.view_is c.in_ok-had.ensures.ok c.requires.there in
+    record { bundle = never_bundle c.args.repo c.self.inside.nodes c.write_log-done.new.self c.write_log-done.result (λ e n m. RefusesSo e calls.PutFile n m) (λ at n m h. h) there c.write_log-done.ensures.count c.write_log-done.ensures.err }
+
+pub returns : goal.returns
+returns g c =
+    let tells : g.row.K.Denot → StoreView = λ k. store_view (g.K.Keeper.contents k) (g.K.Keeper.parts k) (g.K.Keeper.failing k) (g.K.Keeper.faults k) in
+    record {
+      ok = on_ok c.after_step.result _ _ c.after_step.ensures.ok (λ ended.
+          sets_go tells c.args.repo c.args.self.now (record { nodes = c.self.inside.nodes; run = c.self.inside.run }) c.tell.new.self c.args.kind c.args.topic c.args.value c.write_log-done.result (c.fleets_do_lines.ensures.setting tells) c.requires.there
+          (called tells c.args.repo c.in_ok-had.had c.args.self.now c.raise.new.self c.self.inside.nodes c.write_log-done.new.self c.self.inside.run c.tell.new.self
+          (WritesFiles tells (λ n. to_log n (Of c.args.kind) (line_text c.args.kind (stamped_by n c.args.kind None (record { topic = c.args.topic; stamp = None; value = c.args.value })) ∷ [])) (λ n m. m ≡ with_lines n m.keeper (Of c.args.kind) (line_text c.args.kind (stamped_by n c.args.kind None (record { topic = c.args.topic; stamp = None; value = c.args.value })) ∷ [])) c.write_log-done.result)
+          c.self.view_is c.in_ok-had.ensures.ok c.write_log-done.ensures.others c.write_log-done.ensures.count
+          (λ n m at_n at_m. record {
+            ok = c.write_log-done.ensures.ok n m at_n at_m;
+            fault = one_fault (g.K.Keeper.failing n.keeper) c.write_log-done.result n m (c.write_log-done.ensures.err n m at_n at_m);
+            contents = c.write_log-done.ensures.contents n m at_n at_m;
+            parts = c.write_log-done.ensures.parts n m at_n at_m;
+            calls = c.write_log-done.ensures.calls n m at_n at_m;
+          })
+          c.in_ok-tell.ensures.ok)
+          ended (λ given d known. c.drivers_stay_sound.ensures.sets given c.args.repo c.args.kind c.args.topic c.args.value d known c.requires.kind c.requires.topic c.requires.value));
+    }

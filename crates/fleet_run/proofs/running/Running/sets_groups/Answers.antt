@@ -1,0 +1,13 @@
+-- What the proof of `running::Running::sets_groups` needs beside the tactics.
+use Rattle.std.proofs.Common.{ap, rules}
+use Rattle.log_lines.specs.declared.entry.LogKind.TheVariants as kinds
+use Rattle.log_lines.specs.declared.entry.Value.TheVariants as values
+use Rattle.repo_node.specs.Stored.{StoreView, store_view}
+use Rattle.fleet_run.proofs.Steps.{sets_at}
+use Rattle.fleet_run.proofs.Writing.{on_ok}
+use Rattle.fleet_run.proofs.running.Running.sets_groups.Goals as goal
+
+pub returns : goal.returns
+returns g c =
+    let tells : g.row.K.Denot → StoreView = λ k. store_view (g.K.Keeper.contents k) (g.K.Keeper.parts k) (g.K.Keeper.failing k) (g.K.Keeper.faults k) in
+    record { ok = on_ok c.sets.result _ _ c.sets.ensures.ok (sets_at tells c.args.repo c.args.target c.args.self.now c.sets.new.self kinds.Group c.id.result (values.Groups c.args.groups.now) (values.Groups c.in_ok-groups.groups) c.id.ensures (ap values.Groups (search rules))) }

@@ -1,0 +1,4 @@
+-- The definitions of this crate.
+pub mod Standing
+pub mod Commands
+pub mod Telling

@@ -1,0 +1,29 @@
+-- A node is raised before a call, and its new entries are told after it; for private contracts.
+use Rattle.std.specs.Prelude.{◌≡◌, ◌≢◌, ℕ, ◌<◌, ◌≤◌, ◌^◌, List, ◌++◌, drop, length, max, reverse, slice_get, Some}
+use Rattle.run_model.specs.Past.{now}
+use Rattle.driver_model.specs.Driver.{newest_count}
+use Rattle.repo_node.specs.Nodes.{NodeView}
+use Rattle.repo_node.specs.Stored.{StoreView}
+use Rattle.joined_nodes.specs.Joined.{AtNode}
+use Rattle.fleet_model.specs.Fleets.{FleetView}
+use Rattle.fleet_model.specs.Turns.{IsWhole}
+
+-- The node of r is told of the newest entry, which is within the bounds of a run; the others and the run are as they were. It is
+-- whole, and it had so many entries.
+pub record Raises {K : Type 0} (tells : K → StoreView) (r had : ℕ) (was after : FleetView K) : Type 0 where
+  pub node : AtNode r was.nodes after.nodes (λ n m. m ≡ record n { time = max n.time (now (reverse was.run.entries)); count = max n.count (newest_count (reverse was.run.entries)) })
+  pub whole : AtNode r was.nodes after.nodes (λ n m. IsWhole tells m)
+  pub entries : AtNode r was.nodes after.nodes (λ n m. had ≡ length n.history)
+  pub others : (q : ℕ) → q ≢ r → slice_get after.nodes q ≡ slice_get was.nodes q
+  pub count : length after.nodes ≡ length was.nodes
+  pub run : after.run ≡ was.run
+  pub few : length was.run.entries < 2 ^ 30
+
+-- The run has the entries of the node of r from this place of its history on behind its own. That node is whole, and its time and its
+-- count are within their bounds.
+pub record Tells {K : Type 0} (tells : K → StoreView) (r had : ℕ) (was after : FleetView K) : Type 0 where
+  pub nodes : after.nodes ≡ was.nodes
+  pub run : (n : NodeView K) → slice_get was.nodes r ≡ Some n → after.run ≡ record was.run { entries = was.run.entries ++ drop had n.history }
+  pub whole : (n : NodeView K) → slice_get was.nodes r ≡ Some n → IsWhole tells n
+  pub time : (n : NodeView K) → slice_get was.nodes r ≡ Some n → n.time ≤ 1000000000000
+  pub counted : (n : NodeView K) → slice_get was.nodes r ≡ Some n → n.count < 2 ^ 62

@@ -1,0 +1,48 @@
+//! Contents that a script puts into a fleet.
+ghost use Rattle.std.specs.Prelude.{◌≡◌, ◌<◌, ◌^◌, length, IfOk, OnOk};
+ghost use Rattle.annex_key.specs.KeyText.{IsKeyText};
+ghost use Rattle.key_verify.specs.Matching.{MatchesKey};
+ghost use Rattle.repo_node.specs.Stored.{store_view};
+ghost use Rattle.driver_model.specs.ScriptSteps.{has};
+ghost use Rattle.fleet_run.specs.Standing.{GoesOn, IsDriven};
+
+use crate::running::Running;
+use crate::stop::{FleetStop, after_step};
+use annex_base::NoMemory;
+use annex_key::Key;
+use driver_model::drivers_stay_sound;
+use fleet_model::fleets_do_lines;
+use object_store::FailingKeeper;
+use script_words::Content;
+use std::alloc::Global;
+
+/// The bytes of a content.
+fn bytes_of(alloc: Global, content: &Content) -> Result<Vec<u8>, NoMemory>
+    requires { length content.now < 2 ^ 62 }
+    ensures { IfOk result (λ bytes. bytes.items ≡ content.now) }
+{
+    let mut bytes = vec![in alloc; 0u8; content.size() as usize]?;
+    let _ = content.piece(0, &mut bytes);
+    Ok(bytes)
+}
+
+impl<K: FailingKeeper> Running<K> {
+    /// The content is there, unless it was, or is being filled, and the log says so.
+    pub(crate) fn has(&mut self, repo: u32, key: &Key, content: &Content) -> Result<(), FleetStop>
+        requires there { repo < length self.old.nodes }
+        requires driven { IsDriven (λ k. store_view (K.contents k) (K.parts k) (K.failing k) (K.faults k)) self.old }
+        requires key { IsKeyText key.now }
+        requires right { MatchesKey key.now content.now }
+        requires small { length content.now < 2 ^ 62 }
+        ensures ok { OnOk result (GoesOn (λ k. store_view (K.contents k) (K.parts k) (K.failing k) (K.faults k)) (λ g d. has g repo key.now content.now d) self.old self.new) }
+    {
+        // Laws, for the proof.
+        fleets_do_lines::<K>();
+        drivers_stay_sound();
+        let bytes = bytes_of(self.alloc, content)?;
+        let had = self.raise(repo)?;
+        let done = self.nodes.place(repo as usize, key, &bytes);
+        self.tell(repo, had)?;
+        after_step(repo, done)
+    }
+}

@@ -1,0 +1,163 @@
+//! A fleet, and the run so far.
+ghost use Rattle.std.specs.Prelude.{◌≡◌, All, [], length, map, IfOk, OnOk};
+ghost use Rattle.run_data.specs.declared.run.RepoView.{RepoView};
+ghost use Rattle.object_store.specs.declared.memory.MemoryKeeper.{MemoryKeeper};
+ghost use Rattle.repo_node.specs.Stored.{HasNothing, store_view};
+ghost use Rattle.joined_nodes.specs.Joined.{MayRun};
+ghost use Rattle.driver_model.specs.Driver.{Given, at_first};
+ghost use Rattle.driver_script.specs.Lines.{repos_of};
+ghost use Rattle.fleet_model.specs.Matches.{DecidesMatches};
+ghost use Rattle.fleet_model.specs.Stores.{IsStoreOf};
+ghost use Rattle.fleet_run.specs.Commands.{MayBeDone, does_and_marks};
+ghost use Rattle.fleet_run.specs.Standing.{GoesOn, Stands};
+
+use crate::declaring::{memory_keepers, repositories};
+use crate::running::Running;
+use crate::stop::FleetStop;
+use annex_base::{Items, NoMemory};
+use driver_model::drivers_stay_sound;
+use driver_script::bytes_are_matched;
+use fleet_model::fleets_begin;
+use joined_nodes::Nodes;
+use object_store::{FailingKeeper, Keeper, MemoryKeeper};
+use run_data::{RepoView, Run};
+use script_lang::{Command, Script};
+use std::alloc::Global;
+use std::marker::Model;
+
+/// The repositories of a script as nodes, and the run so far: copies of the entries that they made, in order (own). It has come to
+/// where the driver of scripts is after the lines that it has done, unless it stopped at one. It has tokens to spend, so it is
+/// finished and never dropped.
+pub struct Fleet<K: FailingKeeper> {
+    running: Running<K>,
+    /// Whether a line was refused. No line is done from then on, since the run may lack entries of a node.
+    stopped: bool,
+}
+
+impl<K: FailingKeeper> Model for Fleet<K> {
+    ghost use Rattle.std.specs.Prelude.{◌≡◌, false};
+    ghost use Rattle.fleet_model.specs.Fleets.{FleetView};
+    ghost use Rattle.fleet_run.specs.Standing.{IsDriven};
+    ghost use Rattle.repo_node.specs.Stored.{store_view};
+
+    ghost Value = { FleetView K };
+
+    ghost view = { λ f. f.running };
+
+    ghost invariant = { λ f. f.stopped ≡ false → IsDriven (λ k. store_view (K.contents k) (K.parts k) (K.failing k) (K.faults k)) f.running };
+}
+
+/// The run before the first line.
+fn empty_run(alloc: Global, repos: Items<RepoView>) -> Run
+    ensures { result ≡ record { repos = repos; entries = []; tree = []; marks = [] } }
+{
+    Run {
+        repos,
+        entries: Items::new(alloc),
+        tree: Items::new(alloc),
+        marks: Items::new(alloc),
+    }
+}
+
+impl Fleet<MemoryKeeper> {
+    /// The repositories that the script declares, before its first line, each over a store in memory.
+    pub fn new(alloc: Global, script: &Script) -> Result<Fleet<MemoryKeeper>, NoMemory>
+        requires run { MayRun (repos_of script.now) }
+        ensures stands { IfOk result (λ f. (g : Given) → g.repos ≡ repos_of script.now → DecidesMatches g → Stands (λ k. store_view (⟦<MemoryKeeper as Keeper>⟧.contents k) (⟦<MemoryKeeper as Keeper>⟧.parts k) (⟦<MemoryKeeper as Keeper>⟧.failing k) (⟦<MemoryKeeper as Keeper>⟧.faults k)) g at_first f) }
+        ensures nodes { IfOk result (λ f. length f.nodes ≡ length (repos_of script.now)) }
+        ensures empty { IfOk result (λ f. f.run ≡ record { repos = repos_of script.now; entries = []; tree = []; marks = [] }) }
+    {
+        let repos = repositories(alloc, script.lines())?;
+        let keepers = memory_keepers(alloc, repos.as_slice().len())?;
+        Fleet::over(alloc, repos, keepers)
+    }
+}
+
+impl<K: FailingKeeper> Fleet<K> {
+    /// The repositories that the script declares, before its first line, each over the keeper at its place, which has nothing, tells
+    /// this, and of which no call is to fail.
+    pub fn with_keepers(
+        alloc: Global,
+        script: &Script,
+        keepers: Vec<K>,
+    ) -> Result<Fleet<K>, NoMemory>
+        requires run { MayRun (repos_of script.now) }
+        requires count { length keepers.items ≡ length (repos_of script.now) }
+        requires empty { All (λ k. HasNothing (K.contents k) (K.parts k) (K.records k) (K.files k)) keepers.items }
+        requires tells { All (λ k. IsStoreOf at_first 0 (store_view (K.contents k) (K.parts k) (K.failing k) (K.faults k))) keepers.items }
+        ensures stands { IfOk result (λ f. (g : Given) → g.repos ≡ repos_of script.now → DecidesMatches g → Stands (λ k. store_view (K.contents k) (K.parts k) (K.failing k) (K.faults k)) g at_first f) }
+        ensures nodes { IfOk result (λ f. length f.nodes ≡ length (repos_of script.now)) }
+        ensures empty { IfOk result (λ f. f.run ≡ record { repos = repos_of script.now; entries = []; tree = []; marks = [] }) }
+    {
+        let repos = repositories(alloc, script.lines())?;
+        Fleet::over(alloc, repos, keepers)
+    }
+
+    /// These repositories before the first line, each over the keeper at its place.
+    fn over(alloc: Global, repos: Items<RepoView>, keepers: Vec<K>) -> Result<Fleet<K>, NoMemory>
+        requires run { MayRun repos }
+        requires count { length keepers.items ≡ length repos }
+        requires empty { All (λ k. HasNothing (K.contents k) (K.parts k) (K.records k) (K.files k)) keepers.items }
+        requires tells { All (λ k. IsStoreOf at_first 0 (store_view (K.contents k) (K.parts k) (K.failing k) (K.faults k))) keepers.items }
+        ensures stands { IfOk result (λ f. (g : Given) → g.repos ≡ repos → DecidesMatches g → Stands (λ k. store_view (K.contents k) (K.parts k) (K.failing k) (K.faults k)) g at_first f) }
+        ensures nodes { IfOk result (λ f. length f.nodes ≡ length repos) }
+        ensures empty { IfOk result (λ f. f.run ≡ record { repos = repos; entries = []; tree = []; marks = [] }) }
+    {
+        // Laws, for the proof.
+        fleets_begin::<K>();
+        drivers_stay_sound();
+        bytes_are_matched();
+        let nodes = Nodes::new(alloc, repos.as_slice(), keepers)?;
+        let running = Running {
+            alloc,
+            nodes,
+            run: empty_run(alloc, repos),
+        };
+        Ok(Fleet {
+            running,
+            stopped: false,
+        })
+    }
+
+    /// Does what the line says, and marks how many entries stand after it. After a refusal the entries made so far stand; from then
+    /// on each line is refused as for want of memory.
+    pub fn line(&mut self, command: &Command) -> Result<(), FleetStop>
+        requires { MayBeDone self.old command.now }
+        ensures ok { OnOk result (GoesOn (λ k. store_view (K.contents k) (K.parts k) (K.failing k) (K.faults k)) (does_and_marks command.now) self.old self.new) }
+    {
+        if self.stopped {
+            return Err(FleetStop::NoMemory);
+        }
+        match self.running.does_and_marks(command) {
+            Ok(()) => Ok(()),
+            Err(stop) => {
+                self.stopped = true;
+                Err(stop)
+            }
+        }
+    }
+
+    /// The run of the lines so far.
+    pub fn run(&self) -> &Run
+        ensures { result.now ≡ self.now.run }
+    {
+        &self.running.run
+    }
+
+    /// The run of the lines so far. The nodes are spent.
+    pub fn finish(self) -> Run
+        ensures { result ≡ self.run }
+    {
+        let Fleet {
+            running,
+            stopped: _,
+        } = self;
+        let Running {
+            alloc: _,
+            nodes,
+            run,
+        } = running;
+        nodes.dissolve();
+        run
+    }
+}

@@ -1,0 +1,92 @@
+//! Jobs that begin, store calls that will fail, and time that passes.
+ghost use Rattle.std.specs.Prelude.{◌≡◌, ◌+◌, ◌<◌, ◌≤◌, length, reverse, None, OnOk};
+ghost use Rattle.annex_key.specs.View.{first_fault};
+ghost use Rattle.repo_node.specs.Stored.{store_view};
+ghost use Rattle.run_model.specs.Past.{now};
+ghost use Rattle.driver_model.specs.Rounds.{settles};
+ghost use Rattle.driver_model.specs.ScriptSteps.{begins, waits, will_fail};
+ghost use Rattle.fleet_run.specs.Standing.{GoesOn, IsDriven};
+
+use crate::running::Running;
+use crate::stop::{FleetStop, after_begin};
+use annex_base::{Call, Items};
+use driver_model::drivers_stay_sound;
+use fleet_model::fleets_do_lines;
+use object_store::FailingKeeper;
+use run_data::{Entry, EntryKind, Job, JobKind};
+
+/// The greatest count that an entry may have. No machine makes so many entries.
+const LAST_COUNT: u64 = 4_611_686_018_427_387_903;
+
+impl<K: FailingKeeper> Running<K> {
+    /// A drop of the repository's own copy begins where fewer than four jobs run.
+    pub(crate) fn begins(&mut self, repo: u32, job: &Job) -> Result<(), FleetStop>
+        requires there { repo < length self.old.nodes }
+        requires driven { IsDriven (λ k. store_view (K.contents k) (K.parts k) (K.failing k) (K.faults k)) self.old }
+        requires kind { job.now.kind ≡ JobKind.Drop }
+        requires peer { job.now.peer ≡ None }
+        requires key { first_fault job.now.key ≡ None }
+        ensures ok { OnOk result (GoesOn (λ k. store_view (K.contents k) (K.parts k) (K.failing k) (K.faults k)) (λ g d. begins repo job.now d) self.old self.new) }
+    {
+        // Laws, for the proof.
+        fleets_do_lines::<K>();
+        drivers_stay_sound();
+        let job = job.clone()?;
+        let had = self.raise(repo)?;
+        let begun = self.nodes.begin(repo as usize, job);
+        self.tell(repo, had)?;
+        after_begin(repo, begun)
+    }
+
+    /// Such a drop begins, and then all settles.
+    pub(crate) fn begins_and_settles(&mut self, repo: u32, job: &Job) -> Result<(), FleetStop>
+        requires there { repo < length self.old.nodes }
+        requires driven { IsDriven (λ k. store_view (K.contents k) (K.parts k) (K.failing k) (K.faults k)) self.old }
+        requires kind { job.now.kind ≡ JobKind.Drop }
+        requires peer { job.now.peer ≡ None }
+        requires key { first_fault job.now.key ≡ None }
+        ensures ok { OnOk result (GoesOn (λ k. store_view (K.contents k) (K.parts k) (K.failing k) (K.faults k)) (λ g d. settles g (begins repo job.now d)) self.old self.new) }
+    {
+        self.begins(repo, job)?;
+        self.settles()
+    }
+
+    /// The next call of this kind of a node's store fails.
+    pub(crate) fn fails(&mut self, repo: u32, call: Call) -> Result<(), FleetStop>
+        requires there { repo < length self.old.nodes }
+        requires driven { IsDriven (λ k. store_view (K.contents k) (K.parts k) (K.failing k) (K.faults k)) self.old }
+        ensures ok { OnOk result (GoesOn (λ k. store_view (K.contents k) (K.parts k) (K.failing k) (K.faults k)) (λ g d. will_fail repo call d) self.old self.new) }
+    {
+        // Laws, for the proof.
+        fleets_do_lines::<K>();
+        drivers_stay_sound();
+        self.nodes.fail_next(repo as usize, call)?;
+        Ok(())
+    }
+
+    /// The time rises by so many milliseconds.
+    pub(crate) fn waits(&mut self, milliseconds: u64) -> Result<(), FleetStop>
+        requires driven { IsDriven (λ k. store_view (K.contents k) (K.parts k) (K.failing k) (K.faults k)) self.old }
+        requires early { now (reverse self.old.run.entries) + milliseconds ≤ 1000000000000 }
+        ensures ok { OnOk result (GoesOn (λ k. store_view (K.contents k) (K.parts k) (K.failing k) (K.faults k)) (λ g d. waits milliseconds d) self.old self.new) }
+    {
+        // Laws, for the proof.
+        fleets_do_lines::<K>();
+        drivers_stay_sound();
+        let count = self.newest_count();
+        if count >= LAST_COUNT {
+            return Err(FleetStop::NoMemory);
+        }
+        let entry = Entry {
+            time: self.now() + milliseconds,
+            count: count + 1,
+            repo: None,
+            kind: EntryKind::Wait(milliseconds),
+            taken: None,
+            sent: Items::new(self.alloc),
+            lines: Items::new(self.alloc),
+        };
+        self.run.entries.push(entry)?;
+        Ok(())
+    }
+}

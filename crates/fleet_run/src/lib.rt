@@ -1,0 +1,17 @@
+//! A fleet: the nodes of a script's repositories, driven line by line.
+#![tactic(auto)]
+
+mod contents;
+mod copying;
+mod declaring;
+mod fleet;
+mod jobs;
+mod lines;
+mod logs;
+mod running;
+mod settings;
+mod settling;
+mod stop;
+
+pub use fleet::Fleet;
+pub use stop::FleetStop;

@@ -1,0 +1,90 @@
+//! What a fleet does at each form of line.
+ghost use Rattle.std.specs.Prelude.{◌≡◌, OnOk};
+ghost use Rattle.repo_node.specs.Stored.{store_view};
+ghost use Rattle.fleet_run.specs.Commands.{MayBeDone, does_and_marks, does_command};
+ghost use Rattle.fleet_run.specs.Standing.{GoesOn, IsDriven};
+
+use crate::running::Running;
+use crate::stop::FleetStop;
+use annex_key::key_texts_have_no_fault;
+use log_lines::LogKind;
+use object_store::FailingKeeper;
+use script_lang::Command;
+
+impl<K: FailingKeeper> Running<K> {
+    /// Does what the line says, and marks how many entries stand after it.
+    pub(crate) fn does_and_marks(&mut self, command: &Command) -> Result<(), FleetStop>
+        requires driven { IsDriven (λ k. store_view (K.contents k) (K.parts k) (K.failing k) (K.faults k)) self.old }
+        requires may { MayBeDone self.old command.now }
+        ensures ok { OnOk result (GoesOn (λ k. store_view (K.contents k) (K.parts k) (K.failing k) (K.faults k)) (does_and_marks command.now) self.old self.new) }
+    {
+        self.does(command)?;
+        self.mark()?;
+        Ok(())
+    }
+
+    /// Does what the line says. A line that declares or shows something does nothing.
+    fn does(&mut self, command: &Command) -> Result<(), FleetStop>
+        requires driven { IsDriven (λ k. store_view (K.contents k) (K.parts k) (K.failing k) (K.faults k)) self.old }
+        requires may { MayBeDone self.old command.now }
+        ensures ok { OnOk result (GoesOn (λ k. store_view (K.contents k) (K.parts k) (K.failing k) (K.faults k)) (does_command command.now) self.old self.new) }
+    {
+        // A law, for the proof.
+        key_texts_have_no_fault();
+        match command {
+            Command::Numcopies { repo, number } => {
+                self.sets_number(*repo, LogKind::Numcopies, *number)
+            }
+            Command::Mincopies { repo, number } => {
+                self.sets_number(*repo, LogKind::Mincopies, *number)
+            }
+            Command::Trust {
+                repo,
+                target,
+                level,
+            } => self.sets_level(*repo, *target, *level),
+            Command::Describe { repo, target, text } => self.sets_text(*repo, *target, text),
+            Command::Group {
+                repo,
+                target,
+                groups,
+            } => self.sets_groups(*repo, *target, groups),
+            Command::Log { repo, file, line } => self.writes(*repo, file, line),
+            Command::Have { repo, key, content } => self.has(*repo, key, content),
+            Command::Run { repo, job } => self.begins_and_settles(*repo, job),
+            Command::Begin { repo, job } => self.begins(*repo, job),
+            Command::Turn { repo, turns } => self.turns(*repo, *turns),
+            Command::Settle => self.settles(),
+            Command::Merge { repo, other } => self.merges(*repo, *other),
+            Command::Compact { repo } => self.compacts(*repo),
+            Command::Wait { milliseconds } => self.waits(*milliseconds),
+            Command::Fail { repo, call } => self.fails(*repo, *call),
+            Command::Repo { .. }
+            | Command::ShowPresence { .. }
+            | Command::ShowClaims { .. }
+            | Command::ShowLocation { .. }
+            | Command::ShowLog { .. }
+            | Command::ShowLogs { .. }
+            | Command::ShowNumbers { .. }
+            | Command::ShowLevel { .. }
+            | Command::ShowRow { .. }
+            | Command::ShowJournal => Ok(()),
+            Command::NumcopiesFor { .. }
+            | Command::MincopiesFor { .. }
+            | Command::Wanted { .. }
+            | Command::Required { .. }
+            | Command::GroupWanted { .. }
+            | Command::Part { .. }
+            | Command::Damage { .. }
+            | Command::Add { .. }
+            | Command::File { .. }
+            | Command::Sync { .. }
+            | Command::Close { .. }
+            | Command::Crash { .. }
+            | Command::Par { .. }
+            | Command::ShowWants { .. }
+            | Command::ShowPlan { .. }
+            | Command::ShowTotals => unreachable!(),
+        }
+    }
+}

@@ -1,0 +1,130 @@
+//! The nodes and the run, and how the run gets the entries of the nodes.
+ghost use Rattle.std.specs.Prelude.{◌≡◌, ◌+◌, ◌<◌, ◌≤◌, ◌^◌, ◌++◌, ℕ, length, reverse, slice_get, Some, IfOk, OnOk, OnErr};
+ghost use Rattle.run_model.specs.Past.{now};
+ghost use Rattle.driver_model.specs.Driver.{newest_count};
+ghost use Rattle.driver_model.specs.Driving.{with_mark};
+ghost use Rattle.repo_node.specs.Nodes.{NodeView};
+ghost use Rattle.repo_node.specs.Stored.{store_view};
+ghost use Rattle.fleet_model.specs.Turns.{IsWhole};
+ghost use Rattle.fleet_run.specs.Standing.{GoesOn, IsDriven};
+ghost use Rattle.fleet_run.specs.Telling.{Raises, Tells};
+
+use crate::copying::copy_entry;
+use annex_base::{Items, NoMemory};
+use driver_model::drivers_stay_sound;
+use fleet_model::fleets_do_lines;
+use joined_nodes::Nodes;
+use object_store::FailingKeeper;
+use run_data::{Entry, Run};
+use std::alloc::Global;
+use std::marker::Model;
+
+/// No machine has memory for so many entries.
+const MOST_ENTRIES: usize = 1_073_741_824;
+
+/// The nodes, and the run so far: copies of the entries that they made, in order.
+pub(crate) struct Running<K: FailingKeeper> {
+    pub(crate) alloc: Global,
+    pub(crate) nodes: Nodes<K>,
+    pub(crate) run: Run,
+}
+
+impl<K: FailingKeeper> Model for Running<K> {
+    ghost use Rattle.fleet_model.specs.Fleets.{FleetView};
+
+    ghost Value = { FleetView K };
+
+    ghost view = { λ f. record { nodes = f.nodes; run = f.run } };
+}
+
+/// Adds copies of the entries.
+fn add_copies(alloc: Global, entries: &mut Items<Entry>, made: &[Entry]) -> Result<(), NoMemory>
+    ensures ok { OnOk result (entries.new ≡ entries.old ++ made.now) }
+{
+    for entry in made {
+        entries.push(copy_entry(alloc, entry)?)?;
+    }
+    Ok(())
+}
+
+impl<K: FailingKeeper> Running<K> {
+    /// How many entries were made so far.
+    pub(crate) fn made(&self) -> usize
+        ensures { result ≡ length self.now.run.entries }
+    {
+        self.run.entries.as_slice().len()
+    }
+
+    /// The time of the script, in milliseconds: that of the newest entry.
+    pub(crate) fn now(&self) -> u64
+        ensures { result ≡ now (reverse self.now.run.entries) }
+    {
+        match self.run.entries.as_slice().last() {
+            Some(entry) => entry.time,
+            None => 0,
+        }
+    }
+
+    /// The count of the newest entry, which is the greatest.
+    pub(crate) fn newest_count(&self) -> u64
+        ensures { result ≡ newest_count (reverse self.now.run.entries) }
+    {
+        match self.run.entries.as_slice().last() {
+            Some(entry) => entry.count,
+            None => 0,
+        }
+    }
+
+    /// For the proof: what the node of this number has is the state that its history leaves.
+    pub(crate) fn see(&self, repo: u32)
+        requires there { repo < length self.now.nodes }
+        ensures { (n : NodeView K) → slice_get self.now.nodes repo ≡ Some n → IsWhole (λ k. store_view (K.contents k) (K.parts k) (K.failing k) (K.faults k)) n }
+    {
+        let _ = self.nodes.node(repo as usize).history();
+    }
+
+    /// Raises a node's time to that of the script and its count to the newest, and tells how many entries it has.
+    pub(crate) fn raise(&mut self, repo: u32) -> Result<usize, NoMemory>
+        requires there { repo < length self.old.nodes }
+        requires driven { IsDriven (λ k. store_view (K.contents k) (K.parts k) (K.failing k) (K.faults k)) self.old }
+        ensures ok { IfOk result (λ had. Raises (λ k. store_view (K.contents k) (K.parts k) (K.failing k) (K.faults k)) repo had self.old self.new) }
+        ensures err { OnErr result (self.new ≡ self.old) }
+    {
+        if self.made() >= MOST_ENTRIES {
+            return Err(NoMemory);
+        }
+        let time = self.now();
+        let count = self.newest_count();
+        self.nodes.advance(repo as usize, time, count);
+        self.see(repo);
+        Ok(self.nodes.node(repo as usize).history().len())
+    }
+
+    /// Adds copies of the entries that a node has made since it had so many.
+    pub(crate) fn tell(&mut self, repo: u32, had: usize) -> Result<(), NoMemory>
+        requires there { repo < length self.old.nodes }
+        requires had { (n : NodeView K) → slice_get self.old.nodes repo ≡ Some n → had ≤ length n.history }
+        ensures ok { OnOk result (Tells (λ k. store_view (K.contents k) (K.parts k) (K.failing k) (K.faults k)) repo had self.old self.new) }
+        ensures nodes { self.new.nodes ≡ self.old.nodes }
+    {
+        self.see(repo);
+        let (_, made) = self.nodes.node(repo as usize).history().split_at(had);
+        add_copies(self.alloc, &mut self.run.entries, made)
+    }
+
+    /// Marks how many entries stand after a line.
+    pub(crate) fn mark(&mut self) -> Result<(), NoMemory>
+        requires driven { IsDriven (λ k. store_view (K.contents k) (K.parts k) (K.failing k) (K.faults k)) self.old }
+        ensures ok { OnOk result (GoesOn (λ k. store_view (K.contents k) (K.parts k) (K.failing k) (K.faults k)) (λ g d. with_mark d) self.old self.new) }
+    {
+        // Laws, for the proof.
+        fleets_do_lines::<K>();
+        drivers_stay_sound();
+        if self.made() >= MOST_ENTRIES {
+            return Err(NoMemory);
+        }
+        let place = self.made() as u32;
+        self.run.marks.push(place)?;
+        Ok(())
+    }
+}

@@ -1,0 +1,125 @@
+-- The pieces that a step sends are of contents that its sessions were sending.
+use Rattle.std.proofs.Common.{◌≡◌, inl, inr, ℕ, suc, Bool, true, false, if◌then◌else◌, List, [], ◌∷◌, Option, Some, None, map, refl, sym, ap, subst, ◌∙◌, true≢false}
+use Rattle.std.specs.Prelude.{◌==◌, find, slice_get}
+use Rattle.std.specs.Option.{ForSome, option_map}
+use Rattle.annex_base.specs.Lists.{Member}
+use Rattle.annex_base.specs.declared.kinds.EntryStamp.{EntryStamp}
+use Rattle.annex_base.proofs.Conditions.{eqb_refl}
+use Rattle.annex_base.proofs.Options.{some_none}
+use Rattle.run_data.specs.declared.entry.By.TheVariants.{Peer}
+use Rattle.run_data.specs.declared.entry.EntryKind.{EntryKind}
+use Rattle.run_data.specs.declared.entry.FrameView.{FrameView}
+use Rattle.object_store.specs.Stores.{Contents}
+use Rattle.link_ring.specs.Ends.{EndView}
+use Rattle.node_model.specs.Ends.{EndName, server_end}
+use Rattle.node_model.specs.Rows.{same_owner}
+use Rattle.node_model.specs.Sessions as sessions
+use Rattle.node_model.specs.SetUp.{SetUp}
+use Rattle.node_model.specs.State.{State}
+use Rattle.node_ends.specs.declared.sending.Sending.{Sending}
+use Rattle.node_ends.specs.declared.sending.Sending.TheVariants as sendings
+use Rattle.p2p_server.specs.declared.session.Session.{Session}
+use Rattle.p2p_server.specs.Talking.{place_of, session_of}
+use Rattle.node_sessions.specs.declared.served.Served.{Served}
+use Rattle.node_sessions.specs.Pieces.{IsPieceOf, PieceBy, SaysPiece}
+use Rattle.node_sessions.specs.Serving.{end_by, made_by}
+use Rattle.node_sessions.specs.Sessions.{AreSessions, connection_of, end_of, owner_of}
+use Rattle.node_parts.specs.declared.done.Done.{Done}
+use Rattle.node_parts.specs.declared.moment.Moment.{Moment}
+use Rattle.node_parts.specs.Parts.{PartsView}
+use Rattle.node_parts.specs.Posting.{PostsOnly, PostsPieces, answer_at, stamp_of}
+use Rattle.node_parts.specs.Steps.{made_of}
+use Rattle.node_parts.proofs.Posting.{both, same_number}
+use Rattle.node_parts.proofs.Posts.{posts_at}
+
+-- ---- the session that serves
+
+-- it acts for this client and slot
+abbrev acts_for : ℕ → ℕ → Session → Bool
+acts_for peer slot x = same_owner (owner_of x) (Peer peer slot)
+
+record Found (peer slot : ℕ) (xs : List Session) : Type 0 where
+  one : Session
+  place : ℕ
+  here : slice_get xs place ≡ Some one
+  found : find (acts_for peer slot) xs ≡ Some one
+  acts : acts_for peer slot one ≡ true
+
+found_in : (peer slot : ℕ) (xs : List Session) → Member (peer, slot) (map connection_of xs) → Found peer slot xs
+found_in peer slot [] among = absurd among
+found_in peer slot (x ∷ xs) among = go (acts_for peer slot x) refl among (λ later. found_in peer slot xs later)
+  where
+    own : (peer, slot) ≡ connection_of x → acts_for peer slot x ≡ true
+    own same = subst (λ (c : ℕ × ℕ). acts_for c.0 c.1 x ≡ true) (sym same) (rw (eqb_refl (place_of x).peer, eqb_refl (place_of x).slot) refl)
+
+    go : (b : Bool) → acts_for peer slot x ≡ b → Member (peer, slot) (map connection_of (x ∷ xs)) → (Member (peer, slot) (map connection_of xs) → Found peer slot xs) → Found peer slot (x ∷ xs)
+    go true is m rest = record { one = x; place = 0; here = refl; found = ap (λ (b : Bool). if b then Some x else find (acts_for peer slot) xs) is; acts = is }
+    go false is (inl same) rest = absurd (true≢false (sym (own same) ∙ is))
+    go false is (inr later) rest =
+        let r = rest later in record {
+          one = r.one;
+          place = suc r.place;
+          here = r.here;
+          found = ap (λ (b : Bool). if b then Some x else find (acts_for peer slot) xs) is ∙ r.found;
+          acts = r.acts;
+        }
+
+-- its end is the one that serves
+end_acts : (peer slot : ℕ) (x : Session) → acts_for peer slot x ≡ true → end_of x ≡ server_end peer slot
+end_acts peer slot x acts =
+    let p = both ((place_of x).peer == peer) ((place_of x).slot == slot) acts in
+    ap (λ (n : ℕ). server_end n (place_of x).slot) (same_number (place_of x).peer peer p.0) ∙ ap (λ (n : ℕ). server_end peer n) (same_number (place_of x).slot slot p.1)
+
+-- ---- the pieces
+
+-- the answer at the end that serves
+answer_is : (a b : EndName) (reply : Option Sending) (said : Sending) → answer_at a reply ≡ Some (b, said) → (a ≡ b) × (reply ≡ Some said)
+answer_is a b None said is = absurd cc
+answer_is a b (Some x) said is =
+    let same : (a, x) ≡ (b, said) = cc in (ap (λ (p : EndName × Sending). p.0) same, ap (λ (p : EndName × Sending). Some p.1) same)
+
+module _ (sender : EntryStamp) (kind : EntryKind) (was : PartsView) (contents : Option Contents) (now : List EndView) (taken : Option FrameView) (sent : List FrameView) where
+  -- a job sends none
+  pub job_pieces : PostsOnly None sender kind was.links now taken sent → PostsPieces sender kind was contents now taken sent
+  job_pieces only = record { posts = only.posts; pieces = λ a bytes among. absurd (some_none (a, sendings.Bytes bytes) (sym (only.pieces a bytes among))) }
+
+  -- and a session those of the content that it was sending
+  pub session_pieces : (v : Served) → PostsOnly (answer_at (end_by v) v.reply) sender kind was.links now taken sent → Member (v.peer, v.slot) (map connection_of was.sessions) → PieceBy contents was.sessions (Some v)
+      → PostsPieces sender kind was contents now taken sent
+  session_pieces v only among piece = record { posts = only.posts; pieces = pieces }
+    where
+      it : Found v.peer v.slot was.sessions
+      it = found_in v.peer v.slot was.sessions among
+
+      at_end : end_of it.one ≡ end_by v
+      at_end = end_acts v.peer v.slot it.one it.acts
+
+      pieces : (a : EndName) (bytes : List ℕ) → Member (sendings.Bytes bytes) (only.posts.said a)
+          → (a.client ≡ false) × ForSome contents (λ c. (s : SetUp) (st : State) → AreSessions s st.sessions was.sessions → IsPieceOf c (st.sessions a).doing bytes)
+      pieces a bytes said =
+          let is = answer_is (end_by v) a v.reply (sendings.Bytes bytes) (only.pieces a bytes said) in (
+            sym (ap (λ (b : EndName). b.client) is.0),
+            λ c told s st are.
+                let here : SaysPiece c (session_of it.one).doing (Some (sendings.Bytes bytes)) = subst (SaysPiece c (session_of it.one).doing) is.1 (piece c told v refl it.one it.found) in
+                subst (λ (x : sessions.Session). IsPieceOf c x.doing bytes) (sym ((are.each it.place it.one it.here).session) ∙ ap st.sessions (at_end ∙ is.0)) here,
+          )
+
+-- what was served, if anything, and what was done
+pub where_both : {X Y : Type 0} (P : X → Y → Type 0) (x : X) (y : Y) (o : Option Y) → o ≡ Some y → P x y → ForSome (Some x) (λ d. ForSome o (λ v. P d v))
+where_both {X} {Y} P x y o at holds = λ d is v told. go d v is (sym at ∙ told)
+  where
+    go : (d : X) (v : Y) → Some x ≡ Some d → Some y ≡ Some v → P d v
+    go d v is told =
+        let one : x ≡ d = cc in
+        let other : y ≡ v = cc in
+        subst (λ (z : X). P z v) one (subst (P x) other holds)
+
+pub served_pieces : (m : Moment) (own : ℕ) (stamp : EntryStamp) (was : PartsView) (contents : Option Contents) (mid now : List EndView) (served : Option Served) (done : Option Done)
+    → stamp ≡ stamp_of m own → own ≡ was.jobs.place.number → mid ≡ was.links → option_map made_of done ≡ option_map (made_by mid) served
+    → ForSome done (λ d. ForSome served (λ v. PostsOnly (answer_at (end_by v) v.reply) stamp d.kind mid now d.taken d.sent))
+    → ForSome served (λ v. Member (v.peer, v.slot) (map connection_of was.sessions)) → PieceBy contents was.sessions served
+    → ForSome done (λ d. PostsPieces (stamp_of m was.jobs.place.number) d.kind was contents now d.taken d.sent)
+served_pieces m own stamp was contents mid now None done is numbered same made posts among piece = λ d told. absurd (some_none (made_of d) (sym (ap (option_map made_of) told) ∙ made))
+served_pieces m own stamp was contents mid now (Some v) done is numbered same made posts among piece = λ d told.
+    session_pieces (stamp_of m was.jobs.place.number) d.kind was contents now d.taken d.sent v
+    (posts_at (answer_at (end_by v) v.reply) m own was.jobs.place.number stamp was.links mid now d is numbered same (posts d told v refl)) (among v refl) piece

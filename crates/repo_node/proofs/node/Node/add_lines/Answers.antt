@@ -1,0 +1,22 @@
+-- What the proof of `node::Node::add_lines` needs beside the tactics.
+use Rattle.std.proofs.Common.{ℕ, List, length, sym, ap, ◌∙◌}
+use Rattle.std.specs.Prelude.{◌==◌}
+use Rattle.annex_base.specs.declared.kinds.Call.TheVariants.{PutFile}
+use Rattle.union_merge.specs.Branch.{Files, lines_at}
+use Rattle.union_merge.specs.LineSet.{difference}
+use Rattle.repo_node.specs.Calls.{to_log}
+use Rattle.repo_node.proofs.CallLemmas.{makes_short}
+use Rattle.repo_node.proofs.WalkCallLemmas.{none_logged, some_logged}
+use Rattle.repo_node.proofs.node.Node.add_lines.Goals as goal
+
+pub returns-in_err-path-clause-calls : goal.returns-in_err-path-clause-calls
+returns-in_err-path-clause-calls g c = makes_short (to_log c.args.self.now c.args.file c.args.lines.now) PutFile c.from_residual.result (g.K.Keeper.failing c.args.self.now.keeper) c.from_residual.ensures.1
+
+pub returns-in_err-new-clause-calls : goal.returns-in_err-new-clause-calls
+returns-in_err-new-clause-calls g c = makes_short (to_log c.args.self.now c.args.file c.args.lines.now) PutFile c.from_residual-in_err-new.result (g.K.Keeper.failing c.args.self.now.keeper) c.from_residual-in_err-new.ensures.1
+
+pub returns-then-is_empty-clause-calls : goal.returns-then-is_empty-clause-calls
+returns-then-is_empty-clause-calls g c = none_logged {X = Unit {0}} tt c.args.self.now c.args.file c.bytes.result.now c.args.lines.now c.in_ok-new.new (g.K.Keeper.failing c.args.self.now.keeper) (c.bytes.ensures ∙ c.in_ok-path.ensures.value) (c.in_ok-new.ensures ∙ ap (λ (b : Files). difference c.args.lines.now (lines_at b c.bytes.result.now)) c.branch-self.ensures) (ap (λ (x : List (List ℕ)). length x == 0) (sym c.lines.ensures.value) ∙ (sym c.is_empty.ensures ∙ c.if-is_empty.true))
+
+pub returns-clause-calls : goal.returns-clause-calls
+returns-clause-calls g c = some_logged c.log.result c.args.self.now c.args.file c.bytes.result.now c.args.lines.now c.in_ok-new.new (g.K.Keeper.failing c.args.self.now.keeper) (g.K.Keeper.failing c.log.new.self.keeper) (c.bytes.ensures ∙ c.in_ok-path.ensures.value) (c.in_ok-new.ensures ∙ ap (λ (b : Files). difference c.args.lines.now (lines_at b c.bytes.result.now)) c.branch-self.ensures) (ap (λ (x : List (List ℕ)). length x == 0) (sym c.lines.ensures.value) ∙ (sym c.is_empty.ensures ∙ c.if-is_empty.false)) c.log.ensures.calls

@@ -1,0 +1,5 @@
+-- The lemmas of this crate.
+pub mod LineLemmas
+pub mod LoopLemmas
+pub mod Places
+pub mod SafeLemmas

@@ -1,0 +1,142 @@
+-- The checker's loops over entries and frames, against the definitions.
+use Rattle.std.proofs.Common.{◌≡◌, ℕ, ◌+◌, ◌<◌, Bool, true, false, ◌&&◌, ◌||◌, count_by, List, [], ◌∷◌, ◌++◌, length, get_or, take, reverse, Option, Some, None, refl, sym, ap, ◌∙◌, arith}
+use Rattle.std.specs.Prelude.{is_none, if◌then◌else◌, filter, option_map, option_to_list}
+use Rattle.std.specs.List.{list_any, range_with_len}
+use Rattle.std.proofs.lemmas.List.{append-nil, length-reverse, length-take-le, reverse-append, take_more}
+use Rattle.std.proofs.lemmas.List.Elements.{filter-append}
+use Rattle.run_data.specs.declared.entry.Entry.{Entry}
+use Rattle.run_data.specs.declared.run.RepoView.{RepoView}
+use Rattle.run_model.specs.Frames.{Flying, last_of, said_of, says}
+use Rattle.run_model.specs.Said.{is_request, message_in}
+use Rattle.run_check.specs.declared.said.Said.{Said as SeenSaid}
+use Rattle.run_check.specs.Values.{as_said}
+use Rattle.run_model.specs.Logs.{before_step, in_drop, is_step}
+use Rattle.run_model.specs.Drops.{option_is_none}
+use Rattle.run_model.specs.Past.{Decision, decided_after, decision, is_of, present}
+use Rattle.node_model.specs.Evidence.{Offer, gather}
+use Rattle.drop_proof.specs.declared.evidence.Evidence.{Evidence}
+use Rattle.drop_proof.specs.declared.rule.Need.{Need}
+use Rattle.drop_proof.specs.declared.rule.Side.{Side}
+use Rattle.drop_proof.specs.Judging.{is_enough}
+use Rattle.run_model.specs.Safety.{Removal, add_removal, count, is_backed, is_rightful, least_need, removal, removals, trusts, within}
+use Rattle.node_model.specs.Look.{first_of}
+use Rattle.run_model.specs.Drops.{Vouch, newer, reply, tells}
+use Rattle.run_check.specs.declared.vouching.Told.{Told}
+use Rattle.run_check.specs.Values.{first_told, told_of}
+use Rattle.run_check.proofs.Places.{past_more}
+
+-- the past after the entry at an index
+pub past_read : {X : Type 0} (entries : List X) (i : ℕ) (e : X) → i < length entries → e ≡ get_or entries i e → reverse (take (i + 1) entries) ≡ e ∷ reverse (take i entries)
+past_read entries i e lt is = past_more entries i e lt ∙ ap (λ x. x ∷ reverse (take i entries)) (sym is)
+
+-- ---- removals
+
+-- one more entry
+pub removals_more : (repos : List RepoView) (entries : List Entry) (i : ℕ) (e : Entry) (key : List ℕ) (was new : List Removal) (o : Option Removal) → i < length entries → e ≡ get_or entries i e
+    → reverse was ≡ removals repos (reverse (take i entries)) key → o ≡ removal repos (reverse (take i entries)) key e
+    → new ≡ was ++ option_to_list o → reverse new ≡ removals repos (reverse (take (i + 1) entries)) key
+removals_more repos entries i e key was new o lt is old removed h =
+    ap (λ xs. reverse xs) h ∙ go o ∙ ap (λ x. add_removal x (removals repos (reverse (take i entries)) key)) removed ∙ ap (λ past. removals repos past key) (sym (past_read entries i e lt is))
+  where
+    go : (x : Option Removal) → reverse (was ++ option_to_list x) ≡ add_removal x (removals repos (reverse (take i entries)) key)
+    go None = ap (λ xs. reverse xs) (append-nil was) ∙ old
+    go (Some x) = reverse-append was (x ∷ []) ∙ ap (λ xs. x ∷ xs) old
+
+-- ---- frames
+
+last_more : {X : Type 0} (xs : List X) (x : X) → last_of (xs ++ x ∷ []) ≡ Some x
+last_more [] x = refl
+last_more (y ∷ []) x = refl
+last_more (y ∷ z ∷ zs) x = last_more (z ∷ zs) x
+
+-- the last that passes a test, after one more
+pub last_passes : {X : Type 0} (p : X → Bool) (xs : List X) (i : ℕ) (x : X) → i < length xs → x ≡ get_or xs i x → last_of (filter p (take (i + 1) xs)) ≡ (if p x then Some x else last_of (filter p (take i xs)))
+last_passes p xs i x lt is = ap (λ ys. last_of (filter p ys)) more ∙ ap last_of (filter-append p (take i xs) (x ∷ [])) ∙ go (p x) refl
+  where
+    more : take (i + 1) xs ≡ take i xs ++ x ∷ []
+    more = take_more xs i x lt ∙ ap (λ y. take i xs ++ y ∷ []) (sym is)
+
+    go : (b : Bool) → p x ≡ b → last_of (filter p (take i xs) ++ (if b then x ∷ [] else [])) ≡ (if b then Some x else last_of (filter p (take i xs)))
+    go true t = last_more (filter p (take i xs)) x
+    go false t = ap last_of (append-nil (filter p (take i xs)))
+
+-- ---- first steps
+
+-- the first place, seen as the past before it
+pub first_more : {X Y : Type 0} (f : X → Y) (o : Option X) (b : Bool) (x : X) → option_map f (first_of o (if b then Some x else None)) ≡ first_of (option_map f o) (if b then Some (f x) else None)
+first_more f None true x = refl
+first_more f None false x = refl
+first_more f (Some y) b x = refl
+
+pub none_mapped : {X Y : Type 0} (f : X → Y) (o : Option X) → option_is_none (option_map f o) ≡ is_none o
+none_mapped f None = refl
+none_mapped f (Some x) = refl
+
+-- one more entry, at a place
+pub first_step_more : (entries : List Entry) (i : ℕ) (e : Entry) (a j : ℕ) (was new : Option ℕ) (b : Bool) → i < length entries → e ≡ get_or entries i e
+    → option_map (λ n. reverse (take n entries)) was ≡ before_step (reverse (take i entries)) a j → new ≡ first_of was (if b then Some i else None)
+    → b ≡ (is_of a e && (is_step j e.kind && in_drop (reverse (take i entries)) a j)) → option_map (λ n. reverse (take n entries)) new ≡ before_step (reverse (take (i + 1) entries)) a j
+first_step_more entries i e a j was new b lt is old h steps =
+    ap (λ o. option_map (λ n. reverse (take n entries)) o) h ∙ first_more (λ n. reverse (take n entries)) was b i
+    ∙ ap (λ o. first_of o (if b then Some (reverse (take i entries)) else None)) old
+    ∙ ap (λ c. first_of (before_step (reverse (take i entries)) a j) (if c then Some (reverse (take i entries)) else None)) steps
+    ∙ ap (λ past. before_step past a j) (sym (past_read entries i e lt is))
+
+-- ---- decisions
+
+pub decision_more : (entries : List Entry) (i : ℕ) (e : Entry) (r j : ℕ) (was new : Option Decision) → i < length entries → e ≡ get_or entries i e
+    → was ≡ decision (reverse (take i entries)) r j → new ≡ (if is_of r e then decided_after i j was e.kind else was) → new ≡ decision (reverse (take (i + 1) entries)) r j
+decision_more entries i e r j was new lt is old h =
+    h ∙ ap (λ k. if is_of r e then decided_after k j was e.kind else was) (sym (length-reverse (take i entries) ∙ length-take-le i entries (omega (arith, lt))))
+    ∙ ap (λ o. if is_of r e then decided_after (length (reverse (take i entries))) j o e.kind else o) old ∙ ap (λ past. decision past r j) (sym (past_read entries i e lt is))
+
+-- nothing is gathered where there is enough
+pub gather_enough : (side : Side) (need : Need) (ask : ℕ → Offer) (cs : List ℕ) (items : List Evidence) → is_enough side need items ≡ true → gather side need ask cs items ≡ items
+gather_enough side need ask [] items h = refl
+gather_enough side need ask (c ∷ cs) items h = rw h refl
+
+-- ---- what was asked last
+
+-- one more frame, of which the message was read
+pub last_said : (frames : List Flying) (i : ℕ) (x : Flying) (was new : Option SeenSaid) (said : SeenSaid) → i < length frames → x ≡ get_or frames i x
+    → option_map as_said was ≡ option_map said_of (last_of (filter (λ y. says is_request y.frame) (take i frames))) → as_said said ≡ message_in x.frame.body
+    → option_map as_said new ≡ (if is_request (as_said said) then Some (as_said said) else option_map as_said was)
+    → option_map as_said new ≡ option_map said_of (last_of (filter (λ y. says is_request y.frame) (take (i + 1) frames)))
+last_said frames i x was new said lt is old read h =
+    h ∙ ap (λ s. if is_request s then Some s else option_map as_said was) read
+    ∙ ap (λ o. if is_request (message_in x.frame.body) then Some (message_in x.frame.body) else o) old
+    ∙ go (is_request (message_in x.frame.body))
+    ∙ ap (λ o. option_map said_of o) (sym (last_passes (λ y. says is_request y.frame) frames i x lt is))
+  where
+    go : (b : Bool) → (if b then Some (message_in x.frame.body) else option_map said_of (last_of (filter (λ y. says is_request y.frame) (take i frames)))) ≡ option_map said_of (if b then Some x else last_of (filter (λ y. says is_request y.frame) (take i frames)))
+    go true = refl
+    go false = refl
+
+-- ---- the three conditions
+
+pub within_same : (repos : List RepoView) (past : List Entry) (key : List ℕ) (removed : List Removal) → removed ≡ removals repos past key
+    → within (least_need removed) (count_by (λ r. present past r key || list_any (trusts r) removed) (range_with_len 0 (length repos))) ≡ within (least_need (removals repos past key)) (count repos past key)
+within_same repos past key removed h = ap (λ xs. within (least_need xs) (count_by (λ r. present past r key || list_any (trusts r) xs) (range_with_len 0 (length repos)))) h
+
+pub safe_same : (repos repos' : List RepoView) (past past' : List Entry) (key : List ℕ) (w r b all : Bool) → repos' ≡ repos → past' ≡ past
+    → w ≡ within (least_need (removals repos' past' key)) (count repos' past' key) → r ≡ is_rightful repos' past' key → b ≡ is_backed repos' past' key → all ≡ (w && (r && b))
+    → all ≡ (within (least_need (removals repos past key)) (count repos past key) && (is_rightful repos past key && is_backed repos past key))
+safe_same repos repos' past past' key w r b all er ep w_is r_is b_is all_is =
+    all_is ∙ ap (λ x. x && (r && b)) w_is ∙ ap (λ x. within (least_need (removals repos' past' key)) (count repos' past' key) && (x && b)) r_is
+    ∙ ap (λ x. within (least_need (removals repos' past' key)) (count repos' past' key) && (is_rightful repos' past' key && x)) b_is
+    ∙ ap (λ (m : List RepoView). within (least_need (removals m past' key)) (count m past' key) && (is_rightful m past' key && is_backed m past' key)) er
+    ∙ ap (λ p. within (least_need (removals repos p key)) (count repos p key) && (is_rightful repos p key && is_backed repos p key)) ep
+
+-- ---- replies
+
+newer_told : (vs : List Vouch) (o : Option Vouch) → option_map told_of (newer vs o) ≡ first_of (first_told vs) (option_map told_of o)
+newer_told [] o = refl
+newer_told (v ∷ vs) o = refl
+
+-- one more entry
+pub reply_more : (entries : List Entry) (i : ℕ) (e : Entry) (a j r : ℕ) (was new told : Option Told) → i < length entries → e ≡ get_or entries i e
+    → was ≡ option_map told_of (reply (reverse (take i entries)) a j r) → new ≡ first_told (tells (reverse (take i entries)) e r a j) → told ≡ first_of new was
+    → told ≡ option_map told_of (reply (reverse (take (i + 1) entries)) a j r)
+reply_more entries i e a j r was new told lt is old new_is h =
+    h ∙ ap (λ x. first_of x was) new_is ∙ ap (λ x. first_of (first_told (tells (reverse (take i entries)) e r a j)) x) old
+    ∙ sym (newer_told (tells (reverse (take i entries)) e r a j) (reply (reverse (take i entries)) a j r)) ∙ ap (λ past. option_map told_of (reply past a j r)) (sym (past_read entries i e lt is))

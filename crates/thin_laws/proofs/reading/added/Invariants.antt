@@ -1,8 +1,0 @@
--- What holds at each turn of the loops of `reading::added`.
-use Rattle.std.proofs.Common.{◌≡◌}
-use Rattle.std.specs.Prelude.{map}
-use Rattle.thin_model.specs.Logs.{ever}
-use Rattle.thin_laws.proofs.reading.added.Given as goal
-
-abbrev pub invariant-loop-entry : goal.invariant-loop-entry
-invariant-loop-entry l = l.lines ≡ ever (map (λ e. e.now) l.yielded) l.repo l.path

@@ -1,5 +1,0 @@
--- The lemmas of this crate.
-mod BranchLemmas
-pub mod LogLemmas
-pub mod Reading
-mod Tables
