@@ -44,16 +44,43 @@ def drops(repos, keys, count):
     return lines
 
 
+def short_key(number):
+    return "WORM--%d" % number
+
+
+def copies(repos, keys):
+    """Every repository has every key and knows so of the others, in the fewest bytes that say so."""
+    lines = declare(repos)
+    for k in range(keys):
+        lines += ["have %s %s text:a" % (name(r), short_key(k)) for r in range(repos)]
+    return lines + ["merge %s %s" % (name(r), name(other)) for r in range(repos) for other in range(repos) if r != other]
+
+
+def asking_drops(repos, jobs):
+    """A drop of each of so many keys, one after the other, each at the next repository: it asks another one to hold its copy."""
+    return copies(repos, jobs) + ["drop %s %s" % (name(j % repos), short_key(j)) for j in range(jobs)]
+
+
+def settles(repos, jobs):
+    """The same, four at once at each repository, and then rounds of turns until all have ended."""
+    lines = copies(repos, jobs)
+    for j in range(jobs):
+        lines.append("begin drop %s %s" % (name(j // 4 % repos), short_key(j)))
+        if (j + 1) % (4 * repos) == 0:
+            lines.append("settle")
+    return lines + ["settle"]
+
+
 def shows(keys, count):
     lines = with_keys(2, keys)
     return lines + ["show presence %s" % key(s % keys) for s in range(count)]
 
 
-def waits_and_shows(count):
-    """So many waits, each an entry of the run, and after each a line that shows what is there then."""
+def waits_and_shows(what, count):
+    """So many waits, each an entry of the run, and after each a line that shows what is there then of a key."""
     lines = with_keys(2, 1)
     for _ in range(count):
-        lines += ["wait 1", "show presence %s" % key(0)]
+        lines += ["wait 1", "show %s %s" % (what, key(0))]
     return lines
 
 
@@ -147,29 +174,61 @@ def script_of(line, size):
 def table(title, rows, timed=run_time):
     print(title)
     print("  %12s %12s %12s %12s" % ("size", "ms", "work", "time"))
-    before = None
+    before, times = None, []
     for size, work, what in rows:
         took = timed(what)
+        times.append(took)
         if before is None:
             print("  %12s %12.2f" % (size, 1000 * took))
         else:
             print("  %12s %12.2f %11.2fx %11.2fx" % (size, 1000 * took, work / before[0], took / before[1]))
         before = (work, took)
     print()
+    return times
+
+
+def doublings(title, sizes, script, before=None):
+    """A table of sizes that double each time, and how many of the doublings took more than 2.2 times as long, of those whose run
+    takes ten milliseconds or more; and how long one of the last took, beside a script without them."""
+    times = table(title, [(n, n, script(n)) for n in sizes])
+    pairs = [(sooner, later) for sooner, later in zip(times, times[1:]) if sooner >= 0.01]
+    slow = sum(later > 2.2 * sooner for sooner, later in pairs)
+    print("  doublings that took more than 2.2 times as long: %d of %d" % (slow, len(pairs)))
+    if before:
+        print("  each: %.1f microseconds" % (1_000_000 * (times[-1] - run_time(before(sizes[-1]))) / sizes[-1]))
+    print()
+
+
+def doubled(first, last):
+    """The first size, twice that, and so on, up to the last."""
+    return list(itertools.takewhile(lambda size: size <= last, (first << n for n in itertools.count())))
+
+
+def runs():
+    """Whole runs of drops by messages, and of settles."""
+    for repos in (2, 4, 8):
+        at = "at %d repositories" % repos
+        keys = doubled(10, 36_000 // repos)
+        jobs = [n for n in keys if n <= 4_000]
+        doublings("keys, each placed %s and merged" % at, keys, lambda n: copies(repos, n))
+        doublings("drops, one after the other, %s" % at, jobs, lambda n: asking_drops(repos, n), lambda n: copies(repos, n))
+        doublings("drops, four at once %s, and settles" % at, jobs, lambda n: settles(repos, n), lambda n: copies(repos, n))
 
 
 def main():
     if not PROGRAM.exists():
         subprocess.run([str(TOP / "prove")], stdout=subprocess.DEVNULL, check=True)
+    runs()
     table("keys, at 2 repositories", [(k, k, with_keys(2, k)) for k in (10, 100, 1000, 10000)])
     table("drops, of 1,000 keys at 4 repositories", [(d, d, drops(4, 1000, d)) for d in (10, 100, 1000, 10000)])
     table("keys, with 1,000 drops at 2 repositories", [(k, k, drops(2, k, 1000)) for k in (10, 100, 1000, 10000)])
     table("repositories, with 1,000 keys and 1,000 drops", [(r, r, drops(r, 1000, 1000)) for r in range(2, 9)])
     table("shows, of 1,000 keys", [(s, s, shows(1000, s)) for s in (10, 100, 1000, 10000)])
-    table(
-        "waits, each followed by a show: a report that goes once over the entries takes as much more time as there is work",
-        [(n, n, waits_and_shows(n)) for n in (10, 100, 1000, 10000)],
-    )
+    for what, title in (("presence", "of where a key is"), ("row %s" % name(0), "of its row")):
+        table(
+            "waits, each followed by a show %s: a report that goes once over the entries takes as much more time as there is work" % title,
+            [(n, n, waits_and_shows(what, n)) for n in (10, 100, 1000, 10000)],
+        )
     for lines_of, title in ((location_lines, "a location log"), (trust_lines, "the trust log")):
         for count, drops_title in ((0, ""), (100, ", and 100 drops that read them")):
             table(

@@ -6,7 +6,7 @@ use std::alloc::Global;
 use std::marker::Model;
 
 /// A list of plain data, which contracts see as a list.
-#[derive(Debug, Drop)]
+#[derive(Clone, Debug, Drop)]
 pub struct Items<T> {
     items: Vec<T>,
 }

@@ -1,5 +1,5 @@
 -- One answer is due for the bytes of a source.
-use Rattle.std.proofs.Common.{◌≡◌, ◌⊎◌, inl, inr, ℕ, ◌<◌, ◌≤◌, List, ◌++◌, length, Option, Some, None, Result, Ok, Err, IfOk, refl, sym, ap, subst, ◌∙◌, arith, length-append}
+use Rattle.std.proofs.Common.{◌≡◌, ◌⊎◌, inl, inr, ℕ, ◌<◌, ◌≤◌, Bool, true, false, List, ◌++◌, length, Option, Some, None, Result, Ok, Err, IfOk, refl, sym, ap, subst, ◌∙◌, arith, length-append}
 use Rattle.std.proofs.lemmas.Bool.{cases_lt}
 use Rattle.std.proofs.lemmas.List.{append-nil}
 use Rattle.std.specs.Prelude.{codes}
@@ -9,7 +9,9 @@ use Rattle.script_lang.specs.declared.command.Command.{Command}
 use Rattle.script_lang.specs.declared.fault.Quantity.{Quantity}
 use Rattle.script_lang.specs.Limits.{limit_of, quantity_name}
 use Rattle.script_lang.specs.Script.{Reading, Commands, BadLine, PastLimit, reading}
+use Rattle.run_data.specs.Histories.{most_entries}
 use Rattle.driver_model.specs.Driving.{run_of}
+use Rattle.driver_model.specs.Limits.{limited_run}
 use Rattle.driver_model.specs.Lines.{Line}
 use Rattle.driver_script.specs.Given.{given_of}
 use Rattle.driver_script.specs.Script.{IsScript, IsUnbuilt}
@@ -18,7 +20,7 @@ use Rattle.annex_cli.specs.declared.due.Due.{Due}
 use Rattle.annex_cli.specs.declared.status.Status.{Status}
 use Rattle.annex_cli.specs.declared.status.Status.TheVariants.{Done, Usage, Script, ReadFault, WriteFault, NoMemory, Limit}
 use Rattle.annex_cli.specs.Whole.{IsRead, script_limit}
-use Rattle.annex_cli.specs.Top.{IsReport, IsComplaint, IsMissing, IsLong, IsPast, IsDue, IsDueRead, Writes, AnswersRun, EndsWith, limit_text, place_text}
+use Rattle.annex_cli.specs.Top.{IsReport, IsComplaint, IsCutReport, IsMissing, IsLong, IsPast, IsDue, IsDueRead, Writes, AnswersRun, EndsWith, entries_name, limit_text, place_text}
 
 -- one thing is said of a text
 pub record HaveOneReading : Type 0 where
@@ -42,25 +44,32 @@ one_place r line byte line' byte' is are =
 one_quantity : (r : Reading) (q q' : Quantity) → r ≡ PastLimit q → r ≡ PastLimit q' → q ≡ q'
 one_quantity r q q' is are = let same : PastLimit q ≡ PastLimit q' = sym is ∙ are in cc
 
-commands_or_bad : (r : Reading) (all : List Command) (line byte : ℕ) → r ≡ Commands all → r ≡ BadLine line byte → ⊥
+pub commands_or_bad : (r : Reading) (all : List Command) (line byte : ℕ) → r ≡ Commands all → r ≡ BadLine line byte → ⊥
 commands_or_bad r all line byte is are = let same : Commands all ≡ BadLine line byte = sym is ∙ are in cc
 
-commands_or_past : (r : Reading) (all : List Command) (q : Quantity) → r ≡ Commands all → r ≡ PastLimit q → ⊥
+pub commands_or_past : (r : Reading) (all : List Command) (q : Quantity) → r ≡ Commands all → r ≡ PastLimit q → ⊥
 commands_or_past r all q is are = let same : Commands all ≡ PastLimit q = sym is ∙ are in cc
 
 bad_or_past : (r : Reading) (line byte : ℕ) (q : Quantity) → r ≡ BadLine line byte → r ≡ PastLimit q → ⊥
 bad_or_past r line byte q is are = let same : BadLine line byte ≡ PastLimit q = sym is ∙ are in cc
 
+true_or_false : {b : Bool} → b ≡ true → b ≡ false → ⊥
+true_or_false is isnt = let both : true ≡ false = sym is ∙ isnt in cc
+
 -- ---- one text is due
 
+abbrev cut_text : List Command → List Line → List ℕ
+cut_text script lines = report script (limited_run (given_of script) lines).run ++ limit_text entries_name most_entries
+
 module _ (x : HaveOneReading) (bytes t t' : List ℕ) where
+  -- what comes of the commands and the lines is one thing
+  one_script : (script other : List Command) (lines more : List Line) → IsScript bytes script lines → IsScript bytes other more → (P : List Command → List Line → List ℕ) → P script lines ≡ P other more
+  one_script script other lines more is is' P =
+      let same = x.script bytes script other lines more is is' in
+      ap (λ s. P s lines) same.0 ∙ ap (P other) same.1
+
   one_report : IsReport bytes t → IsReport bytes t' → t ≡ t'
-  one_report d d' =
-      let same = x.script bytes d.script d'.script d.lines d'.lines d.is_script d'.is_script in
-      d.text_is
-      ∙ ap (λ script. report script (run_of (given_of script) d.lines)) same.0
-      ∙ ap (λ lines. report d'.script (run_of (given_of d'.script) lines)) same.1
-      ∙ sym d'.text_is
+  one_report d d' = d.text_is ∙ one_script d.script d'.script d.lines d'.lines d.is_script d'.is_script (λ script lines. report script (run_of (given_of script) lines)) ∙ sym d'.text_is
 
   one_complaint : (IsComplaint bytes t ⊎ IsMissing bytes t) → (IsComplaint bytes t' ⊎ IsMissing bytes t') → t ≡ t'
   one_complaint (inl d) (inl d') = d.text_is ∙ one_place (reading bytes) d.line d.byte d'.line d'.byte d.bad d'.bad ∙ sym d'.text_is
@@ -68,25 +77,43 @@ module _ (x : HaveOneReading) (bytes t t' : List ℕ) where
   one_complaint (inr d) (inl d') = absurd (commands_or_bad (reading bytes) d.unbuilt.all d'.line d'.byte d.unbuilt.says d'.bad)
   one_complaint (inr d) (inr d') = d.text_is ∙ ap (λ line. place_text line 0) (x.line bytes d.line d'.line d.unbuilt d'.unbuilt) ∙ sym d'.text_is
 
-  one_limit : (IsLong bytes t ⊎ IsPast bytes t) → (IsLong bytes t' ⊎ IsPast bytes t') → t ≡ t'
+  one_cut : IsCutReport bytes t → IsCutReport bytes t' → t ≡ t'
+  one_cut d d' = d.text_is ∙ one_script d.script d'.script d.lines d'.lines d.is_script d'.is_script cut_text ∙ sym d'.text_is
+
+  one_limit : (IsLong bytes t ⊎ (IsPast bytes t ⊎ IsCutReport bytes t)) → (IsLong bytes t' ⊎ (IsPast bytes t' ⊎ IsCutReport bytes t')) → t ≡ t'
   one_limit (inl d) (inl d') = d.text_is ∙ sym d'.text_is
-  one_limit (inl d) (inr d') = absurd (omega (arith, d.long, d'.short))
-  one_limit (inr d) (inl d') = absurd (omega (arith, d'.long, d.short))
-  one_limit (inr d) (inr d') = d.text_is ∙ ap (λ q. limit_text (quantity_name q) (limit_of q)) (one_quantity (reading bytes) d.quantity d'.quantity d.past d'.past) ∙ sym d'.text_is
+  one_limit (inl d) (inr (inl d')) = absurd (omega (arith, d.long, d'.short))
+  one_limit (inl d) (inr (inr d')) = absurd (omega (arith, d.long, d'.short))
+  one_limit (inr (inl d)) (inl d') = absurd (omega (arith, d'.long, d.short))
+  one_limit (inr (inr d)) (inl d') = absurd (omega (arith, d'.long, d.short))
+  one_limit (inr (inl d)) (inr (inl d')) = d.text_is ∙ ap (λ q. limit_text (quantity_name q) (limit_of q)) (one_quantity (reading bytes) d.quantity d'.quantity d.past d'.past) ∙ sym d'.text_is
+  one_limit (inr (inl d)) (inr (inr d')) = absurd (commands_or_past (reading bytes) d'.script d.quantity d'.is_script.says d.past)
+  one_limit (inr (inr d)) (inr (inl d')) = absurd (commands_or_past (reading bytes) d.script d'.quantity d.is_script.says d'.past)
+  one_limit (inr (inr d)) (inr (inr d')) = one_cut d d'
 
   report_or_complaint : IsReport bytes t → (IsComplaint bytes t' ⊎ IsMissing bytes t') → ⊥
   report_or_complaint d (inl d') = commands_or_bad (reading bytes) d.script d'.line d'.byte d.is_script.says d'.bad
   report_or_complaint d (inr d') = x.one bytes d.script d.lines d'.line d.is_script d'.unbuilt
 
-  report_or_limit : IsReport bytes t → (IsLong bytes t' ⊎ IsPast bytes t') → ⊥
-  report_or_limit d (inl d') = absurd (omega (arith, d.short, d'.long))
-  report_or_limit d (inr d') = commands_or_past (reading bytes) d.script d'.quantity d.is_script.says d'.past
+  -- a run isn't both whole and cut
+  report_or_cut : IsReport bytes t → IsCutReport bytes t' → ⊥
+  report_or_cut d d' =
+      let same = x.script bytes d.script d'.script d.lines d'.lines d.is_script d'.is_script in
+      let whole = sym (ap (λ script. (limited_run (given_of script) d.lines).is_cut) same.0 ∙ ap (λ lines. (limited_run (given_of d'.script) lines).is_cut) same.1) ∙ d.whole in
+      true_or_false d'.cut whole
 
-  complaint_or_limit : (IsComplaint bytes t ⊎ IsMissing bytes t) → (IsLong bytes t' ⊎ IsPast bytes t') → ⊥
+  report_or_limit : IsReport bytes t → (IsLong bytes t' ⊎ (IsPast bytes t' ⊎ IsCutReport bytes t')) → ⊥
+  report_or_limit d (inl d') = absurd (omega (arith, d.short, d'.long))
+  report_or_limit d (inr (inl d')) = commands_or_past (reading bytes) d.script d'.quantity d.is_script.says d'.past
+  report_or_limit d (inr (inr d')) = report_or_cut d d'
+
+  complaint_or_limit : (IsComplaint bytes t ⊎ IsMissing bytes t) → (IsLong bytes t' ⊎ (IsPast bytes t' ⊎ IsCutReport bytes t')) → ⊥
   complaint_or_limit (inl d) (inl d') = absurd (omega (arith, d.short, d'.long))
-  complaint_or_limit (inl d) (inr d') = bad_or_past (reading bytes) d.line d.byte d'.quantity d.bad d'.past
+  complaint_or_limit (inl d) (inr (inl d')) = bad_or_past (reading bytes) d.line d.byte d'.quantity d.bad d'.past
+  complaint_or_limit (inl d) (inr (inr d')) = commands_or_bad (reading bytes) d'.script d.line d.byte d'.is_script.says d.bad
   complaint_or_limit (inr d) (inl d') = absurd (omega (arith, d.short, d'.long))
-  complaint_or_limit (inr d) (inr d') = commands_or_past (reading bytes) d.unbuilt.all d'.quantity d.unbuilt.says d'.past
+  complaint_or_limit (inr d) (inr (inl d')) = commands_or_past (reading bytes) d.unbuilt.all d'.quantity d.unbuilt.says d'.past
+  complaint_or_limit (inr d) (inr (inr d')) = x.one bytes d'.script d'.lines d.line d'.is_script d.unbuilt
 
 due_once : HaveOneReading → (bytes : List ℕ) (s s' : Status) (t t' : List ℕ) → IsDue bytes s t → IsDue bytes s' t' → IsOne s s' t t'
 due_once x bytes Done Done t t' d d' = (refl, one_report x bytes t t' d d')
@@ -117,7 +144,8 @@ due_long bytes Done t long d = absurd (omega (arith, d.short))
 due_long bytes Script t long (inl d) = absurd (omega (arith, d.short))
 due_long bytes Script t long (inr d) = absurd (omega (arith, d.short))
 due_long bytes Limit t long (inl d) = (refl, d.text_is)
-due_long bytes Limit t long (inr d) = absurd (omega (arith, d.short))
+due_long bytes Limit t long (inr (inl d)) = absurd (omega (arith, d.short))
+due_long bytes Limit t long (inr (inr d)) = absurd (omega (arith, d.short))
 due_long bytes Usage t long d = absurd d
 due_long bytes ReadFault t long d = absurd d
 due_long bytes WriteFault t long d = absurd d
@@ -165,9 +193,14 @@ module _ (x : HaveOneReading) (bytes text : List ℕ) (s : Status) (left left' t
   due_answered NoMemory a r w = inr (refl, a)
   due_answered Usage a r w = absurd a
 
--- for a script its report is due
-pub due_report : (bytes : List ℕ) (script : List Command) (lines : List Line) → length bytes ≤ script_limit → IsScript bytes script lines → IsDue bytes Done (report script (run_of (given_of script) lines))
-due_report bytes script lines short is = record { short = short; script = script; lines = lines; is_script = is; text_is = refl }
+-- for a script whose run is whole its report is due
+pub due_report : (bytes : List ℕ) (script : List Command) (lines : List Line) → length bytes ≤ script_limit → IsScript bytes script lines → (limited_run (given_of script) lines).is_cut ≡ false → IsDue bytes Done (report script (run_of (given_of script) lines))
+due_report bytes script lines short is whole = record { short = short; script = script; lines = lines; is_script = is; whole = whole; text_is = refl }
+
+-- and for one whose run is cut the report up to there, and the limit
+pub due_cut : (bytes : List ℕ) (script : List Command) (lines : List Line) → length bytes ≤ script_limit → IsScript bytes script lines → (limited_run (given_of script) lines).is_cut ≡ true
+    → IsDue bytes Limit (report script (limited_run (given_of script) lines).run ++ limit_text entries_name most_entries)
+due_cut bytes script lines short is cut = inr (inr (record { short = short; script = script; lines = lines; is_script = is; cut = cut; text_is = refl }))
 
 -- ---- an answer with a status and a text is due
 
@@ -182,4 +215,4 @@ pub missing_is_due : (bytes : List ℕ) (line : ℕ) → length bytes ≤ script
 missing_is_due bytes line short unbuilt = inr (record { short = short; line = line; unbuilt = unbuilt; text_is = refl })
 
 pub past_is_due : (bytes : List ℕ) (quantity : Quantity) → length bytes ≤ script_limit → reading bytes ≡ PastLimit quantity → IsDue bytes Limit (limit_text (quantity_name quantity) (limit_of quantity))
-past_is_due bytes quantity short past = inr (record { short = short; quantity = quantity; past = past; text_is = refl })
+past_is_due bytes quantity short past = inr (inl (record { short = short; quantity = quantity; past = past; text_is = refl }))

@@ -1,5 +1,5 @@
 -- A fleet does the lines of a script, one after the other.
-use Rattle.std.proofs.Common.{◌≡◌, ℕ, ◌+◌, ◌<◌, ◌≤◌, true, List, [], ◌∷◌, length, drop, get_or, reverse, Option, Some, None, refl, sym, ap, ◌∙◌, subst, arith, length-append}
+use Rattle.std.proofs.Common.{◌≡◌, ℕ, ◌+◌, ◌<◌, ◌≤◌, Bool, true, false, if◌then◌else◌, List, [], ◌∷◌, length, drop, get_or, reverse, Option, Some, Result, Ok, Err, IsErrAnd, refl, sym, ap, ◌∙◌, subst, arith, length-append}
 use Rattle.std.specs.Prelude.{is_some}
 use Rattle.std.specs.Option.{option_map_or}
 use Rattle.std.proofs.lemmas.List.{drop_all, drop_more, reverse-reverse}
@@ -8,19 +8,21 @@ use Rattle.annex_base.proofs.Options.{bind_some}
 use Rattle.run_data.specs.declared.run.RepoView.{RepoView}
 use Rattle.run_data.specs.declared.run.Run.{Run}
 use Rattle.run_model.specs.Past.{now}
+use Rattle.run_model.specs.Run.{IsRun}
 use Rattle.repo_node.specs.Stored.{StoreView}
 use Rattle.script_lang.specs.declared.command.Command.{Command}
 use Rattle.script_lang.specs.Script as script
 use Rattle.script_lang.specs.Script.{context_with, no_context, wait_of}
 use Rattle.script_lang.specs.Standing.{AllStand}
 use Rattle.driver_model.specs.Driver.{Driver, Given, at_first}
-use Rattle.driver_model.specs.Driving.{does, driver_after, drives, run_with, with_mark}
+use Rattle.driver_model.specs.Driving.{does, with_mark}
+use Rattle.driver_model.specs.Limits.{LimitedRun, drives_to_limit, limited_run, meets_limit, run_to_limit}
 use Rattle.driver_model.specs.Lines.{Line, waited_by}
-use Rattle.driver_model.specs.Scripts.{Fits}
 use Rattle.driver_script.specs.Given.{given_of}
 use Rattle.driver_script.specs.Lines.{declared_by, line_of, lines_of, repos_of}
 use Rattle.fleet_model.specs.Fleets.{FleetView}
-use Rattle.fleet_run.specs.Commands.{MayBeDone, does_and_marks}
+use Rattle.fleet_run.specs.declared.stop.FleetStop.{FleetStop}
+use Rattle.fleet_run.specs.Commands.{CutsAt, MayBeDone, MeetsNone, does_and_marks}
 use Rattle.fleet_run.specs.Standing.{GoesOn, Stands}
 use Rattle.annex_cli.specs.Runs.{AreLines, HasDone, IsRunOf}
 use Rattle.annex_cli.proofs.ReportLemmas.{declares_alike}
@@ -28,12 +30,30 @@ use Rattle.annex_cli.proofs.ReportLemmas.{declares_alike}
 some_is : {X : Type 0} (x y : X) → Some x ≡ Some y → x ≡ y
 some_is x y e = cc
 
+-- the stop that is handed on is the one that came
+pub stop_is : {T : Type 0} (r : Result T FleetStop) (came stop : FleetStop) → IsErrAnd r (λ d. d ≡ came) → r ≡ Err stop → came ≡ stop
+stop_is (Ok x) came stop handed is = absurd handed
+stop_is (Err d) came stop handed is = let same : d ≡ stop = cc in sym handed ∙ same
+
 -- the laws that the lemmas take
 abbrev pub TimeLaw : Type 0
 TimeLaw = (g : Given) (line : Line) (d : Driver) → now (does g line d).past ≡ now d.past + waited_by line
 
 abbrev pub WaitLaw : Type 0
 WaitLaw = (repos : List RepoView) (command : Command) (line : Line) → line_of repos command ≡ Some line → waited_by line ≡ wait_of command
+
+abbrev limited : Bool → Run → LimitedRun
+limited is_cut run = record { run = run; is_cut = is_cut }
+
+-- what comes of the lines from the first one on, where that meets a full history, and where it doesn't
+abbrev pub comes_of : Given → Line → List Line → Driver → Bool → LimitedRun
+comes_of g line others d meets = if meets then limited true (run_to_limit g line d) else drives_to_limit g others (with_mark (does g line d))
+
+goes_on : (g : Given) (line : Line) (others : List Line) (d : Driver) → meets_limit g line d ≡ false → drives_to_limit g (line ∷ others) d ≡ drives_to_limit g others (with_mark (does g line d))
+goes_on g line others d none = ap (comes_of g line others d) none
+
+ends_there : (g : Given) (line : Line) (others : List Line) (d : Driver) → meets_limit g line d ≡ true → drives_to_limit g (line ∷ others) d ≡ limited true (run_to_limit g line d)
+ends_there g line others d meets = ap (comes_of g line others d) meets
 
 -- the commands from a place on
 rest_at : {X : Type 0} (xs : List X) (i : ℕ) (x : X) → i < length xs → x ≡ get_or xs i x → drop i xs ≡ x ∷ drop (i + 1) xs
@@ -92,9 +112,9 @@ module _ {K : Type 0} (tells : K → StoreView) (all : List Command) where
           built = ap (λ (r : Run). is_some (line_of r.repos c)) run ∙ ap is_some next.here;
         }
 
-    -- and then the rest is left
-    pub done_next : TimeLaw → WaitLaw → (after : FleetView K) → GoesOn tells (does_and_marks c) f after → HasDone tells all left after
-    done_next time wait after goes =
+    -- where its line meets no full history, the rest is left then
+    pub done_next : TimeLaw → WaitLaw → (after : FleetView K) → MeetsNone tells c f → GoesOn tells (does_and_marks c) f after → HasDone tells all left after
+    done_next time wait after within goes =
         let after_line : Driver = with_mark (does g next.line h.driver) in
         let both = length-append (declared_by c) (repos_of left) in
         let long = length-append h.context.repos (script.declared_by c) in
@@ -111,19 +131,32 @@ module _ {K : Type 0} (tells : K → StoreView) (all : List Command) where
           stands = subst (λ (o : Option Line). Stands tells g (with_mark (option_map_or (λ line. does g line h.driver) o h.driver)) after) next.here (goes g h.driver h.stands);
           others = next.others;
           behind = next.behind;
-          ends = ap (λ ls. drives g ls h.driver) next.both ∙ h.ends;
+          ends = sym (goes_on g next.line next.others h.driver (within g h.driver next.line h.stands next.here)) ∙ ap (λ ls. drives_to_limit g ls h.driver) next.both ∙ h.ends;
+        }
+
+    -- and where it meets one, the run ends there
+    pub cut_here : (r : ℕ) (after : FleetView K) → CutsAt tells r c f after → IsRunOf all true after.run
+    cut_here r after cuts =
+        let cut = cuts g h.driver next.line h.stands next.here in
+        let ends : drives_to_limit g (next.line ∷ next.others) h.driver ≡ limited_run g h.lines = ap (λ ls. drives_to_limit g ls h.driver) next.both ∙ h.ends in
+        record {
+          lines = h.lines;
+          are = h.are;
+          run_is = sym ends ∙ ends_there g next.line next.others h.driver cut.meets ∙ ap (limited true) (sym cut.run_is);
+          lawful = cut.lawful;
         }
 
   -- after the last line
-  pub done_at_last : (f : FleetView K) → HasDone tells all [] f → IsRunOf all f.run
+  pub done_at_last : (f : FleetView K) → HasDone tells all [] f → IsRunOf all false f.run
   done_at_last f h =
+      let g = given_of all in
       let none : [] ≡ h.others = some_is [] h.others h.behind in
-      let last : h.driver ≡ driver_after (given_of all) h.lines = ap (λ ls. drives (given_of all) ls h.driver) none ∙ h.ends in
+      let ends : drives_to_limit g [] h.driver ≡ limited_run g h.lines = ap (λ ls. drives_to_limit g ls h.driver) none ∙ h.ends in
       record {
         lines = h.lines;
         are = h.are;
-        run_is = h.stands.come.run ∙ ap (run_with (given_of all)) last;
-        fits = subst Fits last h.stands.come.fits;
+        run_is = sym ends ∙ ap (limited false) (sym h.stands.come.run);
+        lawful = subst IsRun (sym h.stands.come.run) h.stands.come.sound.run;
       }
 
   -- the command at a place is the first of those that are left

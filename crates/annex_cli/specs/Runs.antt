@@ -1,15 +1,15 @@
 -- The run of a script, line by line (own).
-use Rattle.std.specs.Prelude.{◌≡◌, ◌+◌, List, Some, length, None}
+use Rattle.std.specs.Prelude.{◌≡◌, ◌+◌, Bool, List, Some, length}
 use Rattle.run_data.specs.declared.run.Run.{Run}
 use Rattle.run_model.specs.Past.{now}
+use Rattle.run_model.specs.Run.{IsRun}
 use Rattle.repo_node.specs.Stored.{StoreView}
 use Rattle.script_lang.specs.declared.command.Command.{Command}
 use Rattle.script_lang.specs.Context.{Context}
 use Rattle.script_lang.specs.Standing.{AllStand}
 use Rattle.driver_model.specs.Driver.{Driver}
-use Rattle.driver_model.specs.Driving.{driver_after, drives, run_of}
+use Rattle.driver_model.specs.Limits.{drives_to_limit, limited_run}
 use Rattle.driver_model.specs.Lines.{Line}
-use Rattle.driver_model.specs.Scripts.{Fits}
 use Rattle.driver_script.specs.Given.{given_of}
 use Rattle.driver_script.specs.Lines.{lines_of, repos_of}
 use Rattle.fleet_model.specs.Fleets.{FleetView}
@@ -19,15 +19,15 @@ use Rattle.fleet_run.specs.Standing.{Stands}
 abbrev pub AreLines : List Command → List Line → Type 0
 AreLines script lines = lines_of (repos_of script) script ≡ Some lines
 
--- the run is that of the script's lines, and within the bounds of a run
-pub record IsRunOf (script : List Command) (run : Run) : Type 0 where
+-- The run is that of the script's lines, up to where a line met a full history, if one did; and it is one of repositories.
+pub record IsRunOf (script : List Command) (is_cut : Bool) (run : Run) : Type 0 where
   pub lines : List Line
   pub are : AreLines script lines
-  pub run_is : run ≡ run_of (given_of script) lines
-  pub fits : Fits (driver_after (given_of script) lines)
+  pub run_is : limited_run (given_of script) lines ≡ record { run = run; is_cut = is_cut }
+  pub lawful : IsRun run
 
 -- The fleet has done the lines of the script's commands up to these, which are left: it stands where the driver does, which has then
--- to do the lines of these.
+-- to do the lines of these, and none met a full history.
 pub record HasDone {K : Type 0} (tells : K → StoreView) (script left : List Command) (fleet : FleetView K) : Type 0 where
   pub lines : List Line
   pub are : AreLines script lines
@@ -39,4 +39,4 @@ pub record HasDone {K : Type 0} (tells : K → StoreView) (script left : List Co
   pub stands : Stands tells (given_of script) driver fleet
   pub others : List Line
   pub behind : lines_of (repos_of script) left ≡ Some others
-  pub ends : drives (given_of script) others driver ≡ driver_after (given_of script) lines
+  pub ends : drives_to_limit (given_of script) others driver ≡ limited_run (given_of script) lines

@@ -1,8 +1,9 @@
 -- What the program answers: its status, and the text that it writes (own).
-use Rattle.std.specs.Prelude.{◌≡◌, ◌⊎◌, ℕ, ◌<◌, ◌≤◌, List, [], ◌∷◌, ◌++◌, length, codes}
+use Rattle.std.specs.Prelude.{◌≡◌, ◌⊎◌, ℕ, ◌<◌, ◌≤◌, true, false, List, [], ◌∷◌, ◌++◌, length, codes}
 use Rattle.std.specs.declared.option.Option.{Option}
 use Rattle.std.specs.Io.KnownBytes.{append_known}
 use Rattle.std.specs.Fmt.{decimal}
+use Rattle.run_data.specs.Histories.{most_entries}
 use Rattle.run_data.specs.declared.run.Run.{Run}
 use Rattle.run_model.specs.Causes.{HasCauses}
 use Rattle.run_model.specs.Run as runs
@@ -12,6 +13,7 @@ use Rattle.script_lang.specs.declared.fault.Quantity.{Quantity}
 use Rattle.script_lang.specs.Limits.{quantity_name, limit_of}
 use Rattle.script_lang.specs.Script.{reading, BadLine, PastLimit}
 use Rattle.driver_model.specs.Driving.{run_of}
+use Rattle.driver_model.specs.Limits.{limited_run}
 use Rattle.driver_model.specs.Lines.{Line}
 use Rattle.driver_script.specs.Given.{given_of}
 use Rattle.driver_script.specs.Script.{IsScript, IsUnbuilt}
@@ -34,16 +36,17 @@ pub record IsGood (run : Run) : Type 0 where
   pub safe : IsSafe run
   pub causes : HasCauses run
 
--- the run of the script that the bytes are is good
+-- the run of the script that the bytes are is good, up to where a line meets a full history, if one does
 abbrev pub HasGoodRun : List ℕ → Type 0
-HasGoodRun bytes = (script : List Command) (lines : List Line) → IsScript bytes script lines → IsGood (run_of (given_of script) lines)
+HasGoodRun bytes = (script : List Command) (lines : List Line) → IsScript bytes script lines → IsGood (limited_run (given_of script) lines).run
 
--- the bytes are a script whose forms are all built, and the text is the report of its run
+-- the bytes are a script whose forms are all built; no line meets a full history, and the text is the report of its run
 pub record IsReport (bytes text : List ℕ) : Type 0 where
   pub short : length bytes ≤ script_limit
   pub script : List Command
   pub lines : List Line
   pub is_script : IsScript bytes script lines
+  pub whole : (limited_run (given_of script) lines).is_cut ≡ false
   pub text_is : text ≡ report script (run_of (given_of script) lines)
 
 -- the line that names a place of a script
@@ -81,19 +84,34 @@ pub record IsPast (bytes text : List ℕ) : Type 0 where
   pub past : reading bytes ≡ PastLimit quantity
   pub text_is : text ≡ limit_text (quantity_name quantity) (limit_of quantity)
 
+-- the name of the limit on histories
+abbrev pub entries_name : List ℕ
+entries_name = codes "entries"
+
+-- The bytes are such a script, of which a line meets a full history: the text is the report of its run up to there, and names the
+-- limit.
+pub record IsCutReport (bytes text : List ℕ) : Type 0 where
+  pub short : length bytes ≤ script_limit
+  pub script : List Command
+  pub lines : List Line
+  pub is_script : IsScript bytes script lines
+  pub cut : (limited_run (given_of script) lines).is_cut ≡ true
+  pub text_is : text ≡ report script (limited_run (given_of script) lines).run ++ limit_text entries_name most_entries
+
 -- what is due for a source of these bytes
 abbrev pub IsDue : List ℕ → Status → List ℕ → Type 0
 IsDue bytes Done text = IsReport bytes text
 IsDue bytes Script text = IsComplaint bytes text ⊎ IsMissing bytes text
-IsDue bytes Limit text = IsLong bytes text ⊎ IsPast bytes text
+IsDue bytes Limit text = IsLong bytes text ⊎ (IsPast bytes text ⊎ IsCutReport bytes text)
 IsDue bytes _ text = ⊥
 
--- the text that is due for what was read; where it is a report, the run is good
+-- the text that is due for what was read; where it is the report of a run, whole or not, that run is good
 pub record IsDueRead (old new : Option (List ℕ)) (status : Status) (text : List ℕ) : Type 0 where
   pub bytes : List ℕ
   pub read : IsRead old new bytes
   pub due : IsDue bytes status text
   pub good : status ≡ Done → HasGoodRun bytes
+  pub good_start : IsCutReport bytes text → HasGoodRun bytes
 
 -- the sink has taken the whole text that is due
 pub record Writes (left left' taken taken' : Option (List ℕ)) (status : Status) : Type 0 where

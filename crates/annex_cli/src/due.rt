@@ -1,23 +1,24 @@
 //! The text that is due for the bytes of a script.
 
-ghost use Rattle.std.specs.Prelude.{IfOk, ◌≡◌, ◌≤◌, ◌<◌, List, length, slice_get, Some};
+ghost use Rattle.std.specs.Prelude.{IfOk, OnOk, ◌≡◌, ◌≤◌, ◌<◌, ◌++◌, List, length, slice_get, Some};
 ghost use Rattle.script_lang.specs.Script.{reading, Commands};
 ghost use Rattle.driver_model.specs.Lines.{Line};
 ghost use Rattle.driver_script.specs.Lines.{first_unbuilt, repos_of};
 ghost use Rattle.annex_cli.specs.Runs.{AreLines, IsRunOf};
 ghost use Rattle.annex_cli.specs.Whole.{script_limit};
-ghost use Rattle.annex_cli.specs.Top.{IsDue, HasGoodRun, limit_text, place_text};
+ghost use Rattle.annex_cli.specs.Top.{IsCutReport, IsDue, HasGoodRun, limit_text, place_text};
 
-use crate::runs::run_script;
+use crate::runs::{ENTRY_LIMIT, Ran, run_script};
 use crate::status::Status;
 use crate::whole::SCRIPT_LIMIT;
 use annex_base::{NoMemory, put_number};
-use driver_model::{driven_runs_are_runs, runs_log_lines};
+use driver_model::{runs_are_cut_where_histories_are_full, runs_log_lines};
 use driver_script::{
-    first_missing, scripts_are_built_or_not, scripts_may_be_driven, scripts_run_or_miss_a_form,
+    first_missing, scripts_are_built_or_not, scripts_may_be_driven,
+    scripts_without_a_missing_form_have_lines,
 };
+use race_core::{refusals_have_causes, runs_are_safe};
 use report_text::report;
-use run_data::Run;
 use script_lang::{Script, ScriptFault, commands_have_lines, commands_stand, line_numbers};
 use std::alloc::Global;
 
@@ -32,6 +33,7 @@ pub struct Due {
 pub fn due_text(alloc: Global, bytes: &[u8]) -> Result<Due, NoMemory>
     ensures due { IfOk result (λ d. IsDue bytes.now d.status d.text.items) }
     ensures good { IfOk result (λ d. d.status ≡ Status.Done → HasGoodRun bytes.now) }
+    ensures good_start { IfOk result (λ d. IsCutReport bytes.now d.text.items → HasGoodRun bytes.now) }
 {
     if bytes.len() > SCRIPT_LIMIT {
         return limit_due(alloc, "script", SCRIPT_LIMIT as u64);
@@ -52,10 +54,10 @@ fn script_due(alloc: Global, bytes: &[u8], script: &Script) -> Result<Due, NoMem
     requires short { length bytes.now ≤ script_limit }
     requires says { reading bytes.now ≡ Commands script.now }
     ensures due { IfOk result (λ d. IsDue bytes.now d.status d.text.items) }
-    ensures good { IfOk result (λ d. d.status ≡ Status.Done → HasGoodRun bytes.now) }
+    ensures good { OnOk result (HasGoodRun bytes.now) }
 {
-    // A law, for the proof: where no form is missing, the commands have their lines.
-    scripts_run_or_miss_a_form();
+    // A law, for the proof.
+    scripts_without_a_missing_form_have_lines();
     let commands = script.lines();
     match first_missing(commands) {
         None => run_due(alloc, bytes, script),
@@ -69,31 +71,40 @@ fn run_due(alloc: Global, bytes: &[u8], script: &Script) -> Result<Due, NoMemory
     requires says { reading bytes.now ≡ Commands script.now }
     requires lines { (lines : List Line) × AreLines script.now lines }
     ensures due { IfOk result (λ d. IsDue bytes.now d.status d.text.items) }
-    ensures good { IfOk result (λ d. d.status ≡ Status.Done → HasGoodRun bytes.now) }
+    ensures good { OnOk result (HasGoodRun bytes.now) }
 {
     // Laws, for the proof that the script may be run.
     commands_stand();
     scripts_may_be_driven();
-    let run = run_script(alloc, script)?;
-    report_due(alloc, bytes, script, &run)
+    let ran = run_script(alloc, script)?;
+    report_due(alloc, bytes, script, &ran)
 }
 
-/// The report of a script's run.
-fn report_due(alloc: Global, _bytes: &[u8], script: &Script, run: &Run) -> Result<Due, NoMemory>
+/// The report of a script's run. Where a line met a full history, the line that names the limit stands behind it.
+fn report_due(alloc: Global, _bytes: &[u8], script: &Script, ran: &Ran) -> Result<Due, NoMemory>
     requires short { length _bytes.now ≤ script_limit }
     requires says { reading _bytes.now ≡ Commands script.now }
-    requires run { IsRunOf script.now run.now }
+    requires run { IsRunOf script.now ran.now.is_cut ran.now.run }
     ensures due { IfOk result (λ d. IsDue _bytes.now d.status d.text.items) }
-    ensures good { IfOk result (λ d. d.status ≡ Status.Done → HasGoodRun _bytes.now) }
+    ensures good { OnOk result (HasGoodRun _bytes.now) }
 {
     // Laws, for the proof that the run is good, and has what the report wants.
     commands_stand();
     scripts_may_be_driven();
     scripts_are_built_or_not();
-    driven_runs_are_runs();
+    runs_are_safe();
+    refusals_have_causes();
     runs_log_lines();
+    runs_are_cut_where_histories_are_full();
     let commands = script.lines();
-    let text = report(alloc, commands, run)?;
+    let mut text = report(alloc, commands, &ran.run)?;
+    if ran.is_cut {
+        put_limit(&mut text, "entries", ENTRY_LIMIT)?;
+        return Ok(Due {
+            status: Status::Limit,
+            text,
+        });
+    }
     Ok(Due {
         status: Status::Done,
         text,
@@ -106,10 +117,11 @@ fn missing_due(alloc: Global, bytes: &[u8], _script: &Script, place: usize) -> R
     requires says { reading bytes.now ≡ Commands _script.now }
     requires first { first_unbuilt (repos_of _script.now) _script.now ≡ Some place }
     ensures due { IfOk result (λ d. IsDue bytes.now d.status d.text.items) }
-    ensures status { IfOk result (λ d. d.status ≡ Status.Script) }
+    ensures good { OnOk result (HasGoodRun bytes.now) }
 {
-    // a law, so that the command has a line
+    // Laws, for the proof: the command has a line, and no text is both told its lines and that one is missing.
     commands_have_lines();
+    scripts_are_built_or_not();
     let numbers = line_numbers(alloc, bytes)?;
     complaint_due(alloc, line_at(&numbers, place), 0)
 }
@@ -128,15 +140,23 @@ fn limit_due(alloc: Global, name: &str, number: u64) -> Result<Due, NoMemory>
         × (d.text.items ≡ limit_text name.now number)) }
 {
     let mut text = Vec::new(alloc);
-    text.extend_from_slice(b"limit ")?;
-    text.extend_from_slice(name.as_bytes())?;
-    text.push(b' ')?;
-    put_number(&mut text, number)?;
-    text.push(b'\n')?;
+    put_limit(&mut text, name, number)?;
     Ok(Due {
         status: Status::Limit,
         text,
     })
+}
+
+/// Adds the line that names a limit.
+fn put_limit(text: &mut Vec<u8>, name: &str, number: u64) -> Result<(), NoMemory>
+    ensures { OnOk result (text.new.items ≡ text.old.items ++ limit_text name.now number) }
+{
+    text.extend_from_slice(b"limit ")?;
+    text.extend_from_slice(name.as_bytes())?;
+    text.push(b' ')?;
+    put_number(text, number)?;
+    text.push(b'\n')?;
+    Ok(())
 }
 
 /// The line that names the place of a script's first fault.

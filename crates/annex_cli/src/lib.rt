@@ -1,19 +1,21 @@
 //! The program's top call: what the words ask for, and what is written.
 #![tactic(auto)]
 
-ghost use Rattle.std.specs.Prelude.{◌≡◌, ℕ, ◌<◌, ◌≤◌, List, length, map, Some};
+ghost use Rattle.std.specs.Prelude.{◌≡◌, ℕ, ◌<◌, ◌≤◌, true, false, List, ◌++◌, length, map, Some};
 ghost use Rattle.std.specs.String.{string_bytes};
 ghost use Rattle.annex_base.specs.Causes.{Rose};
 ghost use Rattle.script_lang.specs.declared.command.Command.{Command};
 ghost use Rattle.script_lang.specs.Script.{reading, Commands};
+ghost use Rattle.run_data.specs.Histories.{most_entries};
 ghost use Rattle.driver_model.specs.Driving.{run_of};
+ghost use Rattle.driver_model.specs.Limits.{limited_run};
 ghost use Rattle.driver_model.specs.Lines.{Line};
 ghost use Rattle.driver_script.specs.Given.{given_of};
 ghost use Rattle.report_text.specs.Report.{report};
 ghost use Rattle.annex_cli.specs.declared.status.Status.{Status};
 ghost use Rattle.annex_cli.specs.Runs.{AreLines};
 ghost use Rattle.annex_cli.specs.Whole.{script_limit};
-ghost use Rattle.annex_cli.specs.Top.{IsRun, IsDue, EndsWith, Answers, AnswersRun};
+ghost use Rattle.annex_cli.specs.Top.{IsRun, IsDue, EndsWith, Answers, AnswersRun, entries_name, limit_text};
 
 mod due;
 mod runs;
@@ -24,6 +26,7 @@ mod words;
 use annex_base::{Failed, Gate, Sink, Source};
 use driver_script::scripts_are_built_or_not;
 use due::due_text;
+pub use runs::{Ran, run_script};
 pub use status::Status;
 use std::alloc::Global;
 use std::sync::Wait;
@@ -54,15 +57,20 @@ pub fn annex<R: Threads + Wait + Sync, S: Source, K: Sink, G: Gate>(
     ensures read_failed { S.faults source.old < S.faults source.new → result ≡ Status.ReadFault }
     ensures write_failed { K.faults sink.old < K.faults sink.new → result ≡ Status.WriteFault }
 
-    // without a fault and with enough memory, what is due is answered: for a script whose forms are built its report
+    // without a fault and with enough memory, what is due is answered: for a script whose forms are built its report, up to where a
+    // line meets a full history, if one does
     ensures usage { (IsRun (map string_bytes words.now) → ⊥) → (Rose (K.faults sink.old) (K.faults sink.new) → ⊥) → result ≡ Status.Usage }
     ensures due { (bytes text : List ℕ) (status : Status) → IsRun (map string_bytes words.now) → S.left source.old ≡ Some bytes → IsDue bytes status text
         → (Rose (S.faults source.old) (S.faults source.new) → ⊥) → (Rose (K.faults sink.old) (K.faults sink.new) → ⊥)
         → EndsWith status text (K.taken sink.old) (K.taken sink.new) result }
     ensures reported { (bytes : List ℕ) (script : List Command) (lines : List Line) → IsRun (map string_bytes words.now) → S.left source.old ≡ Some bytes
-        → length bytes ≤ script_limit → reading bytes ≡ Commands script → AreLines script lines
+        → length bytes ≤ script_limit → reading bytes ≡ Commands script → AreLines script lines → (limited_run (given_of script) lines).is_cut ≡ false
         → (Rose (S.faults source.old) (S.faults source.new) → ⊥) → (Rose (K.faults sink.old) (K.faults sink.new) → ⊥)
         → EndsWith Status.Done (report script (run_of (given_of script) lines)) (K.taken sink.old) (K.taken sink.new) result }
+    ensures cut { (bytes : List ℕ) (script : List Command) (lines : List Line) → IsRun (map string_bytes words.now) → S.left source.old ≡ Some bytes
+        → length bytes ≤ script_limit → reading bytes ≡ Commands script → AreLines script lines → (limited_run (given_of script) lines).is_cut ≡ true
+        → (Rose (S.faults source.old) (S.faults source.new) → ⊥) → (Rose (K.faults sink.old) (K.faults sink.new) → ⊥)
+        → EndsWith Status.Limit (report script (limited_run (given_of script) lines).run ++ limit_text entries_name most_entries) (K.taken sink.old) (K.taken sink.new) result }
 {
     if !is_run(words) {
         return match write_whole(sink, USAGE) {

@@ -1,5 +1,5 @@
 //! The run of a script, by a fleet of nodes.
-ghost use Rattle.std.specs.Prelude.{[], List, IfOk, OnOk};
+ghost use Rattle.std.specs.Prelude.{◌≡◌, ℕ, true, [], List, Err, IfOk, OnOk};
 ghost use Rattle.repo_node.specs.Stored.{store_view};
 ghost use Rattle.script_lang.specs.Script.{no_context};
 ghost use Rattle.script_lang.specs.Standing.{AllStand};
@@ -20,12 +20,23 @@ use run_data::Run;
 use script_lang::Script;
 use std::alloc::Global;
 
-/// Does the script's lines, one after the other.
+/// The greatest number of entries that a repository makes.
+pub const ENTRY_LIMIT: u64 = 100_000;
+
+/// The run of a script, and whether it ended where a line met a full history (own).
+#[derive(Debug, Drop)]
+pub struct Ran {
+    pub run: Run,
+    pub is_cut: bool,
+}
+
+/// Does the script's lines, one after the other, up to one that meets a full history.
 fn run_lines<K: FailingKeeper>(fleet: &mut Fleet<K>, script: &Script) -> Result<(), FleetStop>
     requires lines { (lines : List Line) × AreLines script.now lines }
     requires stand { AllStand no_context script.now }
     requires stands { Stands (λ k. store_view (K.contents k) (K.parts k) (K.failing k) (K.faults k)) (given_of script.now) at_first fleet.old }
-    ensures { OnOk result (HasDone (λ k. store_view (K.contents k) (K.parts k) (K.failing k) (K.faults k)) script.now [] fleet.new) }
+    ensures done { OnOk result (HasDone (λ k. store_view (K.contents k) (K.parts k) (K.failing k) (K.faults k)) script.now [] fleet.new) }
+    ensures cut { (r : ℕ) → result ≡ Err (FleetStop.Full r) → IsRunOf script.now true fleet.new.run }
 {
     // Laws, for the proof.
     only_waits_take_time();
@@ -37,12 +48,12 @@ fn run_lines<K: FailingKeeper>(fleet: &mut Fleet<K>, script: &Script) -> Result<
     Ok(())
 }
 
-/// The run of the script, each repository over a store in memory. A full history is want of memory (own).
-pub fn run_script(alloc: Global, script: &Script) -> Result<Run, NoMemory>
+/// The run of the script, each repository over a store in memory, up to where a line meets a full history, if one does.
+pub fn run_script(alloc: Global, script: &Script) -> Result<Ran, NoMemory>
     requires lines { (lines : List Line) × AreLines script.now lines }
     requires stand { AllStand no_context script.now }
     requires run { MayRun (repos_of script.now) }
-    ensures { IfOk result (λ run. IsRunOf script.now run) }
+    ensures { IfOk result (λ ran. IsRunOf script.now ran.is_cut ran.run) }
 {
     // A law, for the proof.
     bytes_are_matched();
@@ -50,7 +61,8 @@ pub fn run_script(alloc: Global, script: &Script) -> Result<Run, NoMemory>
     let ended = run_lines(&mut fleet, script);
     let run = fleet.finish();
     match ended {
-        Ok(()) => Ok(run),
-        Err(FleetStop::Full { .. } | FleetStop::NoMemory) => Err(NoMemory),
+        Ok(()) => Ok(Ran { run, is_cut: false }),
+        Err(FleetStop::Full { .. }) => Ok(Ran { run, is_cut: true }),
+        Err(FleetStop::NoMemory) => Err(NoMemory),
     }
 }

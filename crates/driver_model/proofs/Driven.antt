@@ -17,8 +17,8 @@ use Rattle.run_data.specs.Repos.{fits_size}
 use Rattle.node_model.specs.SessionStep.{is_filled}
 use Rattle.driver_model.specs.Lines.{Agendum, BlockLine, Line, Runs, Crashes, Closes, Fails, Have, SetPart, Add, File, Set, Raw, Merge, Compact, Begin, Turns, Settle, Close, Crash, Wait, Fail, Par, Shows}
 use Rattle.driver_model.specs.Lines
-use Rattle.driver_model.specs.Driver.{Driver, Given, at_first, commits, drops_part, fails_at, notes, puts_part, set_up_of, state_at}
-use Rattle.driver_model.specs.ScriptSteps.{begins, begins_part, unless_fails, crashes, closes, enters, faults, fills_up, gains, has, is_busy, sets_part, setting_line, unless_busy, will_fail}
+use Rattle.driver_model.specs.Driver.{Driver, Given, at_first, commits, drops_part, fails_at, puts_part, set_up_of, state_at}
+use Rattle.driver_model.specs.ScriptSteps.{begins, begins_part, unless_fails, crashes, closes, enters, faults, fills_up, gains, gets_content, has, is_busy, sets_part, setting_line, unless_busy, will_fail}
 use Rattle.driver_model.specs.Turning.{turn}
 use Rattle.driver_model.specs.Rounds.{Agenda, InBlock, AfterRounds, WithAgenda, agenda, block_round, block_rounds, blocks, came_to, goes_round, is_over, is_settled, lines_for, may_begin, most_rounds, numbers, round, rounds, settles, takes, takes_all, takes_each, turns_of, with_round}
 use Rattle.driver_model.specs.Driving.{does, driver_after, drives, with_mark, run_of, run_with, turns}
@@ -47,11 +47,18 @@ module _ (laws : Laws) (g : Given) (r : ℕ) (known : r < length g.repos) where
       go true i = k
       go false i = keeps_calling laws g d r calls.DropPart done known refl k (λ j. more i)
 
-  keeps_gains : (d : Driver) (key bytes : List ℕ) → IsKeyText key → fits_size (size_part key) (length bytes) ≡ true → is_busy g d r key ≡ false → Keeps g d → Keeps g (gains g r key bytes d)
-  keeps_gains d key bytes text fits free k =
+  keeps_content : (d : Driver) (key bytes : List ℕ) → fits_size (size_part key) (length bytes) ≡ true → is_busy g d r key ≡ false → Keeps g d → Keeps g (gets_content r key bytes d)
+  keeps_content d key bytes fits free k =
       let two = or_false (present d.past r key) (is_filled (set_up_of g d r) (state_at g d r) key) free in
-      keeps_status laws g (notes r (kinds.Gain Script (length bytes) key) [] (commits r key d)) r key text known
-      (keeps_notes laws g (commits r key d) r (kinds.Gain Script (length bytes) key) [] known (λ h small. (record { absent = two.0; unfilled = two.1; fits = fits; small = small }, refl, refl)) (keeps_commits g d r key k))
+      keeps_notes laws g (commits r key d) r (kinds.Gain Script (length bytes) key) [] known (λ h small. (record { absent = two.0; unfilled = two.1; fits = fits; small = small }, refl, refl)) (keeps_commits g d r key k)
+
+  -- the content that a script places, before the line that says so
+  pub keeps_placed : (d : Driver) (key bytes : List ℕ) → fits_size (size_part key) (length bytes) ≡ true → is_busy g d r key ≡ false → Keeps g d
+      → Keeps g (gets_content r key bytes (puts_part r key bytes (drops_part r key d)))
+  keeps_placed d key bytes fits free k = keeps_content (puts_part r key bytes (drops_part r key d)) key bytes fits free (keeps_puts g (drops_part r key d) r key bytes (keeps_drops g d r key k))
+
+  keeps_gains : (d : Driver) (key bytes : List ℕ) → IsKeyText key → fits_size (size_part key) (length bytes) ≡ true → is_busy g d r key ≡ false → Keeps g d → Keeps g (gains g r key bytes d)
+  keeps_gains d key bytes text fits free k = keeps_status laws g (gets_content r key bytes d) r key text known (keeps_content d key bytes fits free k)
 
   keeps_fills : (d : Driver) (key bytes : List ℕ) → IsKeyText key → fits_size (size_part key) (length bytes) ≡ true → is_busy g d r key ≡ false → Keeps g d → Keeps g (fills_up g r key bytes d)
   keeps_fills d key bytes text fits free k = go (fails_at d r calls.Append)
@@ -73,7 +80,7 @@ same_number a b e = grind (arith, nat_tests)
 
 -- ---- rounds
 
-below_len : (a n : ℕ) (m : ℕ) → a + n ≤ m → Each (λ r. r < m) (range_with_len a n)
+pub below_len : (a n : ℕ) (m : ℕ) → a + n ≤ m → Each (λ r. r < m) (range_with_len a n)
 below_len a zero m i = tt
 below_len a (suc n) m i = (omega (arith, i), below_len (a + 1) n m (omega (arith, i)))
 

@@ -11,6 +11,7 @@ pub mod Turned
 pub mod Scripted
 pub mod WrittenLines
 pub mod Logged
+pub mod MergedLines
 pub mod JobKept
 pub mod OwedKeys
 pub mod Alike
@@ -25,3 +26,7 @@ pub mod TurnsFound
 pub mod FewFrames
 pub mod SmallNumbers
 pub mod KnownJobs
+pub mod OwnEntries
+pub mod TreeAndMarks
+pub mod FullHistories
+pub mod LimitedRuns

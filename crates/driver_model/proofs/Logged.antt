@@ -1,6 +1,6 @@
 -- The files of branches: their paths are those of logs, and their lines are sets of lines. So what the script writes, merges and
 -- compacts may come.
-use Rattle.std.proofs.Common.{◌≡◌, ℕ, ◌<◌, Bool, true, false, List, [], ◌∷◌, Option, Some, None, ◌⊎◌, inl, inr, refl, sym, ap, ◌∙◌, subst, arith, ◌≢◌}
+use Rattle.std.proofs.Common.{◌≡◌, ℕ, ◌<◌, Bool, true, false, List, [], ◌∷◌, ◌++◌, Option, Some, None, ◌⊎◌, inl, inr, refl, sym, ap, ◌∙◌, subst, arith, ◌≢◌}
 use Rattle.std.specs.Prelude.{cond, if◌then◌else◌, not, filter, length, nat_lt, bytes_eq}
 use Rattle.std.specs.BTreeMap.{is_at}
 use Rattle.std.specs.Cmp.{Equal-is}
@@ -15,7 +15,7 @@ use Rattle.annex_base.specs.Lists.{Each, Member}
 use Rattle.annex_base.specs.declared.kinds.Call.TheVariants as calls
 use Rattle.annex_base.specs.declared.kinds.Word.{Word}
 use Rattle.annex_base.proofs.Conditions.{bytes_eq-refl}
-use Rattle.annex_base.proofs.Lists.{Each-filter, Each-from_members, list_any_member}
+use Rattle.annex_base.proofs.Lists.{Each-filter, Each-from_members, Each-left, list_any_member}
 use Rattle.annex_base.proofs.TextOrder.{order_cons, order_nil, same_text}
 use Rattle.annex_key.specs.KeyText.{IsKeyText}
 use Rattle.log_lines.specs.declared.entry.LogKind.{LogKind}
@@ -54,6 +54,7 @@ use Rattle.driver_model.specs.Driver.{Driver, Given, fails_at, notes}
 use Rattle.driver_model.specs.ScriptSteps.{compacts, compacts_files, faults, is_nil, lines_of, logs, logs_some, logs_status, merges, merges_files, news, shrinks, unknown, wall_of, writes}
 use Rattle.driver_model.specs.Logged.{LogsWell}
 use Rattle.driver_model.specs.Scripts.{Fits}
+use Rattle.driver_model.specs.Sound.{IsSound}
 use Rattle.driver_model.proofs.Holding.{Keeps, steps_on}
 use Rattle.driver_model.proofs.Premises.{Laws}
 use Rattle.driver_model.proofs.Scripted.{keeps_calling, keeps_faults, keeps_notes}
@@ -70,7 +71,7 @@ one_set line is = record { sorted = order_cons line [] tt order_nil; each = (is,
 filter_set : (q : List ℕ → Bool) (xs : List (List ℕ)) → IsLineSet xs → IsLineSet (filter q xs)
 filter_set q xs x = record { sorted = IsStrictlySortedBy-filter text_cmp q xs x.sorted; each = Each-filter IsLine q xs x.each }
 
-compact_set : (kind : Option LogKind) (lines : List (List ℕ)) → IsLineSet lines → IsLineSet (compact_lines kind lines)
+pub compact_set : (kind : Option LogKind) (lines : List (List ℕ)) → IsLineSet lines → IsLineSet (compact_lines kind lines)
 compact_set None lines is = is
 compact_set (Some kind) lines is = filter_set _ lines is
 
@@ -284,7 +285,13 @@ module _ (laws : Laws) (g : Given) (r : ℕ) (known : r < length g.repos) where
       let h = k (fits_files g r (branch d.past other) d fits) in
       keeps_files (branch d.past other) d (branches_well laws keys g.repos _ d.past (steps_on g d.tree d.marks d.past h.run) other) k fits
 
-  keeps_compacted : (files : Files) (d : Driver) → Keeps g d → Keeps g (compacts_files r files d)
+  -- so does a merge that has gone over the first of them
+  pub keeps_merge_start : OwedKeys → (d : Driver) (other : ℕ) (done left : Files) → branch d.past other ≡ done ++ left → IsSound g d → Keeps g (merges_files r done d)
+  keeps_merge_start keys d other done left is h =
+      let all = branches_well laws keys g.repos _ d.past (steps_on g d.tree d.marks d.past h.run) other in
+      keeps_files done d (Each-left FileWell done left (subst (Each FileWell) is all)) (λ f. h)
+
+  pub keeps_compacted : (files : Files) (d : Driver) → Keeps g d → Keeps g (compacts_files r files d)
   keeps_compacted [] d k = k
   keeps_compacted (f ∷ files) d k = go (keeps_compacted files) (shrinks d r (file_of f.0)) refl (fails_at d r calls.PutFile)
     where

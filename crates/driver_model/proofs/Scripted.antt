@@ -100,7 +100,7 @@ keeps_begins laws g d r job known x k = go (nat_lt (length (works d.past r)) 4) 
 
 -- ---- closes and crashes
 
-member_range : (a n k : ℕ) → a ≤ k → k < a + n → Member k (range_with_len a n)
+pub member_range : (a n k : ℕ) → a ≤ k → k < a + n → Member k (range_with_len a n)
 member_range a zero k i j = absurd (omega (arith, i, j))
 member_range a (suc n) k i j = go (member_range (a + 1) n k) (k == a) refl
   where

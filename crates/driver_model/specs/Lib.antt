@@ -12,3 +12,4 @@ pub mod Ways
 pub mod Sound
 pub mod WordsRead
 pub mod Finding
+pub mod Limits

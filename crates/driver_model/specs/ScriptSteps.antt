@@ -119,8 +119,12 @@ is_busy g d r key = present d.past r key || is_filled (set_up_of g d r) (state_a
 abbrev pub begins_part : ℕ → List ℕ → List ℕ → Driver → Driver
 begins_part r key bytes d = unless_fails r calls.Append d (puts_part r key bytes d)
 
+-- the part becomes the content
+abbrev pub gets_content : ℕ → List ℕ → List ℕ → Driver → Driver
+gets_content r key bytes d = notes r (kinds.Gain Script (length bytes) key) [] (commits r key d)
+
 abbrev pub gains : Given → ℕ → List ℕ → List ℕ → Driver → Driver
-gains g r key bytes d = logs_status g r key (notes r (kinds.Gain Script (length bytes) key) [] (commits r key d))
+gains g r key bytes d = logs_status g r key (gets_content r key bytes d)
 
 abbrev pub fills_up : Given → ℕ → List ℕ → List ℕ → Driver → Driver
 fills_up g r key bytes d = if fails_at d r calls.Append then faults r calls.Append d

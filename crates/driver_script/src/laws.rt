@@ -1,5 +1,5 @@
 //! Laws of scripts that can be driven, which no call depends on.
-ghost use Rattle.std.specs.Prelude.{◌≡◌, ◌≢◌, ◌↔◌, ◌⊎◌, ◌≤◌, AllPairs, List, ℕ, length, map, true, Some};
+ghost use Rattle.std.specs.Prelude.{◌≡◌, ◌≢◌, ◌↔◌, ◌⊎◌, ◌≤◌, AllPairs, List, ℕ, length, map, true, Some, None};
 ghost use Rattle.annex_base.specs.Lists.{Each};
 ghost use Rattle.key_verify.specs.Matching.{MatchesKey};
 ghost use Rattle.run_data.specs.Repos.{IsSetUp};
@@ -9,7 +9,7 @@ ghost use Rattle.script_lang.specs.Script.{Commands, reading, wait_of};
 ghost use Rattle.driver_model.specs.Lines.{Line, waited_by};
 ghost use Rattle.driver_model.specs.Scripts.{IsOne};
 ghost use Rattle.driver_script.specs.Given.{given_of, matches};
-ghost use Rattle.driver_script.specs.Lines.{line_of, repos_of};
+ghost use Rattle.driver_script.specs.Lines.{first_unbuilt, line_of, lines_of, repos_of};
 ghost use Rattle.driver_script.specs.Script.{IsScript, IsUnbuilt};
 
 use annex_key::key_texts_have_no_fault;
@@ -44,6 +44,11 @@ pub fn scripts_run_or_miss_a_form()
     // A law, so that the command has a line.
     commands_have_lines();
 }
+
+/// Commands for none of which a part is missing have their lines.
+pub fn scripts_without_a_missing_form_have_lines()
+    ensures { (script : List Command) → first_unbuilt (repos_of script) script ≡ None → (lines : List Line) × (lines_of (repos_of script) script ≡ Some lines) }
+{}
 
 /// No text is told two things: which commands it has and which lines these are; or on which line stands the first for which a part
 /// is missing.

@@ -7,5 +7,5 @@ mod laws;
 pub use forms::{first_missing, runs};
 pub use laws::{
     bytes_are_matched, lines_wait_as_long, scripts_are_built_or_not, scripts_may_be_driven,
-    scripts_run_or_miss_a_form,
+    scripts_run_or_miss_a_form, scripts_without_a_missing_form_have_lines,
 };

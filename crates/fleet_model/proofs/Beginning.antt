@@ -9,15 +9,13 @@ use Rattle.run_data.specs.declared.job.Job.{Job}
 use Rattle.node_jobs.specs.Acting.{with_job}
 use Rattle.node_jobs.specs.Running.{AreWorks, Jobs, work_now}
 use Rattle.node_model.specs.After.{Agrees}
-use Rattle.node_model.specs.Jobs.{Work}
 use Rattle.node_model.specs.State.{State}
-use Rattle.run_model.specs.Past.{begun_count, now}
+use Rattle.run_model.specs.Past.{begun_count}
 use Rattle.run_model.specs.States.{works}
-use Rattle.driver_model.specs.Driver.{Driver, Given, newest_count, notes, set_up_of, state_at}
+use Rattle.driver_model.specs.Driver.{Driver, Given, notes, set_up_of, state_at}
 use Rattle.driver_model.specs.ScriptSteps.{begins}
 use Rattle.repo_node.specs.Nodes as nodes
 use Rattle.repo_node.specs.Nodes.{NodeView, with_entry}
-use Rattle.fleet_model.specs.Stores.{IsStoreOf}
 use Rattle.repo_node.specs.Stored.{StoreView}
 use Rattle.fleet_model.proofs.Noting.{IsRaised, noted}
 

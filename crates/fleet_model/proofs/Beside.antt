@@ -1,8 +1,7 @@
 -- What a script does that makes no entry of a repository: waiting, paths, marks, and calls that are to fail.
 use Rattle.std.proofs.Common.{◌≡◌, ◌≢◌, ℕ, ◌+◌, ◌<◌, ◌≤◌, ◌^◌, Bool, true, false, List, [], ◌∷◌, ◌++◌, Option, Some, None, length, refl, sym, ap, ◌∙◌, subst, arith}
-use Rattle.std.specs.Prelude.{◌==◌, ◌&&◌, cond, filter, if◌then◌else◌, reverse, slice_get}
+use Rattle.std.specs.Prelude.{◌&&◌, cond, filter, if◌then◌else◌, reverse, slice_get}
 use Rattle.std.specs.Option.{option_map}
-use Rattle.std.proofs.lemmas.Bool.Decides.{nat_tests}
 use Rattle.std.proofs.lemmas.Grind.{reverse_onto}
 use Rattle.std.proofs.lemmas.List.{length-append, length-reverse}
 use Rattle.std.proofs.lemmas.List.Elements.{filter-append}
@@ -12,20 +11,19 @@ use Rattle.object_store.specs.Calls.{one_more}
 use Rattle.run_data.specs.declared.entry.Entry.{Entry}
 use Rattle.run_data.specs.declared.entry.EntryKind.TheVariants as kinds
 use Rattle.run_data.specs.declared.run.Run.{Run}
-use Rattle.run_data.specs.declared.run.TreeMark.{TreeMark}
-use Rattle.run_model.specs.Past.{is_of, now}
+use Rattle.run_model.specs.Past.{now}
 use Rattle.driver_model.specs.Driver.{Driver, FailLine, Given, is_failing, newest_count}
-use Rattle.driver_model.specs.Driving.{run_with, with_mark}
+use Rattle.driver_model.specs.Driving.{with_mark}
 use Rattle.driver_model.specs.Scripts.{Fits}
 use Rattle.driver_model.specs.ScriptSteps.{enters, waits, will_fail}
-use Rattle.driver_model.specs.Sound.{IsSound, StaysSound}
+use Rattle.driver_model.specs.Sound.{StaysSound}
 use Rattle.link_flights.specs.Flights.{IsEndIn}
 use Rattle.link_flights.specs.Words.{AreWorded}
 use Rattle.node_jobs.specs.Running.{words_at}
 use Rattle.node_ends.specs.Ends.{link_at}
 use Rattle.repo_node.specs.Nodes.{NodeView}
 use Rattle.fleet_model.specs.Fleets.{FleetView, HasCome, IsNodeOf, links_at}
-use Rattle.fleet_model.specs.Stores.{IsStoreOf, IsTold, waiting_fails}
+use Rattle.fleet_model.specs.Stores.{IsTold, waiting_fails}
 use Rattle.repo_node.specs.Stored.{StoreView}
 use Rattle.fleet_model.proofs.Hearing.{WordLaws}
 use Rattle.fleet_model.proofs.Noting.{other_number, same_number}

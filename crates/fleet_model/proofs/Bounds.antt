@@ -1,10 +1,9 @@
 -- What a step leaves of the store is below 2 ^ 62 bytes, where the node's store has so.
-use Rattle.std.proofs.Common.{◌≡◌, ℕ, ◌+◌, ◌<◌, ◌^◌, Bool, true, false, List, [], ◌∷◌, Option, Some, None, length, refl, sym, ap, ◌∙◌, subst, arith}
-use Rattle.std.specs.Prelude.{cond, if◌then◌else◌, max}
+use Rattle.std.proofs.Common.{◌≡◌, ℕ, ◌<◌, ◌^◌, Bool, true, false, List, [], Option, Some, length, refl, sym, ap, ◌∙◌, subst, arith}
+use Rattle.std.specs.Prelude.{if◌then◌else◌, max}
 use Rattle.std.specs.Option.{option_map}
 use Rattle.std.proofs.lemmas.Option.{same_Some}
 use Rattle.annex_base.proofs.Conditions.{bytes_eq-refl}
-use Rattle.std.specs.Prelude.{bytes_eq}
 use Rattle.object_store.specs.Stores.{Contents}
 use Rattle.run_data.specs.declared.entry.EntryKind.{EntryKind}
 use Rattle.run_data.specs.declared.entry.EntryKind.TheVariants as kinds
@@ -16,7 +15,7 @@ use Rattle.node_model.specs.Look.{Made}
 use Rattle.node_model.specs.Rows.{content_after}
 use Rattle.node_model.specs.Sessions.{line_in, message_said}
 use Rattle.node_model.specs.State.{State}
-use Rattle.driver_model.specs.Driver.{Driver, commits, drops_part, part_at, puts_part}
+use Rattle.driver_model.specs.Driver.{Driver, drops_part, part_at}
 use Rattle.driver_model.specs.Turning.{asked_key, is_failure, is_valid, store_after, takes_frame, takes_into}
 use Rattle.fleet_model.specs.Stores.{content_in}
 use Rattle.fleet_model.proofs.Placing.{part_of_put}

@@ -1,7 +1,6 @@
 -- Whether a content is there or being filled, in a node and in the driver.
-use Rattle.std.proofs.Common.{◌≡◌, ℕ, Bool, List, Option, Some, None, refl, sym, ap, ◌∙◌}
+use Rattle.std.proofs.Common.{◌≡◌, ℕ, Bool, List, Option, Some, sym, ap, ◌∙◌}
 use Rattle.std.specs.Prelude.{◌||◌, is_some}
-use Rattle.std.specs.Option.{ForSome}
 use Rattle.object_store.specs.Stores.{Contents}
 use Rattle.content_lock.specs.Rows.{is_filling}
 use Rattle.node_model.specs.After.{Agrees}

@@ -1,13 +1,12 @@
 -- A fleet whose node was given a content or a part has come to where the driver is.
-use Rattle.std.proofs.Common.{◌≡◌, ℕ, ◌<◌, ◌≤◌, ◌^◌, Bool, true, false, List, [], ◌∷◌, length, Option, Some, None, refl, sym, ap, ◌∙◌, subst}
+use Rattle.std.proofs.Common.{◌≡◌, ℕ, ◌<◌, ◌≤◌, ◌^◌, Bool, true, false, List, [], length, Option, Some, None, refl, ap, ◌∙◌}
 use Rattle.std.specs.Prelude.{if◌then◌else◌}
 use Rattle.annex_base.specs.declared.kinds.Call.{Call}
 use Rattle.annex_base.specs.declared.kinds.Call.TheVariants as calls
 use Rattle.object_store.specs.Stores.{Contents, Parts}
-use Rattle.node_model.specs.After.{Agrees}
 use Rattle.node_model.specs.SetUp.{SetUp}
 use Rattle.node_model.specs.State.{State}
-use Rattle.driver_model.specs.Driver.{Driver, Given, part_at, set_up_of, state_at}
+use Rattle.driver_model.specs.Driver.{Driver, Given, part_at, set_up_of}
 use Rattle.driver_model.specs.ScriptSteps.{has, is_busy, sets_part}
 use Rattle.driver_model.specs.Sound.{StaysSound}
 use Rattle.repo_node.specs.Calls.{IsDoneBy, StopsAt, node_at, to_place, to_place_part}
@@ -19,7 +18,7 @@ use Rattle.repo_node.specs.Walks.{over}
 use Rattle.repo_node.specs.declared.refused.NodeRefused.TheVariants as refusals
 use Rattle.fleet_model.specs.Fleets.{FleetView, HasCome, IsNodeOf}
 use Rattle.fleet_model.specs.Steps.{OneGoesOn, raised}
-use Rattle.fleet_model.specs.Stores.{IsStoreOf, IsTold, content_in}
+use Rattle.fleet_model.specs.Stores.{IsTold, content_in}
 use Rattle.fleet_model.proofs.Busy.{taken_is_busy}
 use Rattle.fleet_model.proofs.Directs.{comes_directly}
 use Rattle.fleet_model.proofs.Hearing.{WordLaws}

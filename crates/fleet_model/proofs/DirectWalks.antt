@@ -1,14 +1,12 @@
 -- A fleet whose node merged another's branch or compacted its own has come to where the driver is.
-use Rattle.std.proofs.Common.{◌≡◌, ℕ, ◌<◌, ◌≤◌, ◌^◌, Bool, true, false, List, [], ◌∷◌, length, Option, Some, None, refl, sym, ap, ◌∙◌, subst}
-use Rattle.std.specs.Prelude.{nat_lt, slice_get}
+use Rattle.std.proofs.Common.{◌≡◌, ℕ, ◌<◌, ◌≤◌, ◌^◌, Bool, true, false, List, [], ◌∷◌, Option, Some, None, refl, ap, ◌∙◌, subst}
+use Rattle.std.specs.Prelude.{slice_get}
 use Rattle.std.specs.Map.{keys_of}
 use Rattle.annex_base.specs.declared.kinds.Call.{Call}
 use Rattle.annex_base.specs.declared.kinds.Call.TheVariants as calls
-use Rattle.run_data.specs.declared.entry.LogFile.{LogFile}
 use Rattle.run_data.specs.Files.{file_of, file_path}
 use Rattle.union_merge.specs.Branch.{Files, lines_at}
 use Rattle.union_merge.specs.LineSet.{difference}
-use Rattle.run_model.specs.Logs.{branch}
 use Rattle.driver_model.specs.Driver.{Driver, Given}
 use Rattle.driver_model.specs.ScriptSteps.{compacts, merges, merges_files}
 use Rattle.driver_model.specs.Sound.{StaysSound}

@@ -1,10 +1,7 @@
 -- A fleet whose node did what a line of the script says has come to where the driver is.
-use Rattle.std.proofs.Common.{◌≡◌, ◌≢◌, ℕ, ◌+◌, ◌<◌, ◌≤◌, ◌^◌, Bool, true, false, List, [], ◌∷◌, ◌++◌, length, Option, Some, None, refl, sym, ap, ◌∙◌, subst, arith}
-use Rattle.std.specs.Map.{keys_of}
+use Rattle.std.proofs.Common.{◌≡◌, ℕ, ◌+◌, ◌<◌, ◌≤◌, ◌^◌, List, [], ◌∷◌, ◌++◌, Option, Some, None, refl, sym, ap, ◌∙◌, subst}
 use Rattle.annex_base.specs.declared.kinds.Call.{Call}
-use Rattle.annex_base.specs.declared.kinds.Call.TheVariants as calls
 use Rattle.log_lines.specs.declared.entry.LogKind.{LogKind}
-use Rattle.log_lines.specs.declared.entry.LogKind.TheVariants.{Location}
 use Rattle.log_lines.specs.declared.entry.Topic.{Topic}
 use Rattle.log_lines.specs.declared.entry.Value.{Value}
 use Rattle.log_lines.specs.LineText.{line_text}
@@ -13,18 +10,17 @@ use Rattle.run_data.specs.declared.entry.Entry.{Entry}
 use Rattle.run_data.specs.declared.entry.LogFile.{LogFile}
 use Rattle.run_data.specs.declared.entry.LogFile.TheVariants.{Of}
 use Rattle.run_data.specs.Files.{file_path}
-use Rattle.union_merge.specs.Branch.{Files, lines_at}
+use Rattle.union_merge.specs.Branch.{lines_at}
 use Rattle.union_merge.specs.LineSet.{difference}
-use Rattle.run_model.specs.Logs.{branch}
 use Rattle.node_model.specs.Owed.{stamp_at}
 use Rattle.node_parts.specs.Parts.{PartsView}
 use Rattle.node_jobs.specs.Running.{words_at}
 use Rattle.link_flights.specs.Heard.{HeardSo}
 use Rattle.driver_model.specs.Driver.{Driver, Given}
-use Rattle.driver_model.specs.ScriptSteps.{compacts, merges, setting_line, sets, unknown, wall_of, writes}
+use Rattle.driver_model.specs.ScriptSteps.{setting_line, sets, wall_of, writes}
 use Rattle.driver_model.specs.Sound.{StaysSound}
 use Rattle.content_lock.specs.CallsMade.{MakesCalls}
-use Rattle.repo_node.specs.Calls.{to_compact, to_log, to_merge}
+use Rattle.repo_node.specs.Calls.{to_log}
 use Rattle.repo_node.specs.Logs.{stamped_by, with_log}
 use Rattle.repo_node.specs.Nodes.{NodeView}
 use Rattle.repo_node.specs.Stored.{StoreView}
@@ -69,7 +65,7 @@ line_comes {K} laws tells g d r n m was after file line failed h step stays made
     (logged_parts (raised d n) m file (line ∷ []) failed is) early few sound
 
 -- the line of a setting is that of the driver
-setting_is : {K : Type 0} (tells : K → StoreView) (g : Given) (d : Driver) (r : ℕ) (n : NodeView K) (kind : LogKind) (topic : Topic) (value : Value) → IsRaised tells g d r n
+pub setting_is : {K : Type 0} (tells : K → StoreView) (g : Given) (d : Driver) (r : ℕ) (n : NodeView K) (kind : LogKind) (topic : Topic) (value : Value) → IsRaised tells g d r n
     → line_text kind (stamped_by n kind None (record { topic = topic; stamp = None; value = value })) ≡ setting_line g d r kind topic value
 setting_is {K} tells g d r n kind topic value own =
     λ i. line_text kind (record { topic = topic; stamp = Some (next_stamp (newest_stamp kind (lines_at (own.entries.branch i) (file_path (Of kind))) topic) (stamp_at (wall_is i))); value = value })

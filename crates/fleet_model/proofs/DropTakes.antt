@@ -1,6 +1,6 @@
 -- What a drop takes, and that nothing of it goes into a part.
-use Rattle.std.proofs.Common.{◌≡◌, ℕ, ◌+◌, ◌-◌, ◌/◌, ◌^◌, Bool, true, false, List, [], ◌∷◌, Option, Some, None, ◌⊎◌, inl, inr, refl, sym, ap, ◌∙◌, subst}
-use Rattle.std.specs.Prelude.{◌&&◌, ◌==◌, if◌then◌else◌, min, nat_le, nat_lt}
+use Rattle.std.proofs.Common.{◌≡◌, ℕ, ◌^◌, Bool, true, false, List, [], ◌∷◌, Option, Some, None, ◌⊎◌, inl, inr, refl, ap, subst}
+use Rattle.std.specs.Prelude.{◌&&◌, ◌==◌, if◌then◌else◌, nat_le, nat_lt}
 use Rattle.std.specs.List.{list_all}
 use Rattle.std.proofs.lemmas.Bool.{and_parts}
 use Rattle.annex_base.proofs.Conditions.{if_either}
@@ -18,19 +18,19 @@ use Rattle.run_data.specs.declared.job.Outcome.TheVariants.{Refused}
 use Rattle.run_data.specs.declared.job.DropRefusal.{DropRefusal}
 use Rattle.run_data.specs.declared.job.DropRefusal.TheVariants as refusals
 use Rattle.p2p_wire.specs.declared.message.Message.{Message}
-use Rattle.p2p_wire.specs.declared.message.Message.TheVariants.{AuthSuccess, Failure, RemoveBefore, Success, Timestamp, Valid, Version}
+use Rattle.p2p_wire.specs.declared.message.Message.TheVariants.{AuthSuccess, Failure, Success, Timestamp, Valid, Version}
 use Rattle.p2p_wire.specs.Messages.{message_of}
-use Rattle.node_model.specs.Ends.{EndName, may_take, same_bool, takes_at}
+use Rattle.node_model.specs.Ends.{may_take, same_bool, takes_at}
 use Rattle.node_model.specs.Evidence.{Asked, Standing}
 use Rattle.node_model.specs.Jobs
 use Rattle.node_model.specs.Jobs.{AsksLock, AsksLook, AsksTime, Drops, Fresh, GetsBytes, Gets, Greets, Next, Opens, Part, Phase, Puts, PutsBytes, PutsWord, Work, job_end, side_of}
 use Rattle.node_model.specs.Look.{Made, failing, unless, waiting}
 use Rattle.node_model.specs.Calls.{to_hold}
 use Rattle.node_model.specs.Knows.{enough_by, next_by}
-use Rattle.node_model.specs.JobStep.{Turn, attempts, bar_there, by_me, clock_of, end_with, ends, is_there, key_of, me, quietly, says_to, sends_to, talk, wrong}
-use Rattle.node_model.specs.DropStep.{asks_copy, asks_lock, asks_target, bars, expiry, first_drop, first_end, first_remote, held_until, in_time, lacking, orders, own_share, removes, required_there, row_refusal, shares, takes_drop, takes_time, target, times, tries_own}
+use Rattle.node_model.specs.JobStep.{Turn, attempts, bar_there, by_me, clock_of, end_with, ends, is_there, me, quietly, talk}
+use Rattle.node_model.specs.DropStep.{asks_copy, asks_target, bars, expiry, first_drop, first_end, first_remote, held_until, in_time, lacking, removes, required_there, row_refusal, takes_drop, takes_time, target, times, tries_own}
 use Rattle.node_model.specs.Requests.{asks, goes_to}
-use Rattle.node_model.specs.TransferStep.{puts_piece, takes_bytes}
+use Rattle.node_model.specs.TransferStep.{takes_bytes}
 use Rattle.node_model.specs.Turns.{awaits, by_partner, first_step, goes, goes_on, has_room, is_awaiting, judges, needs, next_step, outcome_of, takes, takes_answer, takes_frame, takes_text, with_partner}
 use Rattle.driver_model.specs.Driver.{Driver, drops_part}
 use Rattle.driver_model.specs.Turning.{is_failure, is_valid, takes_into}

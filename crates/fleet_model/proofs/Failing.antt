@@ -1,14 +1,14 @@
 -- The `fail` lines that wait, and the calls of a store that are still to fail.
-use Rattle.std.proofs.Common.{◌≡◌, ◌≢◌, ℕ, suc, ◌+◌, ◌-◌, Bool, true, false, List, [], ◌∷◌, Option, Some, None, length, refl, sym, ap, ◌∙◌, subst, arith}
-use Rattle.std.specs.Prelude.{◌==◌, ◌&&◌, ◌||◌, cond, filter, find, if◌then◌else◌, nat_lt}
+use Rattle.std.proofs.Common.{◌≡◌, ◌≢◌, ℕ, suc, ◌-◌, Bool, true, false, List, [], ◌∷◌, Option, Some, None, length, refl, sym, ap, ◌∙◌, subst, arith}
+use Rattle.std.specs.Prelude.{◌==◌, ◌&&◌, filter, find, if◌then◌else◌, nat_lt}
 use Rattle.std.specs.List.{list_any}
 use Rattle.std.specs.Option.{option_map}
 use Rattle.std.proofs.lemmas.Bool.Decides.{nat_tests}
 use Rattle.annex_base.specs.Calls.{call_number, same_call}
 use Rattle.annex_base.specs.declared.kinds.Call.{Call}
-use Rattle.object_store.specs.Calls.{one_fewer, one_more}
+use Rattle.object_store.specs.Calls.{one_fewer}
 use Rattle.driver_model.specs.Driver.{Driver, FailLine, answers, but_first, fails_at, is_failing}
-use Rattle.content_lock.specs.CallsMade.{MakesCalls, fewer}
+use Rattle.content_lock.specs.CallsMade.{MakesCalls}
 use Rattle.fleet_model.specs.Stores.{IsStoreOf, IsTold, waiting_fails}
 use Rattle.repo_node.specs.Stored.{StoreView}
 

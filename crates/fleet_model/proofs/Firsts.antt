@@ -1,7 +1,6 @@
 -- A fleet of new nodes has come to where the driver is at first.
-use Rattle.std.proofs.Common.{◌≡◌, ◌≢◌, ℕ, zero, suc, ◌+◌, ◌*◌, ◌<◌, ◌≤◌, ◌^◌, Bool, true, false, List, [], ◌∷◌, Option, Some, None, length, refl, sym, ap, ◌∙◌, subst, arith}
-use Rattle.std.specs.Prelude.{if◌then◌else◌, map, nat_lt, replicate, slice_get}
-use Rattle.std.specs.Option.{option_map_or}
+use Rattle.std.proofs.Common.{◌≡◌, ℕ, zero, suc, ◌*◌, ◌<◌, ◌≤◌, ◌^◌, Bool, true, false, List, [], ◌∷◌, Option, Some, None, length, refl, sym, ap, ◌∙◌, subst, arith}
+use Rattle.std.specs.Prelude.{if◌then◌else◌, nat_lt, replicate, slice_get}
 use Rattle.std.proofs.lemmas.List.{length-map}
 use Rattle.std.proofs.lemmas.Option.{same_Some, slice_get_within}
 use Rattle.annex_base.specs.declared.kinds.Word.{Word}
@@ -13,7 +12,6 @@ use Rattle.link_ring.specs.Places.{end_place}
 use Rattle.node_jobs.specs.Running.{words_at}
 use Rattle.run_data.specs.Repos.{offset_of}
 use Rattle.run_data.specs.declared.run.RepoView.{RepoView}
-use Rattle.run_data.specs.declared.run.Run.{Run}
 use Rattle.link_flights.specs.Fleets.{AreEndsIn}
 use Rattle.link_flights.specs.Heard.{HeardSo}
 use Rattle.link_flights.specs.Words.{AreAllWorded}

@@ -1,5 +1,5 @@
 -- A step of the driver by which one repository alone goes on, without a frame.
-use Rattle.std.proofs.Common.{◌≡◌, ◌≢◌, ◌⊎◌, inl, inr, ℕ, ◌+◌, ◌<◌, ◌≤◌, ◌^◌, Bool, true, false, List, [], ◌∷◌, ◌++◌, Option, Some, None, length, refl, sym, ap, ◌∙◌, subst, arith}
+use Rattle.std.proofs.Common.{◌≡◌, ◌≢◌, ◌⊎◌, inl, ℕ, ◌+◌, ◌<◌, ◌≤◌, ◌^◌, Bool, true, false, List, [], ◌∷◌, ◌++◌, Option, Some, None, length, refl, sym, ap, ◌∙◌, subst, arith}
 use Rattle.std.specs.Prelude.{cond, drop, filter, if◌then◌else◌, reverse}
 use Rattle.std.proofs.lemmas.Bool.Decides.{nat_tests}
 use Rattle.std.proofs.lemmas.List.{append_assoc, reverse-append}
@@ -25,7 +25,7 @@ use Rattle.fleet_model.specs.Fleets.{IsNodeOf}
 use Rattle.fleet_model.specs.Stores.{IsStoreOf}
 use Rattle.repo_node.specs.Stored.{StoreView}
 use Rattle.fleet_model.proofs.Failing.{unanswered}
-use Rattle.fleet_model.proofs.Noting.{others_stay, other_number, same_number}
+use Rattle.fleet_model.proofs.Noting.{others_stay, same_number}
 
 -- an entry of this time, with no greater count than this, that isn't too large
 pub record IsWithin (time most : ℕ) (e : Entry) : Type 0 where

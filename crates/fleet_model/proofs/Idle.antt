@@ -1,8 +1,7 @@
 -- A fleet whose node had no step ready has come to where the driver is after its own turn.
-use Rattle.std.proofs.Common.{◌≡◌, ◌≢◌, ℕ, ◌+◌, ◌<◌, ◌≤◌, ◌^◌, Bool, true, false, List, [], ◌∷◌, ◌++◌, Option, Some, None, length, map, refl, sym, ap, ◌∙◌, subst, arith}
+use Rattle.std.proofs.Common.{◌≡◌, ◌≢◌, ℕ, ◌+◌, ◌≤◌, Bool, true, false, [], ◌++◌, Some, None, length, refl, sym, ap, ◌∙◌, subst, arith}
 use Rattle.std.specs.Prelude.{◌==◌, drop, flat_map, is_some, reverse, slice_get}
 use Rattle.std.specs.Option.{option_to_list}
-use Rattle.link_ring.specs.Ends.{EndView, after_drop}
 use Rattle.node_model.specs.After.{Agrees}
 use Rattle.node_model.specs.AnyTime.{all_ends}
 use Rattle.node_model.specs.Ends.{EndName}
@@ -10,28 +9,24 @@ use Rattle.node_model.specs.Look.{Look}
 use Rattle.node_model.specs.SetUp.{SetUp}
 use Rattle.node_model.specs.State.{State}
 use Rattle.node_model.specs.Step.{step}
-use Rattle.node_ends.specs.Ends.{AreEnds, hand_at, link_at, room_at}
+use Rattle.node_ends.specs.Ends.{hand_at, link_at, room_at}
 use Rattle.node_parts.specs.Parts.{AreParts}
-use Rattle.run_data.specs.declared.entry.Entry.{Entry}
-use Rattle.run_model.specs.Past.{now}
 use Rattle.driver_model.specs.Driver.{Driver, Given, frames_to, has_room, newest_count, set_up_of, state_at}
-use Rattle.driver_model.specs.Driving.{run_with}
 use Rattle.driver_model.specs.Finding.{driver_at_turn}
-use Rattle.driver_model.specs.Scripts.{Fits}
 use Rattle.driver_model.specs.Sound.{IsSound, StaysSound}
 use Rattle.driver_model.specs.Turning.{at_hand, plain_look, turn}
 use Rattle.link_flights.specs.Fleets.{AreEndsIn, AreOwnEndsIn}
 use Rattle.repo_node.specs.Nodes as nodes
 use Rattle.repo_node.specs.Nodes.{NodeView}
 use Rattle.repo_node.specs.Stored.{StoreView}
-use Rattle.repo_node.specs.Turning.{IsIdle, Looks}
+use Rattle.repo_node.specs.Turning.{IsIdle}
 use Rattle.link_flights.specs.Heard.{HeardSo}
 use Rattle.link_flights.specs.Words.{AreAllWorded}
 use Rattle.node_jobs.specs.Running.{words_at}
 use Rattle.fleet_model.specs.Fleets.{AreUnused, FleetView, HasCome, IsNodeOf, links_at}
 use Rattle.fleet_model.specs.Steps.{OneTurns, with_links}
 use Rattle.fleet_model.proofs.Coming.{same, unlike}
-use Rattle.fleet_model.proofs.Going.{GoesOn, entries_go_on, goes_within, others_are}
+use Rattle.fleet_model.proofs.Going.{GoesOn, entries_go_on, others_are}
 use Rattle.fleet_model.proofs.Looking.{LookLaws}
 use Rattle.fleet_model.proofs.Noting.{IsRaised, is_node}
 use Rattle.fleet_model.proofs.States.{state_is, step_is}

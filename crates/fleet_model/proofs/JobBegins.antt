@@ -1,11 +1,10 @@
 -- A fleet whose node began a job, or had no slot for it, has come to where the driver is.
-use Rattle.std.proofs.Common.{◌≡◌, ◌≢◌, ℕ, ◌+◌, ◌<◌, ◌≤◌, ◌^◌, Bool, true, false, List, [], ◌∷◌, length, Option, Some, None, refl, sym, ap, ◌∙◌, subst, arith}
-use Rattle.std.specs.Prelude.{◌==◌, cond, find, if◌then◌else◌, nat_lt}
+use Rattle.std.proofs.Common.{◌≡◌, ℕ, ◌+◌, ◌<◌, ◌≤◌, ◌^◌, Bool, false, List, [], length, Some, None, refl, sym, ap, subst, arith}
+use Rattle.std.specs.Prelude.{◌==◌, cond, find, if◌then◌else◌}
 use Rattle.std.specs.Option.{option_map_or}
 use Rattle.std.proofs.lemmas.Bool.Decides.{nat_tests}
 use Rattle.annex_base.specs.Lists.{Each}
 use Rattle.annex_base.proofs.Lists.{Each-member}
-use Rattle.annex_base.specs.declared.kinds.Word.{Word}
 use Rattle.drop_worker.specs.Working.{words_of}
 use Rattle.run_data.specs.declared.entry.Entry.{Entry}
 use Rattle.run_data.specs.declared.entry.EntryKind.TheVariants as kinds
@@ -14,7 +13,6 @@ use Rattle.run_model.specs.Past.{begun_count}
 use Rattle.run_model.specs.States.{works}
 use Rattle.node_model.specs.After.{Agrees}
 use Rattle.node_model.specs.Jobs.{Work}
-use Rattle.node_model.specs.State.{State}
 use Rattle.node_jobs.specs.Acting.{new_worker, with_job}
 use Rattle.node_jobs.specs.Running.{AreWorks, DropJob, Jobs, words_at}
 use Rattle.link_flights.specs.Heard.{HeardSo, SameWords}

@@ -45,3 +45,8 @@ pub mod Bounds
 pub mod Rounds
 pub mod PiecesGiven
 pub mod TurnComes
+pub mod StopLaws
+pub mod StopPasts
+pub mod StopSteps
+pub mod StopWalks
+pub mod StopContents

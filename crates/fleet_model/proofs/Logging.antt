@@ -13,11 +13,10 @@ use Rattle.run_data.specs.declared.entry.LogFile.{LogFile}
 use Rattle.run_data.specs.Files.{file_path}
 use Rattle.union_merge.specs.Branch.{Files, lines_at, merged_file}
 use Rattle.union_merge.specs.LineSet.{difference}
-use Rattle.run_model.specs.Past.{now}
-use Rattle.driver_model.specs.Driver.{Driver, Given, answers, fails_at, newest_count, notes}
+use Rattle.driver_model.specs.Driver.{Driver, Given, answers, fails_at, notes}
 use Rattle.driver_model.specs.ScriptSteps.{faults, logs, logs_some, unknown}
 use Rattle.repo_node.specs.Calls.{to_log, to_write}
-use Rattle.repo_node.specs.Logs.{with_lines, with_log}
+use Rattle.repo_node.specs.Logs.{with_log}
 use Rattle.repo_node.specs.Nodes.{NodeView, with_entry}
 use Rattle.content_lock.specs.CallsMade.{MakesCalls, fewer}
 use Rattle.fleet_model.specs.Steps.{HasLogged, StaysStored, raised}

@@ -1,10 +1,9 @@
 -- The step that a node makes in a turn is the one that the driver's turn makes.
-use Rattle.std.proofs.Common.{◌≡◌, ◌≢◌, ℕ, ◌+◌, ◌<◌, ◌^◌, ◌-◌, Bool, true, false, List, [], ◌∷◌, ◌++◌, Option, Some, None, refl, sym, ap, ◌∙◌, subst}
+use Rattle.std.proofs.Common.{◌≡◌, ℕ, ◌+◌, Bool, true, false, List, [], ◌∷◌, ◌++◌, Option, Some, None, refl, sym, ap, ◌∙◌, subst}
 use Rattle.std.specs.Prelude.{flat_map, if◌then◌else◌, is_some}
 use Rattle.std.specs.List.{list_any}
 use Rattle.std.specs.Option.{option_to_list}
 use Rattle.annex_base.specs.Calls.{same_call}
-use Rattle.annex_base.specs.Lists.{Member}
 use Rattle.annex_base.specs.declared.kinds.Call.{Call}
 use Rattle.link_ring.specs.Ends.{EndView}
 use Rattle.run_data.specs.declared.entry.EntryKind.{EntryKind}
@@ -28,7 +27,7 @@ use Rattle.driver_model.specs.Sound.{IsSound}
 use Rattle.driver_model.specs.Turning.{asked_key, at_hand, makes_fault, meets, part_right, part_size, plain_look, told_words}
 use Rattle.driver_model.specs.WordsRead.{AgreeWhereRead}
 use Rattle.link_flights.specs.Fleets.{AreOwnEndsIn}
-use Rattle.content_lock.specs.CallsMade.{AreRising, MakesCalls}
+use Rattle.content_lock.specs.CallsMade.{AreRising}
 use Rattle.repo_node.specs.Nodes as nodes
 use Rattle.repo_node.specs.Nodes.{NodeView}
 use Rattle.repo_node.specs.Stored.{StoreView}

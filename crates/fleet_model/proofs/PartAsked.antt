@@ -1,5 +1,5 @@
 -- The part that a session's step asks for is the driver's.
-use Rattle.std.proofs.Common.{◌≡◌, ◌↔◌, ℕ, Bool, true, false, List, [], ◌∷◌, Option, Some, None, length, refl, sym, ap, ◌∙◌, subst}
+use Rattle.std.proofs.Common.{◌≡◌, ◌↔◌, ℕ, Bool, true, List, Option, Some, None, length, refl, sym, ap, ◌∙◌, subst}
 use Rattle.run_data.specs.declared.entry.FrameText.{FrameText}
 use Rattle.run_data.specs.declared.entry.FrameText.TheVariants.{Bytes, Closing, Line, Opening}
 use Rattle.run_data.specs.declared.entry.FrameView.{FrameView}
@@ -21,7 +21,7 @@ use Rattle.p2p_server.specs.declared.doing.Taken.{Taken}
 use Rattle.p2p_server.specs.declared.incoming.Incoming.{Incoming}
 use Rattle.p2p_server.specs.declared.incoming.Incoming.TheVariants as incoming
 use Rattle.p2p_server.specs.declared.session.Session.{Session}
-use Rattle.p2p_server.specs.Talking.{Brings, heard_line, IsTakenOf, SeesPart, SeesPartOf, SeesTaken, Tells, doing_of, session_of}
+use Rattle.p2p_server.specs.Talking.{Brings, heard_line, SeesPart, SeesPartOf, SeesTaken, Tells, doing_of, session_of}
 use Rattle.node_sessions.specs.Serving.{SeesPartAt}
 use Rattle.driver_model.specs.Driver.{Driver, Given, end_to, part_at}
 use Rattle.driver_model.specs.Turning.{asked_key, filled_key, part_right, part_size, put_key, session_key, step_key}

@@ -1,5 +1,5 @@
 -- A part that the script gives a repository, in its node and in the driver.
-use Rattle.std.proofs.Common.{◌≡◌, ◌⊎◌, inl, inr, ℕ, Bool, true, false, List, [], ◌∷◌, Option, Some, None, refl, sym, ap, ◌∙◌, subst}
+use Rattle.std.proofs.Common.{◌≡◌, inl, inr, ℕ, Bool, true, false, List, [], ◌∷◌, Option, Some, None, refl, ap, ◌∙◌, subst}
 use Rattle.std.specs.Prelude.{find, if◌then◌else◌}
 use Rattle.std.specs.Option.{option_map}
 use Rattle.annex_base.specs.declared.kinds.Call.{Call}
@@ -13,7 +13,6 @@ use Rattle.repo_node.specs.Nodes.{NodeView}
 use Rattle.repo_node.specs.Placing.{IsTaken}
 use Rattle.repo_node.specs.Walks.{over}
 use Rattle.repo_node.specs.declared.refused.NodeRefused.TheVariants as refusals
-use Rattle.fleet_model.specs.Stores.{IsStoreOf}
 use Rattle.repo_node.specs.Stored.{StoreView}
 use Rattle.fleet_model.proofs.Failing.{first_of_calls}
 use Rattle.fleet_model.proofs.Placing.{Stopped, calm_left, fault_noted, none_first, none_left, part_replaced, some_first}

@@ -1,10 +1,7 @@
 -- Each direct step of the script lets one repository alone go on.
-use Rattle.std.proofs.Common.{◌≡◌, ◌≢◌, inl, inr, ℕ, ◌+◌, ◌<◌, ◌≤◌, ◌^◌, Bool, true, false, List, [], ◌∷◌, length, refl, arith}
+use Rattle.std.proofs.Common.{inl, inr, ℕ, ◌+◌, ◌<◌, ◌≤◌, ◌^◌, List, [], ◌∷◌, length, refl, arith}
 use Rattle.std.specs.Prelude.{max, not}
 use Rattle.annex_base.specs.declared.kinds.Call.TheVariants as calls
-use Rattle.log_lines.specs.declared.entry.LogKind.{LogKind}
-use Rattle.log_lines.specs.declared.entry.Topic.{Topic}
-use Rattle.log_lines.specs.declared.entry.Value.{Value}
 use Rattle.run_data.specs.declared.entry.By.TheVariants.{Script}
 use Rattle.run_data.specs.declared.entry.EntryKind.TheVariants as kinds
 use Rattle.run_data.specs.declared.entry.LogFile.{LogFile}
@@ -12,10 +9,10 @@ use Rattle.run_data.specs.declared.entry.LogFile.TheVariants.{Location}
 use Rattle.run_data.specs.declared.job.Job.{Job}
 use Rattle.run_data.specs.Files.{file_of}
 use Rattle.run_model.specs.Logs.{branch}
-use Rattle.run_model.specs.Past.{begun_count, now}
+use Rattle.run_model.specs.Past.{begun_count}
 use Rattle.union_merge.specs.Branch.{Files}
 use Rattle.driver_model.specs.Driver.{Driver, Given, commits, drops_part, fails_at, newest_count, notes, puts_part}
-use Rattle.driver_model.specs.ScriptSteps.{begins, begins_part, unless_fails, compacts, compacts_files, faults, fills_up, gains, has, is_busy, is_nil, logs, logs_some, logs_status, merges, merges_files, news, sets, sets_part, shrinks, unknown, unless_busy, writes}
+use Rattle.driver_model.specs.ScriptSteps.{begins, begins_part, unless_fails, compacts, compacts_files, faults, fills_up, gains, has, is_busy, is_nil, logs, logs_some, logs_status, merges, merges_files, news, sets_part, shrinks, unknown, unless_busy, writes}
 use Rattle.fleet_model.proofs.Going.{GoesOnQuietly, goes_calling, goes_failing, goes_if, goes_noting, goes_nowhere, goes_then}
 use Rattle.fleet_model.proofs.StoreSteps.{committed_elsewhere, dropped_elsewhere, put_elsewhere}
 
@@ -31,7 +28,7 @@ goes_logs_some r file (line ∷ lines) d = goes_logs r file (line ∷ lines) d
 pub goes_writes : (r : ℕ) (file : LogFile) (line : List ℕ) (d : Driver) → GoesOnQuietly r d (writes r file line d)
 goes_writes r file line d = goes_logs_some r file (unknown d r file (line ∷ [])) d
 
-goes_merges_files : (r : ℕ) (files : Files) (d : Driver) → GoesOnQuietly r d (merges_files r files d)
+pub goes_merges_files : (r : ℕ) (files : Files) (d : Driver) → GoesOnQuietly r d (merges_files r files d)
 goes_merges_files r [] d = goes_nowhere r d
 goes_merges_files r (f ∷ files) d =
     let done : Driver = notes r (kinds.Log (file_of f.0)) (news d r f.0 f.1) d in
@@ -42,7 +39,7 @@ goes_merges_files r (f ∷ files) d =
 pub goes_merges : (r other : ℕ) (d : Driver) → GoesOnQuietly r d (merges r other d)
 goes_merges r other d = goes_merges_files r (branch d.past other) d
 
-goes_compacts_files : (r : ℕ) (files : Files) (d : Driver) → GoesOnQuietly r d (compacts_files r files d)
+pub goes_compacts_files : (r : ℕ) (files : Files) (d : Driver) → GoesOnQuietly r d (compacts_files r files d)
 goes_compacts_files r [] d = goes_nowhere r d
 goes_compacts_files r (f ∷ files) d =
     let done : Driver = notes r (kinds.Compact (file_of f.0)) [] d in
@@ -58,16 +55,16 @@ goes_compacts r d = goes_compacts_files r (branch d.past r) d
 least : (n : ℕ) → n ≤ n
 least n = grind arith
 
-goes_dropping : (r : ℕ) (key : List ℕ) (d : Driver) → GoesOnQuietly r d (drops_part r key d)
+pub goes_dropping : (r : ℕ) (key : List ℕ) (d : Driver) → GoesOnQuietly r d (drops_part r key d)
 goes_dropping r key d = record { on = record { more = []; past = refl; own = tt; tree = refl; marks = refl; stores = λ q v apart is. dropped_elsewhere d r q key v apart is; at = refl; counted = least (newest_count d.past); bounds = tt; large = λ e. e }; flights = refl; quiet = tt }
 
 greatest : (a b : ℕ) → b < 2 ^ 62 → a < 2 ^ 62 → max a b < 2 ^ 62
 greatest a b small large = grind arith
 
-goes_putting : (r : ℕ) (key bytes : List ℕ) (d : Driver) → length bytes < 2 ^ 62 → GoesOnQuietly r d (puts_part r key bytes d)
+pub goes_putting : (r : ℕ) (key bytes : List ℕ) (d : Driver) → length bytes < 2 ^ 62 → GoesOnQuietly r d (puts_part r key bytes d)
 goes_putting r key bytes d small = record { on = record { more = []; past = refl; own = tt; tree = refl; marks = refl; stores = λ q v apart is. put_elsewhere d r q key bytes v apart is; at = refl; counted = least (newest_count d.past); bounds = tt; large = greatest d.largest (length bytes) small }; flights = refl; quiet = tt }
 
-goes_committing : (r : ℕ) (key : List ℕ) (d : Driver) → GoesOnQuietly r d (commits r key d)
+pub goes_committing : (r : ℕ) (key : List ℕ) (d : Driver) → GoesOnQuietly r d (commits r key d)
 goes_committing r key d = record { on = record { more = []; past = refl; own = tt; tree = refl; marks = refl; stores = λ q v apart is. committed_elsewhere d r q key v apart is; at = refl; counted = least (newest_count d.past); bounds = tt; large = λ e. e }; flights = refl; quiet = tt }
 
 goes_unless_busy : (g : Given) (r : ℕ) (key : List ℕ) (d done : Driver) → GoesOnQuietly r d done → GoesOnQuietly r d (unless_busy g r key d done)

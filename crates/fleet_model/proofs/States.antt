@@ -1,13 +1,12 @@
 -- The state that a node's history leaves is the driver's, in all that a step reads.
-use Rattle.std.proofs.Common.{◌≡◌, ℕ, List, Option, refl, sym, ap, ◌∙◌, subst}
+use Rattle.std.proofs.Common.{◌≡◌, ℕ, List, sym, ap, ◌∙◌, subst}
 use Rattle.std.specs.Prelude.{filter, reverse}
 use Rattle.std.proofs.lemmas.List.{reverse-reverse}
 use Rattle.run_data.specs.declared.entry.Entry.{Entry}
 use Rattle.run_data.specs.declared.run.Run.{Run}
 use Rattle.node_model.specs.After.{Agrees, states}
-use Rattle.node_model.specs.Look.{Look, Made}
+use Rattle.node_model.specs.Look.{Look}
 use Rattle.node_model.specs.SetUp.{SetUp}
-use Rattle.node_model.specs.State.{State}
 use Rattle.node_model.specs.Step.{step}
 use Rattle.run_model.specs.Past.{is_of}
 use Rattle.run_model.specs.Run.{IsRun, paths_at, set_up}

@@ -1,16 +1,15 @@
 -- What the table of steps says of gains, and of the frames that a session takes.
-use Rattle.std.proofs.Common.{◌≡◌, ℕ, Bool, true, false, List, [], ◌∷◌, Option, Some, None, ◌⊎◌, inl, inr, refl, sym, ap, ◌∙◌, subst}
+use Rattle.std.proofs.Common.{◌≡◌, ℕ, true, false, List, Option, Some, None, ◌⊎◌, inl, inr, refl, sym, ap, ◌∙◌, subst}
 use Rattle.annex_base.proofs.Lists.{Each-member, find_member}
 use Rattle.run_data.specs.declared.entry.By.{By}
 use Rattle.run_data.specs.declared.entry.EntryKind.{EntryKind}
-use Rattle.run_data.specs.declared.entry.EntryKind.TheVariants.{Check, Close, Fault, Gain, Gone, Log, Release, Share, Talk}
+use Rattle.run_data.specs.declared.entry.EntryKind.TheVariants.{Check, Close, Fault, Gain, Gone, Release, Share, Talk}
 use Rattle.run_data.specs.declared.entry.FrameText.{FrameText}
 use Rattle.run_data.specs.declared.entry.FrameView.{FrameView}
 use Rattle.p2p_wire.specs.declared.message.Message.{Message}
 use Rattle.p2p_wire.specs.declared.message.Message.TheVariants.{Valid}
 use Rattle.node_model.specs.Ends.{EndName, server_end}
 use Rattle.node_model.specs.Found.{ByJob, ByOwed, BySession, JobKind, JobTakes, SessionKind, StepFound}
-use Rattle.node_model.specs.Jobs.{GetsWord, Work}
 use Rattle.node_model.specs.JobStep.{turn_of}
 use Rattle.node_model.specs.Look.{Look, Made}
 use Rattle.node_model.specs.Sessions.{Doing, Took, line_in}

@@ -1,9 +1,8 @@
 -- What a step took: none, a frame that a session answered, or one that a drop heard.
-use Rattle.std.proofs.Common.{◌≡◌, ℕ, Bool, true, false, List, [], ◌∷◌, Option, Some, None, ◌⊎◌, inl, inr, refl, sym, ap, ◌∙◌, subst, arith}
+use Rattle.std.proofs.Common.{◌≡◌, ℕ, Bool, true, false, List, [], ◌∷◌, Option, Some, None, ◌⊎◌, inl, inr, refl, sym, ◌∙◌, subst, arith}
 use Rattle.std.specs.Prelude.{◌&&◌, ◌==◌, find, if◌then◌else◌}
 use Rattle.std.proofs.lemmas.Bool.{and_parts}
 use Rattle.std.proofs.lemmas.Bool.Decides.{nat_tests}
-use Rattle.annex_base.specs.Lists.{Member}
 use Rattle.annex_base.specs.declared.kinds.Call.{Call}
 use Rattle.annex_base.specs.declared.kinds.Call.TheVariants.{PutFile}
 use Rattle.annex_base.proofs.Lists.{Each-member, find_member}
@@ -11,7 +10,6 @@ use Rattle.run_data.specs.declared.entry.EntryKind.TheVariants.{Fault, Log}
 use Rattle.run_data.specs.declared.entry.FrameView.{FrameView}
 use Rattle.run_data.specs.declared.entry.LogFile.TheVariants.{Location}
 use Rattle.node_model.specs.Ends.{EndName, end_takes, may_take, same_bool, server_end, takes_at}
-use Rattle.node_model.specs.Found.{StepFound}
 use Rattle.node_model.specs.Jobs.{Work, partner}
 use Rattle.node_model.specs.JobStep.{turn_of}
 use Rattle.node_model.specs.Look
@@ -22,7 +20,7 @@ use Rattle.node_model.specs.SessionStep.{Reply, gives_made, gives_next, here, on
 use Rattle.node_model.specs.SetUp.{SetUp, served_connections, slots}
 use Rattle.node_model.specs.State.{State}
 use Rattle.node_model.specs.Step.{step}
-use Rattle.node_model.specs.Turns.{by_partner, job_step, slot_step}
+use Rattle.node_model.specs.Turns.{job_step, slot_step}
 use Rattle.driver_model.specs.Driver.{end_to}
 use Rattle.fleet_model.specs.Drops.{AreDrops, IsDrop}
 use Rattle.fleet_model.proofs.DropTakes.{HearsAtMost, IsHeard, partner_hears}

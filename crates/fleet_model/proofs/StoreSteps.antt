@@ -1,11 +1,10 @@
 -- What a call of a store makes of contents and parts, in the store and in the driver.
-use Rattle.std.proofs.Common.{◌≡◌, ◌≢◌, ℕ, Bool, true, false, List, [], ◌∷◌, Option, Some, None, refl, sym, ap, ◌∙◌, subst}
+use Rattle.std.proofs.Common.{◌≡◌, ◌≢◌, ℕ, List, [], Option, Some, None, sym, ap, ◌∙◌, subst}
 use Rattle.std.specs.Prelude.{bytes_eq, if◌then◌else◌}
 use Rattle.std.specs.Option.{option_map}
 use Rattle.object_store.specs.Stores.{Contents, Parts, contents_after_commit, with_at}
 use Rattle.content_lock.specs.Stored.{without_content}
 use Rattle.driver_model.specs.Driver.{Driver, commits, drops_part, part_at, puts_part, removes_content}
-use Rattle.driver_model.specs.Stores.{stored_bytes}
 use Rattle.fleet_model.specs.Stores.{IsStoreOf, IsTold, content_in}
 use Rattle.repo_node.specs.Stored.{StoreView}
 use Rattle.fleet_model.proofs.Storing.{kept_by_others, kept_by_others_without, kept_with, kept_without, stored_by_others, stored_by_others_without, stored_with, stored_without}

@@ -1,10 +1,9 @@
 -- The bytes that the driver says a repository has, after bytes came or went.
-use Rattle.std.proofs.Common.{◌≡◌, ◌≢◌, ℕ, Bool, true, false, List, [], ◌∷◌, Option, Some, None, inl, inr, refl, sym, ap, ◌∙◌, subst, arith}
-use Rattle.std.specs.Prelude.{◌==◌, ◌&&◌, bytes_eq, cond, filter, find, if◌then◌else◌, not}
+use Rattle.std.proofs.Common.{◌≡◌, ◌≢◌, ℕ, Bool, true, false, List, [], ◌∷◌, Option, Some, None, refl, sym, ap, ◌∙◌, subst, arith}
+use Rattle.std.specs.Prelude.{◌==◌, ◌&&◌, bytes_eq, find, if◌then◌else◌}
 use Rattle.std.specs.Option.{option_map}
 use Rattle.std.proofs.lemmas.Bool.Decides.{nat_tests}
-use Rattle.annex_base.proofs.Conditions.{bytes_eq-refl, bytes_eq-true, bytes_eq_tells}
-use Rattle.object_store.specs.Stores.{Contents, Parts, with_at}
+use Rattle.annex_base.proofs.Conditions.{bytes_eq-true}
 use Rattle.driver_model.specs.Stores.{StoredBytes, bytes_in, is_stored, stored_bytes, with_bytes, without}
 use Rattle.fleet_model.proofs.Noting.{same_number}
 

@@ -1,5 +1,5 @@
 -- A fleet whose node made a turn has come to where the driver is after its own.
-use Rattle.std.proofs.Common.{◌≡◌, ◌≢◌, ℕ, ◌+◌, ◌*◌, ◌<◌, ◌≤◌, ◌^◌, Bool, true, false, List, [], ◌∷◌, ◌++◌, Option, Some, None, length, map, refl, sym, ap, ◌∙◌, subst, arith}
+use Rattle.std.proofs.Common.{◌≡◌, ◌≢◌, ℕ, ◌<◌, ◌≤◌, ◌^◌, Bool, true, false, List, [], ◌∷◌, Option, Some, None, length, map, refl, sym, ap, ◌∙◌, subst}
 use Rattle.std.specs.Prelude.{◌==◌, flat_map, is_some, reverse, slice_get}
 use Rattle.std.proofs.lemmas.List.{reverse-append}
 use Rattle.std.proofs.lemmas.Option.{same_Some}
@@ -34,7 +34,6 @@ use Rattle.node_ends.specs.Ends.{AreEnds, IsEndOf, hand_at, link_at, room_at, st
 use Rattle.node_sessions.specs.Pieces.{IsPieceOf}
 use Rattle.node_sessions.specs.Sessions.{AreSessions}
 use Rattle.node_jobs.specs.Running.{words_at, work_now}
-use Rattle.node_parts.specs.Parts.{AreParts}
 use Rattle.node_parts.specs.Posting.{Posts, after_step as end_after_step, word_with}
 use Rattle.link_flights.specs.Fleets.{AreAllCarried, AreEndsIn, AreOwnEndsIn, Posted}
 use Rattle.link_flights.specs.Flights.{HasAtHand, IsEndIn}
@@ -45,7 +44,7 @@ use Rattle.driver_model.specs.Driver.{Driver, Given, adds, end_to, has_room, par
 use Rattle.driver_model.specs.Finding.{MakesStep, after_step, driver_at_turn}
 use Rattle.driver_model.specs.Scripts.{Fits, IsKnown}
 use Rattle.driver_model.specs.Sound.{IsSound, StaysSound}
-use Rattle.driver_model.specs.Turning.{asked_key, bytes_taken, part_size, plain_look, told_words, turn}
+use Rattle.driver_model.specs.Turning.{asked_key, bytes_taken, plain_look, told_words, turn}
 use Rattle.driver_model.specs.WordsRead.{AgreeWhereRead}
 use Rattle.repo_node.specs.Nodes as nodes
 use Rattle.repo_node.specs.Nodes.{NodeView}
@@ -71,7 +70,7 @@ use Rattle.fleet_model.proofs.Raising.{raised_is}
 use Rattle.fleet_model.proofs.States.{state_is}
 use Rattle.fleet_model.proofs.TurnEnds.{EndLaws, dropped_hand, is_posted}
 use Rattle.fleet_model.proofs.TurnNode.{last_same, no_step_makes, turned_node}
-use Rattle.fleet_model.proofs.TurnStore.{ChangesStore, store_changes}
+use Rattle.fleet_model.proofs.TurnStore.{store_changes}
 use Rattle.fleet_model.proofs.Turned.{turn_goes, turned}
 use Rattle.fleet_model.proofs.Unused.{dropped_unused, posted_unused, turn_unused}
 use Rattle.fleet_model.proofs.WordsGo.{ChangesByAnswers, words_go}

@@ -1,13 +1,12 @@
 -- What a turn leaves of a node is what the driver says after its own turn.
 use Rattle.std.proofs.Common.{◌≡◌, ◌⊎◌, inl, inr, ℕ, ◌+◌, Bool, true, false, List, [], ◌∷◌, ◌++◌, map, Option, Some, None, refl, sym, ap, ◌∙◌, subst, arith}
-use Rattle.std.specs.Prelude.{◌==◌, ◌&&◌, drop, filter, find, flat_map, if◌then◌else◌, reverse}
+use Rattle.std.specs.Prelude.{drop, filter, find, if◌then◌else◌, reverse}
 use Rattle.std.specs.Option.{option_map, option_map_or}
 use Rattle.std.proofs.lemmas.Bool.Decides.{nat_tests}
 use Rattle.std.proofs.lemmas.Option.{same_Some}
-use Rattle.annex_base.specs.Lists.{Each, Member}
-use Rattle.annex_base.proofs.Lists.{Each-from_members, Each-map}
+use Rattle.annex_base.specs.Lists.{Member}
 use Rattle.annex_base.specs.declared.kinds.Call.{Call}
-use Rattle.object_store.specs.Stores.{Contents, Parts}
+use Rattle.object_store.specs.Stores.{Parts}
 use Rattle.link_ring.specs.Ends.{EndView, after_drop}
 use Rattle.run_data.specs.declared.entry.By.TheVariants.{Peer}
 use Rattle.run_data.specs.declared.entry.Entry.{Entry}
@@ -18,10 +17,9 @@ use Rattle.union_merge.specs.Branch.{Files}
 use Rattle.run_model.specs.Logs.{branch, branch_after}
 use Rattle.run_model.specs.Past.{is_of, now}
 use Rattle.node_model.specs.After.{Agrees}
-use Rattle.node_model.specs.Ends.{EndName, server_end, takes_at}
+use Rattle.node_model.specs.Ends.{server_end, takes_at}
 use Rattle.node_model.specs.Found.{ByJob, ByOwed, BySession, JobKind, JobTakes, SessionKind, StepFound}
-use Rattle.node_model.specs.Jobs as jobs
-use Rattle.node_model.specs.Jobs.{Work, job_end}
+use Rattle.node_model.specs.Jobs.{job_end}
 use Rattle.node_model.specs.JobStep.{turn_of}
 use Rattle.node_model.specs.Look.{Look, Made, entry_of}
 use Rattle.node_model.specs.Rows.{same_owner}
@@ -29,7 +27,6 @@ use Rattle.node_model.specs.Sessions as sessions
 use Rattle.node_model.specs.SessionStep.{here}
 use Rattle.node_model.specs.SetUp.{SetUp, served_connections}
 use Rattle.node_model.specs.State.{State}
-use Rattle.node_model.specs.Step.{step}
 use Rattle.drop_worker.specs.declared.phase.Phase.{Phase}
 use Rattle.drop_worker.specs.declared.phase.Phase.TheVariants as phases
 use Rattle.drop_worker.specs.Working.{failed_in, phase_as}
@@ -45,7 +42,7 @@ use Rattle.node_sessions.specs.Stored.{parts_after_frame, parts_after_taken}
 use Rattle.node_parts.specs.Steps.{session_asked}
 use Rattle.node_parts.specs.Stored.{parts_after_step}
 use Rattle.driver_model.specs.Driver.{Driver, Given, adds, end_to, newest_count, set_up_of, state_at}
-use Rattle.driver_model.specs.Finding.{after_step, driver_at_turn, failed_call}
+use Rattle.driver_model.specs.Finding.{after_step, driver_at_turn}
 use Rattle.driver_model.specs.Turning as turning
 use Rattle.driver_model.specs.Turning.{plain_look, store_after}
 use Rattle.link_flights.specs.Flights.{HasAtHand}
@@ -54,9 +51,8 @@ use Rattle.repo_node.specs.Nodes as nodes
 use Rattle.repo_node.specs.Nodes.{NodeView}
 use Rattle.repo_node.specs.Stored.{StoreView}
 use Rattle.repo_node.specs.Turning.{Adds}
-use Rattle.fleet_model.specs.Drops.{AreDrops, IsDrop, is_transfer}
+use Rattle.fleet_model.specs.Drops.{AreDrops, is_transfer}
 use Rattle.fleet_model.specs.StepStored.{parts_of_step}
-use Rattle.fleet_model.specs.Stores.{IsStoreOf}
 use Rattle.fleet_model.proofs.Asking.{asked_is}
 use Rattle.fleet_model.proofs.BytesTaken.{taken_bytes}
 use Rattle.fleet_model.proofs.DropTakes.{to_client}

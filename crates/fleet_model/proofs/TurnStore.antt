@@ -1,29 +1,27 @@
 -- What a step leaves of its repository's store is what the driver says of it.
-use Rattle.std.proofs.Common.{◌≡◌, ◌≢◌, ℕ, ◌≤◌, Bool, true, false, List, [], ◌∷◌, ◌++◌, Option, Some, None, ◌⊎◌, inl, inr, refl, sym, ap, ◌∙◌, subst, arith}
+use Rattle.std.proofs.Common.{◌≡◌, ◌≢◌, ℕ, Bool, true, false, List, [], ◌∷◌, ◌++◌, Option, Some, None, refl, sym, ap, ◌∙◌, subst}
 use Rattle.std.specs.Prelude.{if◌then◌else◌}
 use Rattle.std.specs.Option.{option_map}
 use Rattle.annex_base.specs.declared.kinds.Call.{Call}
 use Rattle.run_data.specs.declared.entry.By.{By}
-use Rattle.run_data.specs.declared.entry.Entry.{Entry}
 use Rattle.run_data.specs.declared.entry.EntryKind.{EntryKind}
 use Rattle.run_data.specs.declared.entry.EntryKind.TheVariants.{Fault, Gain, Gone, Talk}
 use Rattle.run_data.specs.declared.entry.FrameText.{FrameText}
-use Rattle.run_data.specs.declared.entry.FrameText.TheVariants.{Bytes, Closing, Line, Opening}
+use Rattle.run_data.specs.declared.entry.FrameText.TheVariants.{Bytes, Line}
 use Rattle.run_data.specs.declared.entry.FrameView.{FrameView}
 use Rattle.p2p_wire.specs.declared.message.Message.{Message}
-use Rattle.p2p_wire.specs.declared.message.Message.TheVariants.{Failure, Valid}
-use Rattle.p2p_wire.specs.Messages.{message_of, text_of}
+use Rattle.p2p_wire.specs.declared.message.Message.TheVariants.{Valid}
+use Rattle.p2p_wire.specs.Messages.{message_of}
 use Rattle.object_store.specs.Stores.{Parts, with_at}
 use Rattle.node_model.specs.Ends.{end_takes, frames}
 use Rattle.node_model.specs.Look.{Look, Made, first_of}
 use Rattle.node_model.specs.Sessions.{Doing, Takes, Took, line_in, message_said}
-use Rattle.node_model.specs.SessionStep.{Reply, here, on_frame, refuses}
+use Rattle.node_model.specs.SessionStep.{Reply, here, on_frame}
 use Rattle.node_model.specs.SetUp.{SetUp}
 use Rattle.node_model.specs.Slots.{job_of}
 use Rattle.node_model.specs.State.{State}
 use Rattle.node_model.specs.Step.{step}
-use Rattle.run_model.specs.Past.{now}
-use Rattle.driver_model.specs.Driver.{Driver, drops_part, end_to, newest_count, part_at, puts_part}
+use Rattle.driver_model.specs.Driver.{Driver, drops_part, end_to, part_at, puts_part}
 use Rattle.driver_model.specs.Finding.{failed_call}
 use Rattle.driver_model.specs.Turning.{asked_key, filled_key, is_failure, is_valid, put_key, session_key, step_key, store_after, takes_frame, takes_into}
 use Rattle.content_lock.specs.CallsMade.{fewer}
@@ -35,9 +33,8 @@ use Rattle.fleet_model.specs.StepStored.{parts_of_step}
 use Rattle.fleet_model.specs.Stores.{IsStoreOf, IsTold}
 use Rattle.repo_node.specs.Stored.{StoreView}
 use Rattle.fleet_model.proofs.AnswersStored.{Appends, Fits, Leaves, Refuses, ReplyFits, Stays, Talks, frame_fits}
-use Rattle.fleet_model.proofs.DropTakes.{IsHeard, LeavesParts}
+use Rattle.fleet_model.proofs.DropTakes.{LeavesParts}
 use Rattle.fleet_model.proofs.Failing.{answered, unanswered}
-use Rattle.fleet_model.proofs.Going.{GoesOn}
 use Rattle.fleet_model.proofs.Logging.{none_fewer, same_store}
 use Rattle.fleet_model.proofs.StepFinds.{Finds, IsGain, gain_found}
 use Rattle.fleet_model.proofs.StepOrigins.{Answers, Hears, IsAnswer, Origin, TakesNone, origin_of}

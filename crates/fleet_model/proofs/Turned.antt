@@ -1,17 +1,13 @@
 -- A fleet whose node made a turn has come to where the driver is after its own.
-use Rattle.std.proofs.Common.{◌≡◌, ◌≢◌, ℕ, ◌+◌, ◌<◌, ◌≤◌, ◌^◌, Bool, true, false, List, [], ◌∷◌, ◌++◌, Option, Some, None, length, refl, sym, ap, ◌∙◌, subst, arith}
+use Rattle.std.proofs.Common.{◌≡◌, ◌≢◌, ℕ, ◌+◌, ◌<◌, ◌≤◌, ◌^◌, Bool, true, false, List, [], ◌∷◌, ◌++◌, Some, length, refl, sym, ap, ◌∙◌, subst, arith}
 use Rattle.std.specs.Prelude.{◌==◌, drop, reverse, slice_get}
 use Rattle.link_ring.specs.Ends.{EndView}
 use Rattle.run_data.specs.declared.entry.Entry.{Entry}
-use Rattle.run_model.specs.Past.{is_of, now}
+use Rattle.run_model.specs.Past.{now}
 use Rattle.run_model.specs.Run.{IsSmall}
-use Rattle.node_model.specs.Ends.{EndName}
 use Rattle.node_model.specs.Look.{Made, entry_of}
-use Rattle.node_model.specs.State.{State}
-use Rattle.link_flights.specs.Flights.{IsEndIn}
 use Rattle.link_flights.specs.Fleets.{AreEndsIn}
 use Rattle.driver_model.specs.Driver.{Driver, Flight, Given, adds, newest_count, set_up_of, state_at}
-use Rattle.driver_model.specs.Driving.{run_with}
 use Rattle.driver_model.specs.Finding.{after_step, driver_at_turn}
 use Rattle.driver_model.specs.Scripts.{Fits}
 use Rattle.driver_model.specs.Sound.{StaysSound}
@@ -23,7 +19,6 @@ use Rattle.link_flights.specs.Words.{AreAllWorded}
 use Rattle.node_jobs.specs.Running.{words_at}
 use Rattle.fleet_model.specs.Fleets.{AreUnused, FleetView, HasCome, IsNodeOf, links_at}
 use Rattle.fleet_model.specs.Steps.{OneTurns, with_links}
-use Rattle.fleet_model.specs.Stores.{IsStoreOf}
 use Rattle.fleet_model.proofs.Coming.{same, unlike}
 use Rattle.fleet_model.proofs.Going.{GoesOn, entries_go_on, goes_within, others_are}
 use Rattle.fleet_model.proofs.Hearing.{WordLaws, others_hear}

@@ -20,12 +20,12 @@ use Rattle.repo_node.specs.Calls.{lacks_some, shrinks, to_compact, to_merge, to_
 use Rattle.repo_node.specs.Logs.{with_log}
 use Rattle.repo_node.specs.Nodes.{NodeView}
 use Rattle.repo_node.specs.Refusals.{RefusesSo}
-use Rattle.repo_node.specs.Walks.{compact_file, compact_files, current, merge_file, merge_files, over}
+use Rattle.repo_node.specs.Walks.{compact_file, compact_files, merge_file, merge_files, over}
 use Rattle.repo_node.specs.declared.refused.NodeRefused.TheVariants as refusals
 use Rattle.fleet_model.specs.Steps.{StaysStored}
 use Rattle.fleet_model.specs.Stores.{IsStoreOf}
 use Rattle.repo_node.specs.Stored.{StoreView}
-use Rattle.fleet_model.proofs.Failing.{answered, first_of_calls}
+use Rattle.fleet_model.proofs.Failing.{first_of_calls}
 use Rattle.fleet_model.proofs.Logging.{none_fewer, same_store}
 use Rattle.fleet_model.proofs.Noting.{IsRaised, over_store}
 use Rattle.fleet_model.proofs.Placing.{fault_noted}
@@ -56,7 +56,7 @@ write_found : (d : Driver) (r : ℕ) (b : Bool) → find (fails_at d r) (to_writ
 write_found d r false = refl
 write_found d r true = refl
 
-some_left : (xs : List (List ℕ)) → nat_lt 0 (length xs) ≡ not (is_nil xs)
+pub some_left : (xs : List (List ℕ)) → nat_lt 0 (length xs) ≡ not (is_nil xs)
 some_left [] = refl
 some_left (x ∷ xs) = positive (length xs)
   where
@@ -144,7 +144,7 @@ merged {K} tells g d r n m files failed raised stays made well fails = go (fails
 
 -- ---- compacted
 
-any_map : {X Y : Type 0} (p : Y → Bool) (f : X → Y) (xs : List X) → list_any p (map f xs) ≡ list_any (λ x. p (f x)) xs
+pub any_map : {X Y : Type 0} (p : Y → Bool) (f : X → Y) (xs : List X) → list_any p (map f xs) ≡ list_any (λ x. p (f x)) xs
 any_map p f [] = refl
 any_map p f (x ∷ xs) = ap (λ (b : Bool). p (f x) || b) (any_map p f xs)
 
@@ -156,7 +156,7 @@ shrinking tells g d r n raised =
     (λ f. ap (λ (b : Files). nat_lt (length (compact_lines (kind_of (file_of f.0)) (lines_at b (file_path (file_of f.0))))) (length (lines_at b (file_path (file_of f.0))))) raised.entries.branch)
     ∙ ap (list_any (λ f. script.shrinks d r (file_of f.0))) raised.entries.branch)
 
-compacted_nothing : {K : Type 0} (n : NodeView K) (paths : List (List ℕ)) → list_any (λ path. shrinks n (file_of path)) paths ≡ false → compact_files n paths ≡ n
+pub compacted_nothing : {K : Type 0} (n : NodeView K) (paths : List (List ℕ)) → list_any (λ path. shrinks n (file_of path)) paths ≡ false → compact_files n paths ≡ n
 compacted_nothing n [] e = refl
 compacted_nothing {K} n (path ∷ paths) e =
     ap (λ (b : Bool). compact_files (compact_if n (file_of path) b) paths) (or_left (shrinks n (file_of path)) (list_any (λ path. shrinks n (file_of path)) paths) e)

@@ -1,5 +1,5 @@
 -- The lines of another's branch that a repository lacks, and its own outdated ones: file by file, in its node and in the driver.
-use Rattle.std.proofs.Common.{◌≡◌, ℕ, ◌+◌, ◌<◌, Bool, true, false, List, [], ◌∷◌, map, Option, Some, None, refl, sym, ap, ◌∙◌, subst, arith}
+use Rattle.std.proofs.Common.{◌≡◌, ℕ, Bool, true, false, List, [], ◌∷◌, map, Option, Some, None, refl, sym, ap, ◌∙◌, subst, arith}
 use Rattle.std.specs.Prelude.{if◌then◌else◌, length, nat_lt, not}
 use Rattle.std.specs.List.{fold, list_any}
 use Rattle.std.proofs.lemmas.Bool.Decides.{nat_tests}
@@ -12,12 +12,11 @@ use Rattle.union_merge.specs.LineSet.{difference}
 use Rattle.node_model.specs.Files.{compact_lines}
 use Rattle.run_model.specs.Logs as logs
 use Rattle.run_model.specs.Logs.{branch_after}
-use Rattle.run_model.specs.Past.{now}
-use Rattle.driver_model.specs.Driver.{Driver, Given, fails_at, newest_count, notes}
+use Rattle.driver_model.specs.Driver.{Driver, Given, fails_at, notes}
 use Rattle.driver_model.specs.ScriptSteps.{compacts_files, faults, is_nil, merges_files, news, shrinks}
 use Rattle.repo_node.specs.Logs.{with_log}
 use Rattle.repo_node.specs.Nodes.{NodeView, with_entry}
-use Rattle.repo_node.specs.Walks.{compact_file, compact_files, current, merge_file, merge_files}
+use Rattle.repo_node.specs.Walks.{compact_files, current, merge_file, merge_files}
 use Rattle.repo_node.specs.Stored.{StoreView}
 use Rattle.fleet_model.proofs.Noting.{IsRaised, noted}
 

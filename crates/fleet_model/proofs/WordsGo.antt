@@ -1,7 +1,7 @@
 -- The words that a node's jobs have heard go on with the past, by how its jobs go on.
-use Rattle.std.proofs.Common.{◌≡◌, ◌≢◌, ◌⊎◌, inl, inr, ℕ, suc, ◌+◌, ◌<◌, Bool, true, false, List, [], ◌∷◌, ◌++◌, Option, Some, None, length, map, refl, sym, ap, ◌∙◌, subst, arith}
+use Rattle.std.proofs.Common.{◌≡◌, ◌≢◌, ◌⊎◌, inl, inr, ℕ, Bool, true, false, List, [], ◌∷◌, Option, Some, None, map, refl, sym, ap, ◌∙◌, subst, arith}
 use Rattle.std.specs.Prelude.{◌==◌, cond, find, if◌then◌else◌, is_some}
-use Rattle.std.specs.Option.{option_and_then, option_map, option_map_or}
+use Rattle.std.specs.Option.{option_map, option_map_or}
 use Rattle.std.proofs.lemmas.Bool.Decides.{nat_tests}
 use Rattle.std.proofs.lemmas.Option.{same_Some}
 use Rattle.annex_base.specs.Lists.{Each, Member}
@@ -33,7 +33,6 @@ use Rattle.node_jobs.specs.Acting.{word_at}
 use Rattle.node_jobs.specs.Leaving.{heard_at, phase_at}
 use Rattle.node_jobs.specs.Running.{DropJob, job_at, work_now, words_at}
 use Rattle.node_ends.specs.Joined.{end_with}
-use Rattle.node_parts.specs.Jobs.{JobsGoOn}
 use Rattle.node_parts.specs.Parts.{PartsView}
 use Rattle.node_parts.specs.declared.done.Done.{Done}
 use Rattle.race_core.specs.Jobs.{AreJobs, TakesAnswer, keeps_word}

@@ -1,5 +1,5 @@
 -- The word beside what a node sends is the one that its entry found, where it was asked for.
-use Rattle.std.proofs.Common.{◌≡◌, ℕ, Bool, true, false, Option, Some, None, refl, sym, ap, ◌∙◌, subst}
+use Rattle.std.proofs.Common.{◌≡◌, Bool, true, Option, Some, None, refl, ap, ◌∙◌}
 use Rattle.std.specs.Prelude.{if◌then◌else◌}
 use Rattle.annex_base.specs.declared.kinds.Found.{Found}
 use Rattle.annex_base.specs.declared.kinds.Found.TheVariants as found
@@ -13,15 +13,12 @@ use Rattle.run_data.specs.declared.entry.FrameText.{FrameText}
 use Rattle.run_data.specs.declared.entry.FrameText.TheVariants as texts
 use Rattle.run_data.specs.declared.entry.FrameView.{FrameView}
 use Rattle.run_model.specs.Words.{word_of_kind}
-use Rattle.node_model.specs.Ends.{EndName}
 use Rattle.node_model.specs.Jobs.{taken_message}
 use Rattle.node_model.specs.Sessions.{line_in}
-use Rattle.node_ends.specs.declared.sending.Sending.{Sending}
 use Rattle.node_ends.specs.declared.sending.Sending.TheVariants as sendings
-use Rattle.node_ends.specs.Sent.{body_of}
 use Rattle.node_sessions.specs.Words as sessions
 use Rattle.race_core.specs.Jobs.{asks_word}
-use Rattle.link_flights.specs.Words.{TellsWords, is_line}
+use Rattle.link_flights.specs.Words.{TellsWords}
 use Rattle.node_parts.specs.Posting.{word_with}
 
 same_found : (what : Found) → sessions.word_found what ≡ word_of_kind (Check what Rattle.std.specs.Prelude.[])

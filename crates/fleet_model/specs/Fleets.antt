@@ -1,5 +1,5 @@
 -- A fleet of nodes that has done what the driver of scripts has done (own).
-use Rattle.std.specs.Prelude.{◌≡◌, ℕ, ◌≤◌, Bool, List, [], filter, length, reverse, slice_get, Some}
+use Rattle.std.specs.Prelude.{◌≡◌, ℕ, ◌≤◌, List, [], filter, length, reverse, slice_get, Some}
 use Rattle.std.specs.Option.{option_map_or}
 use Rattle.link_ring.specs.Ends.{EndView, fresh}
 use Rattle.node_model.specs.Ends.{EndName}

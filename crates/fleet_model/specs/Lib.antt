@@ -7,3 +7,4 @@ pub mod StepStored
 pub mod Matches
 pub mod Settling
 pub mod Turns
+pub mod Stopping

@@ -1,5 +1,5 @@
 -- How a node stands between two turns, by its own clauses (own).
-use Rattle.std.specs.Prelude.{◌≡◌, ◌<◌, ◌^◌, ℕ, length, Some}
+use Rattle.std.specs.Prelude.{◌≡◌, ◌<◌, ◌^◌, ℕ, length}
 use Rattle.annex_base.specs.Lists.{Each}
 use Rattle.drop_proof.specs.declared.rule.Side.TheVariants.{Local}
 use Rattle.node_model.specs.Jobs.{drop_side}

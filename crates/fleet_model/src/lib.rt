@@ -2,5 +2,7 @@
 #![tactic(auto)]
 
 mod laws;
+mod stops;
 
 pub use laws::{fleets_begin, fleets_do_lines, fleets_settle, fleets_take_turns};
+pub use stops::fleets_stop_at_full_histories;

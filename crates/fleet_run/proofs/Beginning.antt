@@ -66,7 +66,7 @@ told_parts s parts branch owed None ps st P Q c p is = absurd c
 told_parts s parts branch owed (Some contents) None st P Q c p is = absurd p
 told_parts s parts branch owed (Some contents) (Some stored) st P Q c p is = (is.stands contents refl).parts_are
 
-has_parts : {K : Type 0} (tells : K → StoreView) (g : Given) (d : Driver) (r : ℕ) (n : NodeView K) → IsNodeOf tells g d r n → IsWhole tells (raised d n)
+pub has_parts : {K : Type 0} (tells : K → StoreView) (g : Given) (d : Driver) (r : ℕ) (n : NodeView K) → IsNodeOf tells g d r n → IsWhole tells (raised d n)
     → AreParts (set_up_of g d r) (state_of (set_up_of g d r) n.history) n.parts
 has_parts tells g d r n is whole =
     told_parts (set_up_of g d r) n.parts n.branch n.owed (tells n.keeper).contents (tells n.keeper).parts (state_of (set_up_of g d r) n.history) _ _ is.store.contents is.store.parts (whole.state (set_up_of g d r) is.setup)
@@ -117,11 +117,11 @@ pub record FailsNext {K : Type 0} (tells : K → StoreView) (call : Call) (n m :
   pub parts : (tells m.keeper).parts ≡ (tells n.keeper).parts
   pub failing : (tells m.keeper).failing ≡ option_map (one_more call) (tells n.keeper).failing
 
-none_left : {X : Type 0} (xs : List X) → drop (length xs) xs ≡ []
+pub none_left : {X : Type 0} (xs : List X) → drop (length xs) xs ≡ []
 none_left [] = refl
 none_left (x ∷ xs) = none_left xs
 
-and_none : {X : Type 0} (xs : List X) → xs ++ [] ≡ xs
+pub and_none : {X : Type 0} (xs : List X) → xs ++ [] ≡ xs
 and_none [] = refl
 and_none (x ∷ xs) = ap (λ ys. x ∷ ys) (and_none xs)
 

@@ -4,6 +4,7 @@ use Rattle.std.specs.Prelude.{◌==◌, max, reverse, slice_get}
 use Rattle.std.proofs.lemmas.Bool.Decides.{nat_tests}
 use Rattle.std.proofs.lemmas.List.{reverse-reverse}
 use Rattle.std.proofs.lemmas.Option.{slice_get_within}
+use Rattle.run_data.specs.Histories.{most_entries}
 use Rattle.run_data.specs.declared.entry.Entry.{Entry}
 use Rattle.run_data.specs.declared.run.Run.{Run}
 use Rattle.run_model.specs.Past.{now}
@@ -52,6 +53,7 @@ pub record IsStep {K : Type 0} (tells : K → StoreView) (d : Driver) (r : ℕ) 
   pub whole : IsWhole tells (raised d before)
   pub early : left.time ≤ 1000000000000
   pub counted : left.count < 2 ^ 62
+  pub few : length left.history ≤ most_entries
 
 -- the run with these entries behind its own
 abbrev with_more : Run → List Entry → Run
@@ -93,6 +95,7 @@ is_step {K} tells g d r was up after Holds come there call =
       whole = subst (λ (x : NodeView K). IsWhole tells x) is (call.raises.whole n p found.1 found_up.1);
       early = call.told.time m found_left.1;
       counted = call.told.counted m found_left.1;
+      few = call.told.few m found_left.1;
     }
 
 -- it goes on so, where the laws have it come to each step of the driver

@@ -87,7 +87,7 @@ not_gone tells f = record { stands = λ g d stands. stands; idle_is = λ g d sta
 abbrev pub idle_then : ℕ → ℕ → ℕ → ℕ
 idle_then before after idle = if before == after then idle + 1 else 0
 
-below : (k : ℕ) → k < 2 → nat_le 2 k ≡ false
+pub below : (k : ℕ) → k < 2 → nat_le 2 k ≡ false
 below k less = grind (arith, nat_tests)
 
 reached : (k : ℕ) → 2 ≤ k → nat_le 2 k ≡ true

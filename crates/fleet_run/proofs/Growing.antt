@@ -105,7 +105,7 @@ compact_grows done n m = walk_grows done n m (compact_files n) (keys_of n.branch
 placed_grow : {K : Type 0} (n : NodeView K) (keeper : K) (key : List ℕ) (size : ℕ) → Grows n (with_placed n keeper key size)
 placed_grow n keeper key size = onward n (with_gain n keeper key size) (with_placed n keeper key size) (entry_grows n keeper n.branch _ []) (longer (with_gain n keeper key size).history _)
 
-come_grows : {K : Type 0} (call : Call) (key bytes : List ℕ) (n : NodeView K) → Grows n (node_at call key bytes n)
+pub come_grows : {K : Type 0} (call : Call) (key bytes : List ℕ) (n : NodeView K) → Grows n (node_at call key bytes n)
 come_grows calls.PutFile key bytes n = entry_grows n n.keeper n.branch _ []
 come_grows call key bytes n = same n n refl
 

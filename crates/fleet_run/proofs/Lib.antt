@@ -1,4 +1,5 @@
 -- The lemmas of this crate.
+mod Copies
 mod Called
 mod Writing
 mod Placing
@@ -11,3 +12,6 @@ mod Driving
 mod Declared
 mod Whole
 mod Begun
+mod Full
+mod Ending
+mod Cutting

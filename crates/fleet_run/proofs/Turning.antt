@@ -75,7 +75,7 @@ past_of tells g d f come = ap (λ (run : Run). reverse run.entries) come.run ∙
 few_past : {K : Type 0} (tells : K → StoreView) (g : Given) (d : Driver) (f : FleetView K) → HasCome tells g d f → length f.run.entries < 2 ^ 30 → length d.past < 2 ^ 30
 few_past tells g d f come few = subst (λ (n : ℕ). n < 2 ^ 30) (sym (length-reverse f.run.entries) ∙ ap length (past_of tells g d f come)) few
 
-node_raised : {K : Type 0} (tells : K → StoreView) (g : Given) (d : Driver) (r had : ℕ) (was up : FleetView K) (n p : NodeView K) → HasCome tells g d was → Raises tells r had was up
+pub node_raised : {K : Type 0} (tells : K → StoreView) (g : Given) (d : Driver) (r had : ℕ) (was up : FleetView K) (n p : NodeView K) → HasCome tells g d was → Raises tells r had was up
     → slice_get was.nodes r ≡ Some n → slice_get up.nodes r ≡ Some p → p ≡ raised d n
 node_raised {K} tells g d r had was up n p come raises at_n at_p =
     subst (λ (past : List Entry). p ≡ record n { time = max n.time (now past); count = max n.count (newest_count past) }) (past_of tells g d was come) (raises.node n p at_n at_p)
@@ -96,7 +96,7 @@ parts_told tells d r s n store state = where_told d r (tells n.keeper) (AreParts
     parts_in : (o : Option Contents) → ForSome o (λ c. nodes.Stands s n.parts n.owed c (nodes.state_of s n.history)) → ForSome o (λ c. AreParts s (nodes.state_of s n.history) n.parts)
     parts_in o stands c is = (stands c is).parts_are
 
-stands_well : {K : Type 0} (tells : K → StoreView) (g : Given) (d : Driver) (r had : ℕ) (was up : FleetView K) (n p : NodeView K) → HasCome tells g d was → Raises tells r had was up
+pub stands_well : {K : Type 0} (tells : K → StoreView) (g : Given) (d : Driver) (r had : ℕ) (was up : FleetView K) (n p : NodeView K) → HasCome tells g d was → Raises tells r had was up
     → slice_get was.nodes r ≡ Some n → slice_get up.nodes r ≡ Some p → StandsWell g d r n
 stands_well {K} tells g d r had was up n p come raises at_n at_p =
     let own = come.each r n at_n in

@@ -1,15 +1,22 @@
 -- Which commands a fleet may be given (own).
-use Rattle.std.specs.Prelude.{◌≡◌, ◌≤◌, true, length, reverse, is_some, None}
+use Rattle.std.specs.Prelude.{◌≡◌, ℕ, ◌≤◌, true, false, length, reverse, is_some, Some, None}
 use Rattle.std.specs.Option.{option_map_or}
+use Rattle.run_data.specs.Histories.{most_entries}
+use Rattle.run_data.specs.declared.run.Run.{Run}
 use Rattle.run_model.specs.Past.{now}
+use Rattle.run_model.specs.Run.{IsRun}
+use Rattle.repo_node.specs.Stored.{StoreView}
 use Rattle.script_lang.specs.declared.command.Command.{Command}
 use Rattle.script_lang.specs.Context.{Context}
 use Rattle.script_lang.specs.Limits.{first_limit}
 use Rattle.script_lang.specs.Standing as script
 use Rattle.driver_model.specs.Driver.{Driver, Given}
 use Rattle.driver_model.specs.Driving.{does, with_mark}
+use Rattle.driver_model.specs.Limits.{asks_first, count_of, is_full, meets_limit, run_to_limit}
+use Rattle.driver_model.specs.Lines.{Line}
 use Rattle.driver_script.specs.Lines.{line_of}
 use Rattle.fleet_model.specs.Fleets.{FleetView}
+use Rattle.fleet_run.specs.Standing.{Stands}
 
 -- Its line stands behind lines of a script that declare no more repositories than there are nodes, and that waited until now; it
 -- passes no limit, and no part is missing for it.
@@ -28,3 +35,24 @@ does_command command g d = option_map_or (λ line. does g line d) (line_of g.rep
 -- and that its line is done
 abbrev pub does_and_marks : Command → Given → Driver → Driver
 does_and_marks command g d = with_mark (does_command command g d)
+
+-- ---- where a history is full
+
+-- The line meets a full history, that of r; the run is the driver's up to there, and is one of repositories.
+pub record IsCut (g : Given) (line : Line) (d : Driver) (r : ℕ) (run : Run) : Type 0 where
+  pub meets : meets_limit g line d ≡ true
+  pub run_is : run ≡ run_to_limit g line d
+  pub lawful : IsRun run
+  pub full : count_of (reverse run.entries) r ≡ most_entries
+
+-- wherever the driver was, the command's line does so
+abbrev pub CutsAt : {K : Type 0} → (K → StoreView) → ℕ → Command → FleetView K → FleetView K → Type 0
+CutsAt tells r command was after = (g : Given) (d : Driver) (line : Line) → Stands tells g d was → line_of g.repos command ≡ Some line → IsCut g line d r after.run
+
+-- wherever the driver was, the command's line meets no full history
+abbrev pub MeetsNone : {K : Type 0} → (K → StoreView) → Command → FleetView K → Type 0
+MeetsNone tells command was = (g : Given) (d : Driver) (line : Line) → Stands tells g d was → line_of g.repos command ≡ Some line → meets_limit g line d ≡ false
+
+-- wherever the driver was, the repository whose store the command's line asks first may make another entry; for private contracts
+abbrev pub HasRoomFor : {K : Type 0} → (K → StoreView) → Command → FleetView K → Type 0
+HasRoomFor tells command was = (g : Given) (d : Driver) (line : Line) → Stands tells g d was → line_of g.repos command ≡ Some line → is_full d.past (asks_first line) ≡ false

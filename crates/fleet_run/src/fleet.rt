@@ -1,5 +1,5 @@
 //! A fleet, and the run so far.
-ghost use Rattle.std.specs.Prelude.{◌≡◌, All, [], length, map, IfOk, OnOk};
+ghost use Rattle.std.specs.Prelude.{◌≡◌, ℕ, All, [], length, map, Err, IfOk, OnOk};
 ghost use Rattle.run_data.specs.declared.run.RepoView.{RepoView};
 ghost use Rattle.object_store.specs.declared.memory.MemoryKeeper.{MemoryKeeper};
 ghost use Rattle.repo_node.specs.Stored.{HasNothing, store_view};
@@ -8,7 +8,7 @@ ghost use Rattle.driver_model.specs.Driver.{Given, at_first};
 ghost use Rattle.driver_script.specs.Lines.{repos_of};
 ghost use Rattle.fleet_model.specs.Matches.{DecidesMatches};
 ghost use Rattle.fleet_model.specs.Stores.{IsStoreOf};
-ghost use Rattle.fleet_run.specs.Commands.{MayBeDone, does_and_marks};
+ghost use Rattle.fleet_run.specs.Commands.{CutsAt, MayBeDone, MeetsNone, does_and_marks};
 ghost use Rattle.fleet_run.specs.Standing.{GoesOn, Stands};
 
 use crate::declaring::{memory_keepers, repositories};
@@ -119,11 +119,13 @@ impl<K: FailingKeeper> Fleet<K> {
         })
     }
 
-    /// Does what the line says, and marks how many entries stand after it. After a refusal the entries made so far stand; from then
-    /// on each line is refused as for want of memory.
+    /// Does what the line says, and marks how many entries stand after it. It is refused as Full where the line meets a full history.
+    /// After a refusal the entries made so far stand; from then on each line is refused as for want of memory.
     pub fn line(&mut self, command: &Command) -> Result<(), FleetStop>
         requires { MayBeDone self.old command.now }
         ensures ok { OnOk result (GoesOn (λ k. store_view (K.contents k) (K.parts k) (K.failing k) (K.faults k)) (does_and_marks command.now) self.old self.new) }
+        ensures within { OnOk result (MeetsNone (λ k. store_view (K.contents k) (K.parts k) (K.failing k) (K.faults k)) command.now self.old) }
+        ensures full { (r : ℕ) → result ≡ Err (FleetStop.Full r) → CutsAt (λ k. store_view (K.contents k) (K.parts k) (K.failing k) (K.faults k)) r command.now self.old self.new }
     {
         if self.stopped {
             return Err(FleetStop::NoMemory);

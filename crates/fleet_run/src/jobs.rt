@@ -1,17 +1,18 @@
 //! Jobs that begin, store calls that will fail, and time that passes.
-ghost use Rattle.std.specs.Prelude.{◌≡◌, ◌+◌, ◌<◌, ◌≤◌, length, reverse, None, OnOk};
+ghost use Rattle.std.specs.Prelude.{◌≡◌, ℕ, ◌+◌, ◌<◌, ◌≤◌, length, reverse, None, Err, OnOk};
 ghost use Rattle.annex_key.specs.View.{first_fault};
 ghost use Rattle.repo_node.specs.Stored.{store_view};
 ghost use Rattle.run_model.specs.Past.{now};
 ghost use Rattle.driver_model.specs.Rounds.{settles};
 ghost use Rattle.driver_model.specs.ScriptSteps.{begins, waits, will_fail};
-ghost use Rattle.fleet_run.specs.Standing.{GoesOn, IsDriven};
+ghost use Rattle.fleet_run.specs.Standing.{EndsAtFull, GoesOn, IsDriven};
+ghost use Rattle.fleet_run.specs.Telling.{OnlyEntriesChange};
 
 use crate::running::Running;
-use crate::stop::{FleetStop, after_begin};
+use crate::stop::FleetStop;
 use annex_base::{Call, Items};
-use driver_model::drivers_stay_sound;
-use fleet_model::fleets_do_lines;
+use driver_model::{drivers_only_add, drivers_stay_sound, runs_are_cut_where_histories_are_full};
+use fleet_model::{fleets_do_lines, fleets_stop_at_full_histories};
 use object_store::FailingKeeper;
 use run_data::{Entry, EntryKind, Job, JobKind};
 
@@ -27,15 +28,18 @@ impl<K: FailingKeeper> Running<K> {
         requires peer { job.now.peer ≡ None }
         requires key { first_fault job.now.key ≡ None }
         ensures ok { OnOk result (GoesOn (λ k. store_view (K.contents k) (K.parts k) (K.failing k) (K.faults k)) (λ g d. begins repo job.now d) self.old self.new) }
+        ensures full { (r : ℕ) → result ≡ Err (FleetStop.Full r) → EndsAtFull (λ k. store_view (K.contents k) (K.parts k) (K.failing k) (K.faults k)) r (λ g d. begins repo job.now d) self.old self.new }
+        ensures rest { OnlyEntriesChange self.old self.new }
     {
         // Laws, for the proof.
         fleets_do_lines::<K>();
         drivers_stay_sound();
+        fleets_stop_at_full_histories::<K>();
         let job = job.clone()?;
         let had = self.raise(repo)?;
         let begun = self.nodes.begin(repo as usize, job);
         self.tell(repo, had)?;
-        after_begin(repo, begun)
+        self.after_begin(repo, begun)
     }
 
     /// Such a drop begins, and then all settles.
@@ -46,7 +50,12 @@ impl<K: FailingKeeper> Running<K> {
         requires peer { job.now.peer ≡ None }
         requires key { first_fault job.now.key ≡ None }
         ensures ok { OnOk result (GoesOn (λ k. store_view (K.contents k) (K.parts k) (K.failing k) (K.faults k)) (λ g d. settles g (begins repo job.now d)) self.old self.new) }
+        ensures full { (r : ℕ) → result ≡ Err (FleetStop.Full r) → EndsAtFull (λ k. store_view (K.contents k) (K.parts k) (K.failing k) (K.faults k)) r (λ g d. settles g (begins repo job.now d)) self.old self.new }
+        ensures rest { OnlyEntriesChange self.old self.new }
     {
+        // Laws, for the proof.
+        drivers_only_add();
+        runs_are_cut_where_histories_are_full();
         self.begins(repo, job)?;
         self.settles()
     }
@@ -56,6 +65,8 @@ impl<K: FailingKeeper> Running<K> {
         requires there { repo < length self.old.nodes }
         requires driven { IsDriven (λ k. store_view (K.contents k) (K.parts k) (K.failing k) (K.faults k)) self.old }
         ensures ok { OnOk result (GoesOn (λ k. store_view (K.contents k) (K.parts k) (K.failing k) (K.faults k)) (λ g d. will_fail repo call d) self.old self.new) }
+        ensures full { (r : ℕ) → result ≡ Err (FleetStop.Full r) → ⊥ }
+        ensures rest { OnlyEntriesChange self.old self.new }
     {
         // Laws, for the proof.
         fleets_do_lines::<K>();
@@ -69,6 +80,8 @@ impl<K: FailingKeeper> Running<K> {
         requires driven { IsDriven (λ k. store_view (K.contents k) (K.parts k) (K.failing k) (K.faults k)) self.old }
         requires early { now (reverse self.old.run.entries) + milliseconds ≤ 1000000000000 }
         ensures ok { OnOk result (GoesOn (λ k. store_view (K.contents k) (K.parts k) (K.failing k) (K.faults k)) (λ g d. waits milliseconds d) self.old self.new) }
+        ensures full { (r : ℕ) → result ≡ Err (FleetStop.Full r) → ⊥ }
+        ensures rest { OnlyEntriesChange self.old self.new }
     {
         // Laws, for the proof.
         fleets_do_lines::<K>();

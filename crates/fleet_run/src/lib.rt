@@ -1,8 +1,8 @@
 //! A fleet: the nodes of a script's repositories, driven line by line.
 #![tactic(auto)]
 
+mod answers;
 mod contents;
-mod copying;
 mod declaring;
 mod fleet;
 mod jobs;

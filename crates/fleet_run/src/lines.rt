@@ -1,12 +1,13 @@
 //! What a fleet does at each form of line.
-ghost use Rattle.std.specs.Prelude.{◌≡◌, OnOk};
+ghost use Rattle.std.specs.Prelude.{◌≡◌, ℕ, Err, OnOk};
 ghost use Rattle.repo_node.specs.Stored.{store_view};
-ghost use Rattle.fleet_run.specs.Commands.{MayBeDone, does_and_marks, does_command};
+ghost use Rattle.fleet_run.specs.Commands.{CutsAt, HasRoomFor, MayBeDone, MeetsNone, does_and_marks, does_command};
 ghost use Rattle.fleet_run.specs.Standing.{GoesOn, IsDriven};
 
 use crate::running::Running;
 use crate::stop::FleetStop;
 use annex_key::key_texts_have_no_fault;
+use driver_model::runs_are_cut_where_histories_are_full;
 use log_lines::LogKind;
 use object_store::FailingKeeper;
 use script_lang::Command;
@@ -17,8 +18,14 @@ impl<K: FailingKeeper> Running<K> {
         requires driven { IsDriven (λ k. store_view (K.contents k) (K.parts k) (K.failing k) (K.faults k)) self.old }
         requires may { MayBeDone self.old command.now }
         ensures ok { OnOk result (GoesOn (λ k. store_view (K.contents k) (K.parts k) (K.failing k) (K.faults k)) (does_and_marks command.now) self.old self.new) }
+        ensures within { OnOk result (MeetsNone (λ k. store_view (K.contents k) (K.parts k) (K.failing k) (K.faults k)) command.now self.old) }
+        ensures full { (r : ℕ) → result ≡ Err (FleetStop.Full r) → CutsAt (λ k. store_view (K.contents k) (K.parts k) (K.failing k) (K.faults k)) r command.now self.old self.new }
     {
+        // A law, for the proof.
+        runs_are_cut_where_histories_are_full();
         self.does(command)?;
+        // For the proof: no history is longer than it may be.
+        self.nodes.histories_are_few();
         self.mark()?;
         Ok(())
     }
@@ -28,9 +35,12 @@ impl<K: FailingKeeper> Running<K> {
         requires driven { IsDriven (λ k. store_view (K.contents k) (K.parts k) (K.failing k) (K.faults k)) self.old }
         requires may { MayBeDone self.old command.now }
         ensures ok { OnOk result (GoesOn (λ k. store_view (K.contents k) (K.parts k) (K.failing k) (K.faults k)) (does_command command.now) self.old self.new) }
+        ensures room { OnOk result (HasRoomFor (λ k. store_view (K.contents k) (K.parts k) (K.failing k) (K.faults k)) command.now self.old) }
+        ensures full { (r : ℕ) → result ≡ Err (FleetStop.Full r) → CutsAt (λ k. store_view (K.contents k) (K.parts k) (K.failing k) (K.faults k)) r command.now self.old self.new }
     {
-        // A law, for the proof.
+        // Laws, for the proof.
         key_texts_have_no_fault();
+        runs_are_cut_where_histories_are_full();
         match command {
             Command::Numcopies { repo, number } => {
                 self.sets_number(*repo, LogKind::Numcopies, *number)

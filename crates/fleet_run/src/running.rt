@@ -7,9 +7,8 @@ ghost use Rattle.repo_node.specs.Nodes.{NodeView};
 ghost use Rattle.repo_node.specs.Stored.{store_view};
 ghost use Rattle.fleet_model.specs.Turns.{IsWhole};
 ghost use Rattle.fleet_run.specs.Standing.{GoesOn, IsDriven};
-ghost use Rattle.fleet_run.specs.Telling.{Raises, Tells};
+ghost use Rattle.fleet_run.specs.Telling.{OnlyEntriesChange, Raises, Tells};
 
-use crate::copying::copy_entry;
 use annex_base::{Items, NoMemory};
 use driver_model::drivers_stay_sound;
 use fleet_model::fleets_do_lines;
@@ -37,12 +36,19 @@ impl<K: FailingKeeper> Model for Running<K> {
     ghost view = { λ f. record { nodes = f.nodes; run = f.run } };
 }
 
+/// A copy of the entry.
+fn copied(entry: &Entry) -> Result<Entry, NoMemory>
+    ensures { IfOk result (λ copy. copy ≡ entry.now) }
+{
+    Ok(entry.clone()?)
+}
+
 /// Adds copies of the entries.
-fn add_copies(alloc: Global, entries: &mut Items<Entry>, made: &[Entry]) -> Result<(), NoMemory>
+fn add_copies(entries: &mut Items<Entry>, made: &[Entry]) -> Result<(), NoMemory>
     ensures ok { OnOk result (entries.new ≡ entries.old ++ made.now) }
 {
     for entry in made {
-        entries.push(copy_entry(alloc, entry)?)?;
+        entries.push(copied(entry)?)?;
     }
     Ok(())
 }
@@ -89,6 +95,7 @@ impl<K: FailingKeeper> Running<K> {
         requires driven { IsDriven (λ k. store_view (K.contents k) (K.parts k) (K.failing k) (K.faults k)) self.old }
         ensures ok { IfOk result (λ had. Raises (λ k. store_view (K.contents k) (K.parts k) (K.failing k) (K.faults k)) repo had self.old self.new) }
         ensures err { OnErr result (self.new ≡ self.old) }
+        ensures run { self.new.run ≡ self.old.run }
     {
         if self.made() >= MOST_ENTRIES {
             return Err(NoMemory);
@@ -106,10 +113,11 @@ impl<K: FailingKeeper> Running<K> {
         requires had { (n : NodeView K) → slice_get self.old.nodes repo ≡ Some n → had ≤ length n.history }
         ensures ok { OnOk result (Tells (λ k. store_view (K.contents k) (K.parts k) (K.failing k) (K.faults k)) repo had self.old self.new) }
         ensures nodes { self.new.nodes ≡ self.old.nodes }
+        ensures rest { OnlyEntriesChange self.old self.new }
     {
         self.see(repo);
         let (_, made) = self.nodes.node(repo as usize).history().split_at(had);
-        add_copies(self.alloc, &mut self.run.entries, made)
+        add_copies(&mut self.run.entries, made)
     }
 
     /// Marks how many entries stand after a line.

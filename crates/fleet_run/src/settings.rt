@@ -1,5 +1,5 @@
 //! The settings that nodes write into their logs.
-ghost use Rattle.std.specs.Prelude.{◌≡◌, ◌≢◌, ◌<◌, length, OnOk};
+ghost use Rattle.std.specs.Prelude.{◌≡◌, ◌≢◌, ℕ, ◌<◌, length, Err, OnOk};
 ghost use Rattle.annex_base.specs.Lines.{IsOneLine};
 ghost use Rattle.annex_base.specs.Lists.{Each};
 ghost use Rattle.log_lines.specs.declared.entry.LogKind.TheVariants as kinds;
@@ -8,7 +8,8 @@ ghost use Rattle.log_lines.specs.declared.entry.Value.TheVariants as values;
 ghost use Rattle.run_data.specs.Repos.{id_of};
 ghost use Rattle.repo_node.specs.Stored.{store_view};
 ghost use Rattle.driver_model.specs.ScriptSteps.{sets};
-ghost use Rattle.fleet_run.specs.Standing.{GoesOn, IsDriven};
+ghost use Rattle.fleet_run.specs.Standing.{EndsAtFull, GoesOn, IsDriven};
+ghost use Rattle.fleet_run.specs.Telling.{OnlyEntriesChange};
 
 use crate::running::Running;
 use crate::stop::FleetStop;
@@ -37,6 +38,8 @@ impl<K: FailingKeeper> Running<K> {
         requires driven { IsDriven (λ k. store_view (K.contents k) (K.parts k) (K.failing k) (K.faults k)) self.old }
         requires kind { kind ≢ kinds.Location }
         ensures ok { OnOk result (GoesOn (λ k. store_view (K.contents k) (K.parts k) (K.failing k) (K.faults k)) (λ g d. sets g repo kind topics.Whole (values.Number number) d) self.old self.new) }
+        ensures full { (r : ℕ) → result ≡ Err (FleetStop.Full r) → EndsAtFull (λ k. store_view (K.contents k) (K.parts k) (K.failing k) (K.faults k)) r (λ g d. sets g repo kind topics.Whole (values.Number number) d) self.old self.new }
+        ensures rest { OnlyEntriesChange self.old self.new }
     {
         self.sets(repo, kind, Topic::Whole, Value::Number(number))
     }
@@ -52,6 +55,8 @@ impl<K: FailingKeeper> Running<K> {
         requires target { target < length self.old.nodes }
         requires driven { IsDriven (λ k. store_view (K.contents k) (K.parts k) (K.failing k) (K.faults k)) self.old }
         ensures ok { OnOk result (GoesOn (λ k. store_view (K.contents k) (K.parts k) (K.failing k) (K.faults k)) (λ g d. sets g repo kinds.Trust (topics.Repo (id_of g.repos target)) (values.Level level) d) self.old self.new) }
+        ensures full { (r : ℕ) → result ≡ Err (FleetStop.Full r) → EndsAtFull (λ k. store_view (K.contents k) (K.parts k) (K.failing k) (K.faults k)) r (λ g d. sets g repo kinds.Trust (topics.Repo (id_of g.repos target)) (values.Level level) d) self.old self.new }
+        ensures rest { OnlyEntriesChange self.old self.new }
     {
         let topic = Topic::Repo(self.id(target));
         self.sets(repo, LogKind::Trust, topic, Value::Level(level))
@@ -64,6 +69,8 @@ impl<K: FailingKeeper> Running<K> {
         requires driven { IsDriven (λ k. store_view (K.contents k) (K.parts k) (K.failing k) (K.faults k)) self.old }
         requires line { IsOneLine text.now }
         ensures ok { OnOk result (GoesOn (λ k. store_view (K.contents k) (K.parts k) (K.failing k) (K.faults k)) (λ g d. sets g repo kinds.Uuid (topics.Repo (id_of g.repos target)) (values.Text text.now) d) self.old self.new) }
+        ensures full { (r : ℕ) → result ≡ Err (FleetStop.Full r) → EndsAtFull (λ k. store_view (K.contents k) (K.parts k) (K.failing k) (K.faults k)) r (λ g d. sets g repo kinds.Uuid (topics.Repo (id_of g.repos target)) (values.Text text.now) d) self.old self.new }
+        ensures rest { OnlyEntriesChange self.old self.new }
     {
         let topic = Topic::Repo(self.id(target));
         let text = text.clone()?;
@@ -82,6 +89,8 @@ impl<K: FailingKeeper> Running<K> {
         requires driven { IsDriven (λ k. store_view (K.contents k) (K.parts k) (K.failing k) (K.faults k)) self.old }
         requires lines { Each IsOneLine groups.now }
         ensures ok { OnOk result (GoesOn (λ k. store_view (K.contents k) (K.parts k) (K.failing k) (K.faults k)) (λ g d. sets g repo kinds.Group (topics.Repo (id_of g.repos target)) (values.Groups groups.now) d) self.old self.new) }
+        ensures full { (r : ℕ) → result ≡ Err (FleetStop.Full r) → EndsAtFull (λ k. store_view (K.contents k) (K.parts k) (K.failing k) (K.faults k)) r (λ g d. sets g repo kinds.Group (topics.Repo (id_of g.repos target)) (values.Groups groups.now) d) self.old self.new }
+        ensures rest { OnlyEntriesChange self.old self.new }
     {
         let topic = Topic::Repo(self.id(target));
         let groups = groups.clone()?;

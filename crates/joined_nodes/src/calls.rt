@@ -18,13 +18,14 @@ ghost use Rattle.run_data.specs.Files.{file_of};
 ghost use Rattle.run_data.specs.declared.entry.EntryKind.TheVariants.{Begin};
 ghost use Rattle.union_merge.specs.Branch.{Files};
 ghost use Rattle.union_merge.specs.LineSet.{IsLine};
-ghost use Rattle.repo_node.specs.Calls.{IsDoneBy, Makes, StopsAt, to_compact, to_log, to_merge, to_place, to_place_part};
+ghost use Rattle.repo_node.specs.Calls.{IsDoneBy, Makes, MeetsFull, MeetsFullBehind, StopsAt, lacks_of, lacks_some, shrinks_at, to_compact, to_log, to_merge, to_place, to_place_part};
 ghost use Rattle.content_lock.specs.CallsMade.{fewer};
 ghost use Rattle.repo_node.specs.Debts.{failed_put};
 ghost use Rattle.repo_node.specs.Logs.{IsLogOf, log_of, stamped_by, with_lines};
 ghost use Rattle.repo_node.specs.Nodes.{Fits, NodeView, told_of, with_entry};
 ghost use Rattle.repo_node.specs.Placing.{IsPlaced, IsTaken, PartAfter, StopsBefore, StopsPlacing};
-ghost use Rattle.repo_node.specs.Refusals.{RefusesSo, most_entries};
+ghost use Rattle.repo_node.specs.Refusals.{RefusesSo};
+ghost use Rattle.run_data.specs.Histories.{most_entries};
 ghost use Rattle.repo_node.specs.Stored.{TellsSame, store_view};
 ghost use Rattle.repo_node.specs.TurnCalls.{step_calls};
 ghost use Rattle.repo_node.specs.Turning.{Adds, HasStep, IsIdle, StepsBy};
@@ -111,6 +112,7 @@ impl<K: Keeper> Nodes<K> {
         ensures later { AtNode repo self.old self.new (λ was now. K.faults was.keeper ≤ K.faults now.keeper) }
         ensures cause { AtNode repo self.old self.new (λ was now. IsErrOf result NodeRefused.StoreFault → Rose (K.faults was.keeper) (K.faults now.keeper)) }
         ensures calls { AtNode repo self.old self.new (λ was now. Makes (to_log was (file_of path.now) (line.now ∷ [])) calls.PutFile result (K.failing was.keeper) (K.failing now.keeper)) }
+        ensures full { AtNode repo self.old self.new (λ was now. IsErrOf result NodeRefused.Full → lacks_some was (file_of path.now) (line.now ∷ []) ≡ true) }
         ensures others { (i : ℕ) → i ≢ repo → slice_get self.new i ≡ slice_get self.old i }
         ensures count { length self.new ≡ length self.old }
     {
@@ -137,6 +139,7 @@ impl<K: Keeper> Nodes<K> {
         ensures later { AtNode repo self.old self.new (λ was now. K.faults was.keeper ≤ K.faults now.keeper) }
         ensures cause { AtNode repo self.old self.new (λ was now. IsErrOf result NodeRefused.StoreFault → Rose (K.faults was.keeper) (K.faults now.keeper)) }
         ensures calls { AtNode repo self.old self.new (λ was now. Makes (to_log was (log_of kind (option_copied key.entry)) (line_text kind (stamped_by was kind (option_copied key.entry) entry.now) ∷ [])) calls.PutFile result (K.failing was.keeper) (K.failing now.keeper)) }
+        ensures full { AtNode repo self.old self.new (λ was now. IsErrOf result NodeRefused.Full → lacks_some was (log_of kind (option_copied key.entry)) (line_text kind (stamped_by was kind (option_copied key.entry) entry.now) ∷ []) ≡ true) }
         ensures others { (i : ℕ) → i ≢ repo → slice_get self.new i ≡ slice_get self.old i }
         ensures count { length self.new ≡ length self.old }
     {
@@ -157,6 +160,7 @@ impl<K: Keeper> Nodes<K> {
         ensures cause { AtNode repo self.old self.new (λ was now. IsErrOf result NodeRefused.StoreFault → Rose (K.faults was.keeper) (K.faults now.keeper)) }
         ensures calls { (other : NodeView K) → slice_get self.old from ≡ Some other → AtNode repo self.old self.new (λ was now. Makes (to_merge was other.branch) calls.PutFile result (K.failing was.keeper) (K.failing now.keeper)) }
         ensures alone { AtNode repo self.old self.new (λ was now. IsErrOf result NodeRefused.StoreFault → ForSome (K.failing was.keeper) (λ failing. RefusesSo NodeRefused.StoreFault calls.PutFile was now)) }
+        ensures full { (other : NodeView K) → slice_get self.old from ≡ Some other → AtNode repo self.old self.new (λ was now. IsErrOf result NodeRefused.Full → MeetsFull (merge_files was) lacks_of other.branch (K.failing was.keeper) (K.failing now.keeper) was now) }
         ensures others { (i : ℕ) → i ≢ repo → slice_get self.new i ≡ slice_get self.old i }
         ensures count { length self.new ≡ length self.old }
     {
@@ -182,6 +186,7 @@ impl<K: Keeper> Nodes<K> {
         ensures calls { (files : Files) → IsBundle bytes.now files → AtNode repo self.old self.new (λ was now. Makes (to_merge was files) calls.PutFile result (K.failing was.keeper) (K.failing now.keeper)) }
         ensures left { AtNode repo self.old self.new (λ was now. K.failing now.keeper ≡ option_map (fewer (failed_put result)) (K.failing was.keeper)) }
         ensures alone { AtNode repo self.old self.new (λ was now. IsErrOf result NodeRefused.StoreFault → ForSome (K.failing was.keeper) (λ failing. RefusesSo NodeRefused.StoreFault calls.PutFile was now)) }
+        ensures full { (files : Files) → IsBundle bytes.now files → AtNode repo self.old self.new (λ was now. IsErrOf result NodeRefused.Full → MeetsFull (merge_files was) lacks_of files (K.failing was.keeper) (K.failing now.keeper) was now) }
         ensures others { (i : ℕ) → i ≢ repo → slice_get self.new i ≡ slice_get self.old i }
         ensures count { length self.new ≡ length self.old }
     {
@@ -202,6 +207,7 @@ impl<K: Keeper> Nodes<K> {
         ensures cause { AtNode repo self.old self.new (λ was now. IsErrOf result NodeRefused.StoreFault → Rose (K.faults was.keeper) (K.faults now.keeper)) }
         ensures calls { AtNode repo self.old self.new (λ was now. Makes (to_compact was) calls.PutFile result (K.failing was.keeper) (K.failing now.keeper)) }
         ensures alone { AtNode repo self.old self.new (λ was now. IsErrOf result NodeRefused.StoreFault → ForSome (K.failing was.keeper) (λ failing. RefusesSo NodeRefused.StoreFault calls.PutFile was now)) }
+        ensures full { AtNode repo self.old self.new (λ was now. IsErrOf result NodeRefused.Full → MeetsFull (compact_files was) shrinks_at (keys_of was.branch) (K.failing was.keeper) (K.failing now.keeper) was now) }
         ensures others { (i : ℕ) → i ≢ repo → slice_get self.new i ≡ slice_get self.old i }
         ensures count { length self.new ≡ length self.old }
     {
@@ -220,6 +226,8 @@ impl<K: Keeper> Nodes<K> {
         ensures cause { AtNode repo self.old self.new (λ was now. IsErrOf result NodeRefused.StoreFault → Rose (K.faults was.keeper) (K.faults now.keeper)) }
         ensures done { AtNode repo self.old self.new (λ was now. OnOk result (IsDoneBy to_place key.now [] was.parts.table (K.contents was.keeper) (K.parts was.keeper) (K.parts now.keeper) (K.failing was.keeper) (K.failing now.keeper))) }
         ensures stops { AtNode repo self.old self.new (λ was now. IfErr result (λ e. StopsAt to_place key.now bytes.now (K.contents was.keeper) (K.contents now.keeper) (K.parts was.keeper) (K.parts now.keeper) (K.failing was.keeper) (K.failing now.keeper) e was now)) }
+        ensures full { AtNode repo self.old self.new (λ was now. IsErrOf result NodeRefused.Full → ((length was.history ≡ most_entries) × (now ≡ over now.keeper was)) ⊎ MeetsFullBehind key.now bytes.now (K.contents was.keeper) (K.failing was.keeper) (K.failing now.keeper) was now) }
+        ensures room { AtNode repo self.old self.new (λ was now. OnOk result (length was.history < most_entries)) }
         ensures others { (i : ℕ) → i ≢ repo → slice_get self.new i ≡ slice_get self.old i }
         ensures count { length self.new ≡ length self.old }
     {
@@ -239,6 +247,7 @@ impl<K: Keeper> Nodes<K> {
         ensures cause { AtNode repo self.old self.new (λ was now. IsErrOf result NodeRefused.StoreFault → Rose (K.faults was.keeper) (K.faults now.keeper)) }
         ensures done { AtNode repo self.old self.new (λ was now. OnOk result (IsDoneBy to_place_part key.now bytes.now was.parts.table (K.contents was.keeper) (K.parts was.keeper) (K.parts now.keeper) (K.failing was.keeper) (K.failing now.keeper))) }
         ensures stops { AtNode repo self.old self.new (λ was now. IfErr result (λ e. StopsAt to_place_part key.now bytes.now (K.contents was.keeper) (K.contents now.keeper) (K.parts was.keeper) (K.parts now.keeper) (K.failing was.keeper) (K.failing now.keeper) e was now)) }
+        ensures room { AtNode repo self.old self.new (λ was now. OnOk result (length was.history < most_entries)) }
         ensures others { (i : ℕ) → i ≢ repo → slice_get self.new i ≡ slice_get self.old i }
         ensures count { length self.new ≡ length self.old }
     {

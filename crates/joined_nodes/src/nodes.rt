@@ -1,5 +1,7 @@
 //! The nodes of a run.
 ghost use Rattle.std.specs.Prelude.{◌≡◌, ◌≤◌, ◌<◌, ◌^◌, All, Some, IfOk, length, max, slice_get};
+ghost use Rattle.annex_base.specs.Lists.{Each};
+ghost use Rattle.run_data.specs.Histories.{most_entries};
 ghost use Rattle.repo_node.specs.Stored.{HasNothing};
 ghost use Rattle.joined_nodes.specs.Joined.{AreNew, AreNodes, AtNode, MayRun};
 
@@ -55,6 +57,16 @@ impl<K: Keeper> Nodes<K> {
         ensures { slice_get self.now repo ≡ Some result.now }
     {
         &self.nodes[repo]
+    }
+
+    /// For a caller's proof: no history is longer than it may be.
+    pub fn histories_are_few(&self)
+        ensures { Each (λ n. length n.history ≤ most_entries) self.now }
+    {
+        for node in self.nodes.iter() {
+            // For the proof: how long a history may be.
+            let _ = node.history();
+        }
     }
 
     /// Spends the nodes with their stores.

@@ -1,6 +1,6 @@
 //! An entry of the journal: its line, its frames and its lines.
 
-ghost use Rattle.std.specs.Prelude.{◌≡◌, ◌++◌, List, OnOk, option_copied, reverse};
+ghost use Rattle.std.specs.Prelude.{◌≡◌, ◌++◌, List, OnOk, OnErr, option_copied, reverse};
 ghost use Rattle.std.specs.List.{flat_map};
 ghost use Rattle.journal_text.specs.Journal.{entry_text, head_text, maker_text, taken_text, sent_text, added_text};
 
@@ -11,8 +11,24 @@ use run_data::{Entry, FrameView, RepoView};
 use run_text::put_name;
 use std::alloc::AllocError;
 
-/// Adds an entry as the journal has it; those before it stand in order, of which the text needs its own repository's alone (own).
+/// Adds an entry as the journal has it; those before it stand in order, of which the text needs its own repository's
+/// alone (own). Without memory it adds nothing.
 pub fn put_entry(
+    out: &mut Vec<u8>,
+    repos: &[RepoView],
+    before: &[Entry],
+    entry: &Entry,
+) -> Result<(), AllocError>
+    ensures ok { OnOk result (out.new.items ≡ out.old.items ++ entry_text repos.now (reverse before.now) entry.now) }
+    ensures err { OnErr result (out.new.items ≡ out.old.items) }
+{
+    let mut text = Vec::new(*out.allocator());
+    put_parts(&mut text, repos, before, entry)?;
+    out.extend_from_slice(&text)
+}
+
+/// Adds the parts of an entry; without memory some of them.
+pub(crate) fn put_parts(
     out: &mut Vec<u8>,
     repos: &[RepoView],
     before: &[Entry],

@@ -1,6 +1,6 @@
 //! Fields of an entry's line.
 
-ghost use Rattle.std.specs.Prelude.{◌≡◌, ◌++◌, OnOk, codes};
+ghost use Rattle.std.specs.Prelude.{◌≡◌, ◌++◌, OnOk};
 ghost use Rattle.journal_text.specs.Journal.{by_text, file_text, found_text, key_field, need_field, number_text, side_text};
 
 use annex_base::{Found, put_number};

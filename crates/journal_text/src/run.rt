@@ -1,11 +1,11 @@
 //! The journal: its head, its repositories, the changes of its tree and its entries.
 
-ghost use Rattle.std.specs.Prelude.{◌≡◌, ◌++◌, List, [], IfOk, OnOk, codes, length, reverse};
+ghost use Rattle.std.specs.Prelude.{◌≡◌, ◌++◌, [], IfOk, OnOk, OnErr, codes};
 ghost use Rattle.std.specs.List.{flat_map};
 ghost use Rattle.std.specs.Fmt.{decimal};
 ghost use Rattle.journal_text.specs.Journal.{journal, journal_of, repo_line, path_line, entries_text, locks_text};
 
-use crate::entry::put_entry;
+use crate::entry::put_parts;
 use annex_base::{NoMemory, put_number};
 use run_data::{Entry, RepoView, Run, TreeMark};
 use std::alloc::{AllocError, Global};
@@ -15,26 +15,40 @@ use std::alloc::{AllocError, Global};
 pub fn journal(alloc: Global, run: &Run) -> Result<Vec<u8>, NoMemory>
     ensures { IfOk result (λ text. text.items ≡ journal run.now) }
 {
-    let mut out = Vec::new(alloc);
-    let repos = run.repos.as_slice();
-    put_journal(&mut out, repos, run.tree.as_slice(), run.entries.as_slice())?;
-    Ok(out)
+    let tree = run.tree.as_slice();
+    let text = journal_of(alloc, run.repos.as_slice(), tree, run.entries.as_slice())?;
+    Ok(text)
 }
 
-/// Adds the journal of some first entries of a run, and of the changes of its tree up to them.
+/// Adds the journal of some first entries of a run, and of the changes of its tree up to them; without memory it adds
+/// nothing.
 pub fn put_journal(
     out: &mut Vec<u8>,
     repos: &[RepoView],
     tree: &[TreeMark],
     entries: &[Entry],
 ) -> Result<(), AllocError>
-    ensures { OnOk result (out.new.items ≡ out.old.items ++ journal_of repos.now tree.now entries.now) }
+    ensures ok { OnOk result (out.new.items ≡ out.old.items ++ journal_of repos.now tree.now entries.now) }
+    ensures err { OnErr result (out.new.items ≡ out.old.items) }
 {
-    put_size(out, entries.len())?;
-    put_repos(out, repos)?;
-    put_tree(out, tree)?;
-    put_entries(out, repos, entries)?;
-    Ok(())
+    let text = journal_of(*out.allocator(), repos, tree, entries)?;
+    out.extend_from_slice(&text)
+}
+
+fn journal_of(
+    alloc: Global,
+    repos: &[RepoView],
+    tree: &[TreeMark],
+    entries: &[Entry],
+) -> Result<Vec<u8>, AllocError>
+    ensures { IfOk result (λ text. text.items ≡ journal_of repos.now tree.now entries.now) }
+{
+    let mut text = Vec::new(alloc);
+    put_size(&mut text, entries.len())?;
+    put_repos(&mut text, repos)?;
+    put_tree(&mut text, tree)?;
+    put_entries(&mut text, repos, entries)?;
+    Ok(text)
 }
 
 fn put_size(out: &mut Vec<u8>, entries: usize) -> Result<(), AllocError>
@@ -107,7 +121,7 @@ fn put_entries(out: &mut Vec<u8>, repos: &[RepoView], entries: &[Entry]) -> Resu
 {
     for place in 0..entries.len() {
         let (before, _) = entries.split_at(place);
-        put_entry(out, repos, before, &entries[place])?;
+        put_parts(out, repos, before, &entries[place])?;
     }
     Ok(())
 }

@@ -1,43 +1,8 @@
 //! An entry that is changed in one place, so that the history which has it there is that of no run.
 use annex_base::{Call, Found, Items, NoMemory};
 use drop_proof::Need;
-use run_data::{By, DropRefusal, Entry, EntryKind, FrameText, FrameView, Outcome, Proof};
+use run_data::{By, DropRefusal, Entry, EntryKind, FrameView, Outcome, Proof};
 use std::alloc::Global;
-
-fn copy_of_body(body: &FrameText) -> Result<FrameText, NoMemory> {
-    Ok(match body {
-        FrameText::Opening => FrameText::Opening,
-        FrameText::Closing => FrameText::Closing,
-        FrameText::Bytes(count) => FrameText::Bytes(*count),
-        FrameText::Line(line) => FrameText::Line(line.clone()?),
-    })
-}
-
-fn copy_of_frame(frame: &FrameView) -> Result<FrameView, NoMemory> {
-    Ok(FrameView {
-        peer: frame.peer,
-        slot: frame.slot,
-        up: frame.up,
-        epoch: frame.epoch,
-        seq: frame.seq,
-        body: copy_of_body(&frame.body)?,
-    })
-}
-
-fn copies_of_frames(alloc: Global, frames: &[FrameView]) -> Result<Items<FrameView>, NoMemory> {
-    let mut copies = Items::new(alloc);
-    for frame in frames {
-        copies.push(copy_of_frame(frame)?)?;
-    }
-    Ok(copies)
-}
-
-fn copy_of_taken(taken: &Option<FrameView>) -> Result<Option<FrameView>, NoMemory> {
-    match taken {
-        Some(frame) => Ok(Some(copy_of_frame(frame)?)),
-        None => Ok(None),
-    }
-}
 
 fn other_found(found: Found) -> Found {
     match found {
@@ -139,8 +104,8 @@ fn other_frames(alloc: Global, entry: &Entry) -> Result<Frames, NoMemory> {
             sent: Items::new(alloc),
         }),
         _ => Ok(Frames {
-            taken: copy_of_taken(&entry.taken)?,
-            sent: copies_of_frames(alloc, entry.sent.as_slice())?,
+            taken: entry.taken.clone()?,
+            sent: entry.sent.clone()?,
         }),
     }
 }

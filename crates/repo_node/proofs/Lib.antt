@@ -19,4 +19,5 @@ pub mod PayLemmas
 pub mod CallLemmas
 pub mod WalkCallLemmas
 pub mod PlaceCallLemmas
+pub mod FullLemmas
 pub mod StepCalls

@@ -20,7 +20,7 @@ use Rattle.union_merge.specs.LineSet.{difference}
 use Rattle.repo_node.specs.declared.refused.NodeRefused.{NodeRefused}
 use Rattle.repo_node.specs.declared.refused.NodeRefused.TheVariants as refusals
 use Rattle.content_lock.specs.CallsMade.{MakesCalls, fewer}
-use Rattle.repo_node.specs.Calls.{Makes, StopsIn, lacks_some, shrinks, to_log, to_write}
+use Rattle.repo_node.specs.Calls.{Makes, StopsIn, lacks_of, lacks_some, shrinks, shrinks_at, to_log, to_write}
 use Rattle.repo_node.specs.Logs.{with_log}
 use Rattle.repo_node.specs.Nodes.{NodeView, with_entry}
 use Rattle.repo_node.specs.Refusals.{RefusesSo}
@@ -186,17 +186,10 @@ wrote_to_end {K} {X} test start now all i before after past w = wrote_all test s
 
 -- ---- the files of a merge, and of a compaction
 
--- a file has a line that the node's own lacks, and a compaction takes a line of the file at a path away
-abbrev pub lacks_file : {K : Type 0} → NodeView K → List ℕ × List (List ℕ) → Bool
-lacks_file n f = lacks_some n (file_of f.0) f.1
-
-abbrev pub shrinks_file : {K : Type 0} → NodeView K → List ℕ → Bool
-shrinks_file n path = shrinks n (file_of path)
-
-pub lacks_blind : {K : Type 0} (k : K) (n : NodeView K) (f : List ℕ × List (List ℕ)) → lacks_file (over k n) f ≡ lacks_file n f
+pub lacks_blind : {K : Type 0} (k : K) (n : NodeView K) (f : List ℕ × List (List ℕ)) → lacks_of (over k n) f ≡ lacks_of n f
 lacks_blind k n f = refl
 
-pub shrinks_blind : {K : Type 0} (k : K) (n : NodeView K) (path : List ℕ) → shrinks_file (over k n) path ≡ shrinks_file n path
+pub shrinks_blind : {K : Type 0} (k : K) (n : NodeView K) (path : List ℕ) → shrinks_at (over k n) path ≡ shrinks_at n path
 shrinks_blind k n path = refl
 
 some_long : (line : List ℕ) (lines : List (List ℕ)) → nat_lt 0 (length (line ∷ lines)) ≡ true
@@ -228,15 +221,22 @@ none_logged {K} {X} x n file path lines new failing here is none =
     short : (m : ℕ) → (m == 0) ≡ true → nat_lt 0 m ≡ false
     short m e = grind (arith, nat_tests)
 
-pub some_logged : {K X : Type 0} (r : Result X NodeRefused) (n : NodeView K) (file : LogFile) (path : List ℕ) (lines new : List (List ℕ)) (before after : Failing) → path ≡ file_path file → new ≡ difference lines (lines_at n.branch path) → (length new == 0) ≡ false
-    → Makes (PutFile ∷ []) PutFile r before after → Makes (to_log n file lines) PutFile r before after
-some_logged r n file path lines new before after here is some made =
-    subst (λ (b : Bool). Makes (to_write b) PutFile r before after) (sym (long (length new) some) ∙ lacked n file path lines new here is) made
+-- some of the lines are new: the file lacks them
+pub some_lacked : {K : Type 0} (n : NodeView K) (file : LogFile) (path : List ℕ) (lines new : List (List ℕ)) → path ≡ file_path file → new ≡ difference lines (lines_at n.branch path) → (length new == 0) ≡ false → lacks_some n file lines ≡ true
+some_lacked n file path lines new here is some = sym (lacked n file path lines new here is) ∙ long (length new) some
   where
     long : (m : ℕ) → (m == 0) ≡ false → nat_lt 0 m ≡ true
     long m e = grind (arith, nat_tests)
 
+pub some_logged : {K X : Type 0} (r : Result X NodeRefused) (n : NodeView K) (file : LogFile) (path : List ℕ) (lines new : List (List ℕ)) (before after : Failing) → path ≡ file_path file → new ≡ difference lines (lines_at n.branch path) → (length new == 0) ≡ false
+    → Makes (PutFile ∷ []) PutFile r before after → Makes (to_log n file lines) PutFile r before after
+some_logged r n file path lines new before after here is some made =
+    subst (λ (b : Bool). Makes (to_write b) PutFile r before after) (sym (some_lacked n file path lines new here is some)) made
+
 -- by the names of the file and its lines
+pub lacks_as : {K : Type 0} (n : NodeView K) (file told : LogFile) (lines named : List (List ℕ)) → file ≡ told → lines ≡ named → lacks_some n file lines ≡ true → lacks_some n told named ≡ true
+lacks_as n file told lines named here is lacks = ap (λ (f : LogFile). lacks_some n f named) (sym here) ∙ (ap (λ (x : List (List ℕ)). lacks_some n file x) (sym is) ∙ lacks)
+
 pub logged_as : {K X : Type 0} (r : Result X NodeRefused) (n : NodeView K) (file told : LogFile) (lines named : List (List ℕ)) (before after : Failing) → file ≡ told → lines ≡ named → Makes (to_log n file lines) PutFile r before after → Makes (to_log n told named) PutFile r before after
 logged_as r n file told lines named before after here is made =
     subst (λ (f : LogFile). Makes (to_log n f named) PutFile r before after) here (subst (λ (x : List (List ℕ)). Makes (to_log n file x) PutFile r before after) is made)
@@ -251,7 +251,7 @@ kept_whole n path file failing named none =
     not_less : (m : ℕ) → nat_lt m m ≡ false
     not_less m = grind (arith, nat_tests)
 
-shrinks_so : {K : Type 0} (n : NodeView K) (path : List ℕ) (file : LogFile) (kind : LogKind) (lines : List (List ℕ)) (b : Bool) → file ≡ file_of path → kind_of file ≡ Some kind → lines ≡ lines_at n.branch (file_path file)
+pub shrinks_so : {K : Type 0} (n : NodeView K) (path : List ℕ) (file : LogFile) (kind : LogKind) (lines : List (List ℕ)) (b : Bool) → file ≡ file_of path → kind_of file ≡ Some kind → lines ≡ lines_at n.branch (file_path file)
     → b ≡ nat_lt (length (current_lines kind lines)) (length lines) → b ≡ shrinks n (file_of path)
 shrinks_so n path file kind lines b named of_kind at is =
     is ∙ (ap (λ (o : Option LogKind). nat_lt (length (compact_lines o lines)) (length lines)) (sym of_kind)

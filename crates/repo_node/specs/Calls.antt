@@ -1,5 +1,5 @@
 -- Which calls of its store a direct call of a node makes, which of them fails, and what it has done by then (own).
-use Rattle.std.specs.Prelude.{◌≡◌, ℕ, Bool, true, false, if◌then◌else◌, nat_lt, List, [], ◌∷◌, length, Option, Some, None, Result, Ok, Err, option_map}
+use Rattle.std.specs.Prelude.{◌≡◌, ℕ, Bool, true, false, if◌then◌else◌, nat_lt, List, [], ◌∷◌, ◌++◌, length, Option, Some, None, Result, Ok, Err, option_map}
 use Rattle.std.specs.List.{list_any}
 use Rattle.std.specs.Map.{keys_of}
 use Rattle.annex_base.specs.declared.kinds.Call.{Call}
@@ -9,6 +9,7 @@ use Rattle.object_store.specs.declared.keeper.KeeperFault.{KeeperFault}
 use Rattle.object_store.specs.declared.keeper.KeeperFault.TheVariants as faults
 use Rattle.content_lock.specs.Rows.{Rows}
 use Rattle.run_data.specs.Files.{file_of, file_path}
+use Rattle.run_data.specs.Histories.{most_entries}
 use Rattle.run_data.specs.declared.entry.LogFile.{LogFile}
 use Rattle.union_merge.specs.Branch.{Files, lines_at}
 use Rattle.union_merge.specs.LineSet.{difference}
@@ -22,7 +23,7 @@ use Rattle.repo_node.specs.Nodes.{NodeView}
 use Rattle.repo_node.specs.Pasts.{FailsFor}
 use Rattle.repo_node.specs.Placing.{IsTaken, with_content, with_gain}
 use Rattle.repo_node.specs.Refusals.{RefusesSo}
-use Rattle.repo_node.specs.Walks.{current}
+use Rattle.repo_node.specs.Walks.{current, over}
 
 -- the refusal for such a fault of the store
 abbrev pub refusal_of : KeeperFault → NodeRefused
@@ -65,6 +66,28 @@ to_merge n files = to_write (list_any (λ f. lacks_some n (file_of f.0) f.1) fil
 -- the calls that compact the node's files
 abbrev pub to_compact : {K : Type 0} → NodeView K → List Call
 to_compact n = to_write (list_any (λ path. shrinks n (file_of path)) (keys_of n.branch))
+
+-- ---- a full history, file by file
+
+-- the file of this path and with these lines lacks some of them
+abbrev pub lacks_of : {K : Type 0} → NodeView K → List ℕ × List (List ℕ) → Bool
+lacks_of n f = lacks_some n (file_of f.0) f.1
+
+-- a compaction takes a line of the file of this path away
+abbrev pub shrinks_at : {K : Type 0} → NodeView K → List ℕ → Bool
+shrinks_at n path = shrinks n (file_of path)
+
+-- A walk over these, of which those that pass the test are written, met a full history: it has gone over some of them, by calls
+-- that went well, and the next one was to be written.
+pub record MeetsFull {K X : Type 0} (done_with : List X → NodeView K) (test : NodeView K → X → Bool) (all : List X) (failing failing' : Option (Call → ℕ)) (was now : NodeView K) : Type 0 where
+  pub done : List X
+  pub next : X
+  pub left : List X
+  pub whole : all ≡ done ++ next ∷ left
+  pub calls : MakesCalls (to_write (list_any (test was) done)) None failing failing'
+  pub node : now ≡ over now.keeper (done_with done)
+  pub full : length now.history ≡ most_entries
+  pub writes : test now next ≡ true
 
 -- ---- contents and parts
 
@@ -113,6 +136,13 @@ pub record StopsAt {K : Type 0} (made : Bool → List Call) (key bytes : List �
   pub refused : RefusesSo e call (node_at call key bytes was) now
   pub contents : cs' ≡ contents_at call key bytes cs ps
   pub parts : ps' ≡ option_map (parts_at call key bytes) ps
+
+-- A step that places a content has placed it, by calls that went well, and met a full history before the line that says so.
+pub record MeetsFullBehind {K : Type 0} (key bytes : List ℕ) (known : Option Contents) (failing failing' : Option (Call → ℕ)) (was now : NodeView K) : Type 0 where
+  pub free : IsTaken false known was.parts.table key
+  pub calls : MakesCalls (calls.Has ∷ calls.DropPart ∷ calls.Append ∷ calls.Commit ∷ []) None failing failing'
+  pub node : now ≡ over now.keeper (with_gain was was.keeper key (length bytes))
+  pub full : length now.history ≡ most_entries
 
 -- ---- for private contracts
 

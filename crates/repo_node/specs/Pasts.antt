@@ -12,7 +12,7 @@ use Rattle.repo_node.specs.declared.past.Past.{Past}
 use Rattle.repo_node.specs.declared.setup.Ended.{Ended}
 use Rattle.repo_node.specs.declared.refused.NodeRefused.{NodeRefused}
 use Rattle.repo_node.specs.declared.refused.NodeRefused.TheVariants as refusals
-use Rattle.repo_node.specs.Refusals.{most_entries}
+use Rattle.run_data.specs.Histories.{most_entries}
 
 -- it is what it was, but for the room that it has
 pub record SamePast (was now : Past) : Type 0 where

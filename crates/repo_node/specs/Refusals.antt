@@ -4,13 +4,10 @@ use Rattle.annex_base.specs.declared.kinds.Call.{Call}
 use Rattle.run_data.specs.declared.entry.EntryKind.TheVariants.{Fault}
 use Rattle.run_data.specs.declared.entry.By.{By}
 use Rattle.run_data.specs.declared.entry.By.TheVariants.{Script}
+use Rattle.run_data.specs.Histories.{most_entries}
 use Rattle.repo_node.specs.declared.refused.NodeRefused.{NodeRefused}
 use Rattle.repo_node.specs.declared.refused.NodeRefused.TheVariants as refusals
 use Rattle.repo_node.specs.Nodes.{NodeView, with_entry}
-
--- how many entries a history has at most
-abbrev pub most_entries : ℕ
-most_entries = 100000
 
 -- A refusal of a step, done for the script, a job or a peer, that makes this call of the store. A full history and want of memory
 -- change nothing, but that the store was asked; a fault is an entry.

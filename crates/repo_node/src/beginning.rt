@@ -9,7 +9,7 @@ ghost use Rattle.node_model.specs.State.{State};
 ghost use Rattle.node_parts.specs.Parts.{AreParts};
 ghost use Rattle.repo_node.specs.Nodes.{with_entry};
 ghost use Rattle.repo_node.specs.Pasts.{IsReady, SamePast};
-ghost use Rattle.repo_node.specs.Refusals.{most_entries};
+ghost use Rattle.run_data.specs.Histories.{most_entries};
 
 use crate::node::Node;
 use crate::past::Past;

@@ -1,5 +1,5 @@
 //! Compactions of a node's files.
-ghost use Rattle.std.specs.Prelude.{◌≡◌, ◌≤◌, [], ◌∷◌, Some, IfOk, IfErr, IsErrOf, OnOk};
+ghost use Rattle.std.specs.Prelude.{◌≡◌, ◌≤◌, true, [], ◌∷◌, Some, IfOk, IfErr, IsErrOf, OnOk};
 ghost use Rattle.std.specs.Map.{keys_of};
 ghost use Rattle.std.specs.Option.{ForSome};
 ghost use Rattle.annex_base.specs.Causes.{Rose};
@@ -10,7 +10,7 @@ ghost use Rattle.run_data.specs.declared.entry.EntryKind.TheVariants as kinds;
 ghost use Rattle.run_data.specs.Files.{file_of, file_path, kind_of};
 ghost use Rattle.union_merge.specs.Branch.{lines_at, with_file};
 ghost use Rattle.union_merge.specs.LineSet.{IsLine, IsLineSet};
-ghost use Rattle.repo_node.specs.Calls.{Makes, shrinks, to_compact, to_write};
+ghost use Rattle.repo_node.specs.Calls.{Makes, MeetsFull, shrinks, shrinks_at, to_compact, to_write};
 ghost use Rattle.repo_node.specs.Nodes.{with_entry};
 ghost use Rattle.repo_node.specs.Refusals.{RefusesSo};
 ghost use Rattle.repo_node.specs.Walks.{StopsAfter, compact_file, compact_files, current, over};
@@ -103,6 +103,7 @@ impl<K: Keeper> Node<K> {
         ensures later { K.faults self.old.keeper ≤ K.faults self.new.keeper }
         ensures cause { IsErrOf result NodeRefused.StoreFault → Rose (K.faults self.old.keeper) (K.faults self.new.keeper) }
         ensures calls { Makes (to_write (shrinks self.old (file_of path.now))) calls.PutFile result (K.failing self.old.keeper) (K.failing self.new.keeper) }
+        ensures full { IsErrOf result NodeRefused.Full → shrinks self.old (file_of path.now) ≡ true }
     {
         // A law, for the proof: the file of a path stands there.
         files_have_their_paths();
@@ -131,6 +132,7 @@ impl<K: Keeper> Node<K> {
         ensures cause { IsErrOf result NodeRefused.StoreFault → Rose (K.faults self.old.keeper) (K.faults self.new.keeper) }
         ensures calls { Makes (to_compact self.old) calls.PutFile result (K.failing self.old.keeper) (K.failing self.new.keeper) }
         ensures alone { IsErrOf result NodeRefused.StoreFault → ForSome (K.failing self.old.keeper) (λ failing. RefusesSo NodeRefused.StoreFault calls.PutFile self.old self.new) }
+        ensures full { IsErrOf result NodeRefused.Full → MeetsFull (compact_files self.old) shrinks_at (keys_of self.old.branch) (K.failing self.old.keeper) (K.failing self.new.keeper) self.old self.new }
     {
         let branch = self.branch();
         let paths = paths_of(branch)?;

@@ -2,10 +2,11 @@
 ghost use Rattle.std.specs.Prelude.{◌≡◌, ◌<◌, ◌+◌, ◌++◌, [], is_some, nat_le, option_to_list, vec_capacity, vec_len, OnOk};
 ghost use Rattle.repo_node.specs.Kept.{is_debtor};
 ghost use Rattle.repo_node.specs.Pasts.{Enters, IsReady, SamePast};
-ghost use Rattle.repo_node.specs.Refusals.{most_entries};
+ghost use Rattle.run_data.specs.Histories.{most_entries};
 ghost use Rattle.repo_node.specs.Stepping.{EntersIf, EntersStep, owes_line, place_if};
 ghost use Rattle.repo_node.specs.Turning.{ended_by};
 
+use crate::entries::MOST_ENTRIES;
 use crate::past::Past;
 use crate::setup::Ended;
 use annex_base::{Items, NoMemory};
@@ -19,7 +20,7 @@ impl Past {
     pub(crate) fn is_full(&self) -> bool
         ensures { result ≡ nat_le most_entries (vec_len self.now.history) }
     {
-        self.history.len() >= 100_000
+        self.history.len() >= MOST_ENTRIES
     }
 
     /// When its next entry is made.

@@ -15,7 +15,7 @@ use run_data::{By, Entry, EntryKind};
 use std::alloc::Global;
 
 /// How many entries a history has at most.
-const MOST_ENTRIES: usize = 100_000;
+pub(crate) const MOST_ENTRIES: usize = 100_000;
 
 /// No machine makes so many entries.
 const COUNT_LIMIT: u64 = 4_611_686_018_427_387_904;

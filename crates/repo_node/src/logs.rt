@@ -1,12 +1,12 @@
 //! The lines that a node adds to its logs.
-ghost use Rattle.std.specs.Prelude.{◌≡◌, ◌≤◌, ◌≢◌, ℕ, List, [], ◌∷◌, IfOk, IfErr, IsErrOf, OnErr, OnOk};
+ghost use Rattle.std.specs.Prelude.{◌≡◌, ◌≤◌, ◌≢◌, ℕ, true, List, [], ◌∷◌, IfOk, IfErr, IsErrOf, OnErr, OnOk};
 ghost use Rattle.annex_base.specs.Causes.{Rose};
 ghost use Rattle.annex_base.specs.declared.kinds.Call.TheVariants as calls;
 ghost use Rattle.run_data.specs.Files.{HasPath, file_of, file_path};
 ghost use Rattle.run_data.specs.declared.entry.EntryKind.TheVariants as kinds;
 ghost use Rattle.union_merge.specs.Branch.{lines_at, merged_file};
 ghost use Rattle.union_merge.specs.LineSet.{IsLine, difference, union};
-ghost use Rattle.repo_node.specs.Calls.{Makes, to_log};
+ghost use Rattle.repo_node.specs.Calls.{Makes, lacks_some, to_log};
 ghost use Rattle.repo_node.specs.Logs.{with_lines, with_log};
 ghost use Rattle.repo_node.specs.Nodes.{are_due, with_entry};
 ghost use Rattle.repo_node.specs.Refusals.{RefusesFor, RefusesSo};
@@ -160,6 +160,7 @@ impl<K: Keeper> Node<K> {
         ensures later { K.faults self.old.keeper ≤ K.faults self.new.keeper }
         ensures cause { IsErrOf result NodeRefused.StoreFault → Rose (K.faults self.old.keeper) (K.faults self.new.keeper) }
         ensures calls { Makes (to_log self.old file lines.now) calls.PutFile result (K.failing self.old.keeper) (K.failing self.new.keeper) }
+        ensures full { IsErrOf result NodeRefused.Full → lacks_some self.old file lines.now ≡ true }
     {
         let alloc = self.allocator();
         let path = file.path(alloc)?;
@@ -182,6 +183,7 @@ impl<K: Keeper> Node<K> {
         ensures later { K.faults self.old.keeper ≤ K.faults self.new.keeper }
         ensures cause { IsErrOf result NodeRefused.StoreFault → Rose (K.faults self.old.keeper) (K.faults self.new.keeper) }
         ensures calls { Makes (to_log self.old (file_of path.now) (line.now ∷ [])) calls.PutFile result (K.failing self.old.keeper) (K.failing self.new.keeper) }
+        ensures full { IsErrOf result NodeRefused.Full → lacks_some self.old (file_of path.now) (line.now ∷ []) ≡ true }
     {
         let alloc = self.allocator();
         let lines = set_of_line(alloc, line)?;

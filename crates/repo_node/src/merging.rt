@@ -1,5 +1,5 @@
 //! Bundles: a node's branch as one text, and merges of such texts into it.
-ghost use Rattle.std.specs.Prelude.{◌≡◌, ◌≤◌, ◌⊎◌, ℕ, Err, IfOk, IfErr, IsErrOf, OnOk};
+ghost use Rattle.std.specs.Prelude.{◌≡◌, ◌≤◌, ◌⊎◌, ℕ, true, Err, IfOk, IfErr, IsErrOf, OnOk};
 ghost use Rattle.std.specs.Option.{ForSome, option_map};
 ghost use Rattle.annex_base.specs.Causes.{Rose};
 ghost use Rattle.annex_base.specs.declared.kinds.Call.TheVariants as calls;
@@ -7,7 +7,7 @@ ghost use Rattle.branch_bundle.specs.Bundle.{IsBundle, IsFirstWrong};
 ghost use Rattle.union_merge.specs.Branch.{Files};
 ghost use Rattle.union_merge.specs.LineSet.{IsLine};
 ghost use Rattle.run_data.specs.Files.{file_of};
-ghost use Rattle.repo_node.specs.Calls.{Makes, to_log, to_merge};
+ghost use Rattle.repo_node.specs.Calls.{Makes, MeetsFull, lacks_of, lacks_some, to_log, to_merge};
 ghost use Rattle.content_lock.specs.CallsMade.{fewer};
 ghost use Rattle.repo_node.specs.Debts.{failed_put};
 ghost use Rattle.repo_node.specs.Refusals.{RefusesSo};
@@ -48,6 +48,7 @@ impl<K: Keeper> Node<K> {
         ensures later { K.faults self.old.keeper ≤ K.faults self.new.keeper }
         ensures cause { IsErrOf result NodeRefused.StoreFault → Rose (K.faults self.old.keeper) (K.faults self.new.keeper) }
         ensures calls { Makes (to_log self.old (file_of path.now) lines.now) calls.PutFile result (K.failing self.old.keeper) (K.failing self.new.keeper) }
+        ensures full { IsErrOf result NodeRefused.Full → lacks_some self.old (file_of path.now) lines.now ≡ true }
     {
         let alloc = self.allocator();
         let file = LogFile::of_path(alloc, path)?;
@@ -64,6 +65,7 @@ impl<K: Keeper> Node<K> {
         ensures cause { IsErrOf result NodeRefused.StoreFault → Rose (K.faults self.old.keeper) (K.faults self.new.keeper) }
         ensures calls { Makes (to_merge self.old other.now) calls.PutFile result (K.failing self.old.keeper) (K.failing self.new.keeper) }
         ensures alone { IsErrOf result NodeRefused.StoreFault → ForSome (K.failing self.old.keeper) (λ failing. RefusesSo NodeRefused.StoreFault calls.PutFile self.old self.new) }
+        ensures full { IsErrOf result NodeRefused.Full → MeetsFull (merge_files self.old) lacks_of other.now (K.failing self.old.keeper) (K.failing self.new.keeper) self.old self.new }
     {
         for (path, lines) in other.files() {
             // Written out for the proof, which names the refusal.
@@ -91,6 +93,7 @@ impl<K: Keeper> Node<K> {
         ensures calls { (files : Files) → IsBundle bytes.now files → Makes (to_merge self.old files) calls.PutFile result (K.failing self.old.keeper) (K.failing self.new.keeper) }
         ensures left { K.failing self.new.keeper ≡ option_map (fewer (failed_put result)) (K.failing self.old.keeper) }
         ensures alone { IsErrOf result NodeRefused.StoreFault → ForSome (K.failing self.old.keeper) (λ failing. RefusesSo NodeRefused.StoreFault calls.PutFile self.old self.new) }
+        ensures full { (files : Files) → IsBundle bytes.now files → IsErrOf result NodeRefused.Full → MeetsFull (merge_files self.old) lacks_of files (K.failing self.old.keeper) (K.failing self.new.keeper) self.old self.new }
     {
         // A law, for the proof: a text is the bundle of one branch.
         bundles_are_exact();

@@ -10,7 +10,7 @@ ghost use Rattle.object_store.specs.Calls.{one_more};
 ghost use Rattle.node_model.specs.SetUp.{SetUp};
 ghost use Rattle.node_parts.specs.Sound.{AreSound};
 ghost use Rattle.repo_node.specs.Nodes.{Fits, HasFiles, IsState, state_of, told_of};
-ghost use Rattle.repo_node.specs.Refusals.{most_entries};
+ghost use Rattle.run_data.specs.Histories.{most_entries};
 ghost use Rattle.repo_node.specs.Stored.{HasNothing};
 
 use crate::indexing::make_index;

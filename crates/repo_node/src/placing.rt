@@ -1,14 +1,15 @@
 //! Contents and parts that a script puts into a node.
-ghost use Rattle.std.specs.Prelude.{◌≡◌, ◌≤◌, ◌++◌, Bool, true, false, [], ◌∷◌, None, length, option_map, IfOk, IfErr, IsErrOf, OnOk, OnErr};
+ghost use Rattle.std.specs.Prelude.{◌≡◌, ◌⊎◌, ◌≤◌, ◌<◌, ◌++◌, Bool, true, false, [], ◌∷◌, None, length, option_map, IfOk, IfErr, IsErrOf, OnOk, OnErr};
 ghost use Rattle.std.specs.Option.{ForSome};
 ghost use Rattle.annex_base.specs.Causes.{Rose};
 ghost use Rattle.annex_base.specs.declared.kinds.Call.TheVariants as calls;
 ghost use Rattle.key_verify.specs.Matching.{MatchesKey};
 ghost use Rattle.content_lock.specs.Rows.{is_filling};
 ghost use Rattle.object_store.specs.Stores.{contents_after_commit, with_at};
+ghost use Rattle.run_data.specs.Histories.{most_entries};
 ghost use Rattle.run_data.specs.declared.entry.By.TheVariants as bys;
 ghost use Rattle.run_data.specs.declared.entry.EntryKind.TheVariants as kinds;
-ghost use Rattle.repo_node.specs.Calls.{IsDoneBy, Makes, StopsAt, StopsEarly, to_place, to_place_part};
+ghost use Rattle.repo_node.specs.Calls.{IsDoneBy, Makes, MeetsFullBehind, StopsAt, StopsEarly, to_place, to_place_part};
 ghost use Rattle.content_lock.specs.CallsMade.{MakesCalls};
 ghost use Rattle.repo_node.specs.Pasts.{AddsTo, FailsAtScripts, FailsFor, IsReady, SamePast};
 ghost use Rattle.repo_node.specs.Placing.{HasPart, IsPlaced, IsTaken, LeavesFilled, LeavesOthers, PartAfter, StopsBefore, StopsPlacing, with_gain};
@@ -199,6 +200,7 @@ fn bring<K: Keeper>(
     ensures put { IfOk result (λ taken. taken ≡ false → K.parts keeper.new ≡ option_map (λ p. with_at p key.now bytes.now) (K.parts keeper.old)) }
     ensures done { IfOk result (λ taken. MakesCalls (to_place_part taken) None (K.failing keeper.old) (K.failing keeper.new)) }
     ensures stops { IfErr result (λ e. (taken : Bool) × IsTaken taken (K.contents keeper.old) table.now key.now × StopsEarly (to_place_part taken) key.now bytes.now (K.parts keeper.old) (K.parts keeper.new) (K.failing keeper.old) (K.failing keeper.new) e past.old past.new) }
+    ensures room { OnOk result (length past.old.history.items < most_entries) }
 {
     ready(past)?;
     bring_ready(keeper, table, past, key, bytes)
@@ -257,6 +259,7 @@ impl<K: Keeper> Node<K> {
         ensures put { IfOk result (λ taken. taken ≡ false → K.parts self.new.keeper ≡ option_map (λ p. with_at p key.now bytes.now) (K.parts self.old.keeper)) }
         ensures done { IfOk result (λ taken. MakesCalls (to_place_part taken) None (K.failing self.old.keeper) (K.failing self.new.keeper)) }
         ensures stops { IfErr result (λ e. StopsAt to_place_part key.now bytes.now (K.contents self.old.keeper) (K.contents self.new.keeper) (K.parts self.old.keeper) (K.parts self.new.keeper) (K.failing self.old.keeper) (K.failing self.new.keeper) e self.old self.new) }
+        ensures room { OnOk result (length self.old.history < most_entries) }
     {
         // Laws, for the proof.
         parts_stay();
@@ -306,6 +309,7 @@ impl<K: Keeper> Node<K> {
         ensures cause { IsErrOf result NodeRefused.StoreFault → Rose (K.faults self.old.keeper) (K.faults self.new.keeper) }
         ensures done { OnOk result (IsDoneBy to_place_part key.now bytes.now self.old.parts.table (K.contents self.old.keeper) (K.parts self.old.keeper) (K.parts self.new.keeper) (K.failing self.old.keeper) (K.failing self.new.keeper)) }
         ensures stops { IfErr result (λ e. StopsAt to_place_part key.now bytes.now (K.contents self.old.keeper) (K.contents self.new.keeper) (K.parts self.old.keeper) (K.parts self.new.keeper) (K.failing self.old.keeper) (K.failing self.new.keeper) e self.old self.new) }
+        ensures room { OnOk result (length self.old.history < most_entries) }
     {
         let _ = self.bring(key, bytes)?;
         Ok(())
@@ -321,6 +325,8 @@ impl<K: Keeper> Node<K> {
         ensures cause { IsErrOf result NodeRefused.StoreFault → Rose (K.faults self.old.keeper) (K.faults self.new.keeper) }
         ensures done { OnOk result (IsDoneBy to_place key.now [] self.old.parts.table (K.contents self.old.keeper) (K.parts self.old.keeper) (K.parts self.new.keeper) (K.failing self.old.keeper) (K.failing self.new.keeper)) }
         ensures stops { IfErr result (λ e. StopsAt to_place key.now bytes.now (K.contents self.old.keeper) (K.contents self.new.keeper) (K.parts self.old.keeper) (K.parts self.new.keeper) (K.failing self.old.keeper) (K.failing self.new.keeper) e self.old self.new) }
+        ensures full { IsErrOf result NodeRefused.Full → ((length self.old.history ≡ most_entries) × (self.new ≡ over self.new.keeper self.old)) ⊎ MeetsFullBehind key.now bytes.now (K.contents self.old.keeper) (K.failing self.old.keeper) (K.failing self.new.keeper) self.old self.new }
+        ensures room { OnOk result (length self.old.history < most_entries) }
     {
         let number = self.past.number();
         let taken = self.bring(key, bytes)?;

@@ -1,5 +1,5 @@
 //! The entries that a script writes into a node's logs, at the node's wall clock.
-ghost use Rattle.std.specs.Prelude.{◌≡◌, ◌≤◌, ◌+◌, ℕ, [], ◌∷◌, Some, IfOk, IfErr, IsErrOf, OnOk};
+ghost use Rattle.std.specs.Prelude.{◌≡◌, ◌≤◌, ◌+◌, ℕ, true, [], ◌∷◌, Some, IfOk, IfErr, IsErrOf, OnOk};
 ghost use Rattle.std.specs.Option.{option_copied};
 ghost use Rattle.annex_base.specs.Causes.{Rose};
 ghost use Rattle.annex_base.specs.declared.kinds.Call.TheVariants as calls;
@@ -9,7 +9,7 @@ ghost use Rattle.node_model.specs.Owed.{stamp_at};
 ghost use Rattle.run_data.specs.Files.{HasPath};
 ghost use Rattle.union_merge.specs.Branch.{lines_at};
 ghost use Rattle.union_merge.specs.LineSet.{IsLine};
-ghost use Rattle.repo_node.specs.Calls.{Makes, to_log};
+ghost use Rattle.repo_node.specs.Calls.{Makes, lacks_some, to_log};
 ghost use Rattle.repo_node.specs.Logs.{IsLogOf, log_of, stamped, stamped_by, with_lines};
 ghost use Rattle.repo_node.specs.Refusals.{RefusesSo};
 
@@ -126,6 +126,7 @@ impl<K: Keeper> Node<K> {
         ensures later { K.faults self.old.keeper ≤ K.faults self.new.keeper }
         ensures cause { IsErrOf result NodeRefused.StoreFault → Rose (K.faults self.old.keeper) (K.faults self.new.keeper) }
         ensures calls { Makes (to_log self.old (log_of kind (option_copied key.entry)) (line_text kind (stamped_by self.old kind (option_copied key.entry) entry.now) ∷ [])) calls.PutFile result (K.failing self.old.keeper) (K.failing self.new.keeper) }
+        ensures full { IsErrOf result NodeRefused.Full → lacks_some self.old (log_of kind (option_copied key.entry)) (line_text kind (stamped_by self.old kind (option_copied key.entry) entry.now) ∷ []) ≡ true }
     {
         let alloc = self.allocator();
         let file = log_of(kind, key)?;

@@ -7,7 +7,7 @@ ghost use Rattle.node_model.specs.SetUp.{SetUp};
 ghost use Rattle.node_model.specs.Step.{step};
 ghost use Rattle.object_store.specs.Stores.{AreSmallParts};
 ghost use Rattle.repo_node.specs.Nodes.{Fits, told_of};
-ghost use Rattle.repo_node.specs.Refusals.{most_entries};
+ghost use Rattle.run_data.specs.Histories.{most_entries};
 ghost use Rattle.repo_node.specs.Stored.{TellsSame, store_view};
 ghost use Rattle.repo_node.specs.TurnCalls.{step_calls};
 ghost use Rattle.repo_node.specs.Turns.{turn_full, turn_made};

@@ -6,5 +6,6 @@ mod Identifiers
 mod Pasts
 mod Places
 mod Reported
-mod Rows
+mod RowLemmas
+mod RowTables
 mod Tables

@@ -1,4 +1,4 @@
--- What a table of contents knows (own).
+-- For private contracts: what a table of contents knows (own).
 use Rattle.std.specs.Prelude.{◌≡◌, ℕ, ◌<◌, Bool, List, [], length}
 use Rattle.std.specs.List.{slice_index_or}
 use Rattle.std.specs.Ordering.{nat_cmp}

@@ -4,5 +4,6 @@ pub mod Branches
 pub mod Contents
 pub mod Report
 pub mod Row
+pub mod Rows
 pub mod Scan
 pub mod Walk

@@ -28,7 +28,7 @@ use Rattle.run_model.specs.Past.{begun_job, is_of, present}
 use Rattle.run_model.specs.Safety.{past_at}
 use Rattle.script_words.specs.Fields.{call_word}
 use Rattle.script_words.specs.Words.{printed_word}
-use Rattle.run_text.specs.Names.{name_of, joined}
+use Rattle.run_text.specs.Names.{name_of, joined_text}
 use Rattle.run_text.specs.Jobs.{begun_text, key_text}
 use Rattle.run_text.specs.Outcomes.{outcome_text}
 use Rattle.journal_text.specs.Journal.{journal_of}
@@ -77,7 +77,45 @@ noslot_line run from upto r =
 abbrev pub slot_text : Run → ℕ → ℕ → Command → List ℕ
 slot_text run from upto (commands.Run r job) = noslot_line run from upto r
 slot_text run from upto (commands.Begin r job) = noslot_line run from upto r
-slot_text run from upto _ = []
+slot_text run from upto (commands.Repo name id offset version locks) = []
+slot_text run from upto (commands.Numcopies r number) = []
+slot_text run from upto (commands.Mincopies r number) = []
+slot_text run from upto (commands.NumcopiesFor r number glob) = []
+slot_text run from upto (commands.MincopiesFor r number glob) = []
+slot_text run from upto (commands.Trust r target level) = []
+slot_text run from upto (commands.Describe r target text) = []
+slot_text run from upto (commands.Wanted r target text) = []
+slot_text run from upto (commands.Required r target text) = []
+slot_text run from upto (commands.Group r target groups) = []
+slot_text run from upto (commands.GroupWanted r group text) = []
+slot_text run from upto (commands.Log r file line) = []
+slot_text run from upto (commands.Have r key content) = []
+slot_text run from upto (commands.Part r key content) = []
+slot_text run from upto (commands.Damage r key content) = []
+slot_text run from upto (commands.Add r path key content) = []
+slot_text run from upto (commands.File path key) = []
+slot_text run from upto (commands.Turn r turns) = []
+slot_text run from upto commands.Settle = []
+slot_text run from upto (commands.Merge r other) = []
+slot_text run from upto (commands.Compact r) = []
+slot_text run from upto (commands.Sync r) = []
+slot_text run from upto (commands.Close r other) = []
+slot_text run from upto (commands.Crash r clock) = []
+slot_text run from upto (commands.Wait milliseconds) = []
+slot_text run from upto (commands.Fail r call) = []
+slot_text run from upto (commands.Par lines) = []
+slot_text run from upto (commands.ShowPresence k) = []
+slot_text run from upto (commands.ShowClaims r k) = []
+slot_text run from upto (commands.ShowLocation r k) = []
+slot_text run from upto (commands.ShowLog r file) = []
+slot_text run from upto (commands.ShowLogs r) = []
+slot_text run from upto (commands.ShowNumbers r path) = []
+slot_text run from upto (commands.ShowLevel r target) = []
+slot_text run from upto (commands.ShowWants r target path) = []
+slot_text run from upto (commands.ShowRow r k) = []
+slot_text run from upto (commands.ShowPlan r) = []
+slot_text run from upto commands.ShowTotals = []
+slot_text run from upto commands.ShowJournal = []
 
 -- the repositories that have the key before a place
 abbrev pub having : Run → ℕ → List ℕ → List ℕ
@@ -112,7 +150,7 @@ abbrev pub named_text : NamedKey → List ℕ
 named_text k = key_text k.key k.path
 
 abbrev pub presence_text : Run → ℕ → NamedKey → List ℕ
-presence_text run place k = codes "presence " ++ named_text k ++ codes " " ++ joined 32 (name_of run.repos) (having run place k.key) ++ codes "\n"
+presence_text run place k = codes "presence " ++ named_text k ++ codes " " ++ joined_text 32 (name_of run.repos) (having run place k.key) ++ codes "\n"
 
 -- a file of the branch of a repository
 abbrev pub log_text : Run → ℕ → List ℕ → List (List ℕ) → List ℕ
@@ -132,10 +170,10 @@ numbers_for run r (Some path) s = []
 abbrev pub trust_text : Run → ℕ → ℕ → Settings → List ℕ
 trust_text run r target s =
     codes "level " ++ name_of run.repos r ++ codes " " ++ name_of run.repos target ++ codes " " ++ level_text (s.level (id_of run.repos target))
-    ++ codes " groups=" ++ joined 44 (λ group. group) (s.groups (id_of run.repos target)) ++ codes "\n"
+    ++ codes " groups=" ++ joined_text 44 (λ group. group) (s.groups (id_of run.repos target)) ++ codes "\n"
 
 abbrev pub claims_text : Run → ℕ → NamedKey → List (List ℕ) → List ℕ
-claims_text run r k ids = codes "claims " ++ name_of run.repos r ++ codes " " ++ named_text k ++ codes " " ++ joined 32 (λ word. word) (names_of_ids run.repos ids) ++ codes "\n"
+claims_text run r k ids = codes "claims " ++ name_of run.repos r ++ codes " " ++ named_text k ++ codes " " ++ joined_text 32 (λ word. word) (names_of_ids run.repos ids) ++ codes "\n"
 
 -- what a line shows at a place, after lines that made so many changes of the tree
 abbrev pub show_text : Run → ℕ → ℕ → Command → List ℕ
@@ -148,7 +186,38 @@ show_text run place changes (commands.ShowNumbers r path) = numbers_for run r pa
 show_text run place changes (commands.ShowLevel r target) = trust_text run r target (settings_at run place r)
 show_text run place changes (commands.ShowRow r k) = row_text run r k (row_at run place r k.key)
 show_text run place changes commands.ShowJournal = journal_of run.repos (take changes run.tree) (take place run.entries)
-show_text run place changes _ = []
+show_text run place changes (commands.Repo name id offset version locks) = []
+show_text run place changes (commands.Numcopies r number) = []
+show_text run place changes (commands.Mincopies r number) = []
+show_text run place changes (commands.NumcopiesFor r number glob) = []
+show_text run place changes (commands.MincopiesFor r number glob) = []
+show_text run place changes (commands.Trust r target level) = []
+show_text run place changes (commands.Describe r target text) = []
+show_text run place changes (commands.Wanted r target text) = []
+show_text run place changes (commands.Required r target text) = []
+show_text run place changes (commands.Group r target groups) = []
+show_text run place changes (commands.GroupWanted r group text) = []
+show_text run place changes (commands.Log r file line) = []
+show_text run place changes (commands.Have r key content) = []
+show_text run place changes (commands.Part r key content) = []
+show_text run place changes (commands.Damage r key content) = []
+show_text run place changes (commands.Add r path key content) = []
+show_text run place changes (commands.File path key) = []
+show_text run place changes (commands.Run r job) = []
+show_text run place changes (commands.Begin r job) = []
+show_text run place changes (commands.Turn r turns) = []
+show_text run place changes commands.Settle = []
+show_text run place changes (commands.Merge r other) = []
+show_text run place changes (commands.Compact r) = []
+show_text run place changes (commands.Sync r) = []
+show_text run place changes (commands.Close r other) = []
+show_text run place changes (commands.Crash r clock) = []
+show_text run place changes (commands.Wait milliseconds) = []
+show_text run place changes (commands.Fail r call) = []
+show_text run place changes (commands.Par lines) = []
+show_text run place changes (commands.ShowWants r target path) = []
+show_text run place changes (commands.ShowPlan r) = []
+show_text run place changes commands.ShowTotals = []
 
 -- what a line of the script prints: that no slot was free, what ended and what failed while it was done, and what it shows then
 abbrev pub line_text : Run → ℕ → ℕ → ℕ → Command → List ℕ
@@ -158,7 +227,45 @@ line_text run from upto changes c = slot_text run from upto c ++ outcome_lines r
 abbrev pub changes_of : Command → ℕ
 changes_of (commands.Add r path key content) = 1
 changes_of (commands.File path key) = 1
-changes_of _ = 0
+changes_of (commands.Repo name id offset version locks) = 0
+changes_of (commands.Numcopies r number) = 0
+changes_of (commands.Mincopies r number) = 0
+changes_of (commands.NumcopiesFor r number glob) = 0
+changes_of (commands.MincopiesFor r number glob) = 0
+changes_of (commands.Trust r target level) = 0
+changes_of (commands.Describe r target text) = 0
+changes_of (commands.Wanted r target text) = 0
+changes_of (commands.Required r target text) = 0
+changes_of (commands.Group r target groups) = 0
+changes_of (commands.GroupWanted r group text) = 0
+changes_of (commands.Log r file line) = 0
+changes_of (commands.Have r key content) = 0
+changes_of (commands.Part r key content) = 0
+changes_of (commands.Damage r key content) = 0
+changes_of (commands.Run r job) = 0
+changes_of (commands.Begin r job) = 0
+changes_of (commands.Turn r turns) = 0
+changes_of commands.Settle = 0
+changes_of (commands.Merge r other) = 0
+changes_of (commands.Compact r) = 0
+changes_of (commands.Sync r) = 0
+changes_of (commands.Close r other) = 0
+changes_of (commands.Crash r clock) = 0
+changes_of (commands.Wait milliseconds) = 0
+changes_of (commands.Fail r call) = 0
+changes_of (commands.Par lines) = 0
+changes_of (commands.ShowPresence k) = 0
+changes_of (commands.ShowClaims r k) = 0
+changes_of (commands.ShowLocation r k) = 0
+changes_of (commands.ShowLog r file) = 0
+changes_of (commands.ShowLogs r) = 0
+changes_of (commands.ShowNumbers r path) = 0
+changes_of (commands.ShowLevel r target) = 0
+changes_of (commands.ShowWants r target path) = 0
+changes_of (commands.ShowRow r k) = 0
+changes_of (commands.ShowPlan r) = 0
+changes_of commands.ShowTotals = 0
+changes_of commands.ShowJournal = 0
 
 -- the report from a place on, after lines that made so many changes of the tree
 abbrev pub report_from : Run → ℕ → ℕ → List Command → List ℕ → List ℕ

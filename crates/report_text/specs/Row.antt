@@ -9,7 +9,7 @@ use Rattle.node_model.specs.Rows.{blocks}
 use Rattle.run_model.specs.Past.{bar, clock, holds, now, present}
 use Rattle.run_model.specs.Safety.{past_at}
 use Rattle.run_text.specs.Jobs.{key_text}
-use Rattle.run_text.specs.Names.{joined, name_of}
+use Rattle.run_text.specs.Names.{joined_text, name_of}
 use Rattle.script_lang.specs.declared.command.NamedKey.{NamedKey}
 
 -- ---- the row
@@ -48,7 +48,7 @@ bar_text (Some job) = decimal job
 
 -- what stands behind the key; an absent content has neither bar nor holds
 abbrev pub found_text : RowView → List ℕ
-found_text row = if row.present then codes "present bar=" ++ bar_text row.bar ++ codes " holds=" ++ joined 44 hold_text row.holds else codes "absent"
+found_text row = if row.present then codes "present bar=" ++ bar_text row.bar ++ codes " holds=" ++ joined_text 44 hold_text row.holds else codes "absent"
 
 abbrev pub row_text : Run → ℕ → NamedKey → RowView → List ℕ
 row_text run r k row = codes "row " ++ name_of run.repos r ++ codes " " ++ key_text k.key k.path ++ codes " " ++ found_text row ++ codes "\n"

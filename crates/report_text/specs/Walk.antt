@@ -1,5 +1,5 @@
 -- Where a walk along a run stands, along which runs it goes, and what their scripts may show (own).
-use Rattle.std.specs.Prelude.{◌≡◌, ℕ, ◌<◌, ◌≤◌, List, length, Option, Some, None}
+use Rattle.std.specs.Prelude.{◌≡◌, ℕ, ◌<◌, ◌≤◌, List, length}
 use Rattle.run_data.specs.declared.entry.Entry.{Entry}
 use Rattle.run_data.specs.declared.entry.EntryKind.{EntryKind}
 use Rattle.run_data.specs.declared.entry.EntryKind.TheVariants.{Crash}
@@ -8,23 +8,25 @@ use Rattle.run_data.specs.declared.run.Run.{Run}
 use Rattle.run_model.specs.Safety.{past_at}
 use Rattle.report_text.specs.Branches.{HasBranches, LogsLines}
 use Rattle.report_text.specs.Contents.{Tracks}
+use Rattle.report_text.specs.Rows.{HasRows}
 use Rattle.report_text.specs.declared.walk.Walk.{Walk}
 use Rattle.script_lang.specs.declared.command.Command.{Command}
 use Rattle.script_lang.specs.declared.command.Command.TheVariants as commands
 
--- the walk knows the contents and the branches after these entries, the newest first
-pub record Knows (walk : Walk) (repositories : ℕ) (past : List Entry) : Type 0 where
-  pub contents : Tracks walk.contents repositories past
-  pub branches : HasBranches walk.branches repositories past
+-- the walk knows the contents, the branches and the rows after these entries, the newest first
+pub record Knows (walk : Walk) (repos : List RepoView) (past : List Entry) : Type 0 where
+  pub contents : Tracks walk.contents (length repos) past
+  pub branches : HasBranches walk.branches (length repos) past
+  pub rows : HasRows walk.rows repos past
 
 -- the walk knows what is there at its place of the run
 pub record StandsIn (walk : Walk) (run : Run) : Type 0 where
-  pub knows : Knows walk (length run.repos) (past_at run walk.place)
+  pub knows : Knows walk run.repos (past_at run walk.place)
 
 -- and this is its place
 pub record StandsAt (walk : Walk) (run : Run) (place : ℕ) : Type 0 where
   pub place_is : walk.place ≡ place
-  pub knows : Knows walk (length run.repos) (past_at run place)
+  pub knows : Knows walk run.repos (past_at run place)
 
 -- a clock is set to at most this, in milliseconds
 abbrev pub SetsClock : EntryKind → Type 0
@@ -52,13 +54,3 @@ ShowsKnown n (commands.ShowNumbers r path) = r < n
 ShowsKnown n (commands.ShowLevel r target) = (r < n) × (target < n)
 ShowsKnown n (commands.ShowRow r k) = r < n
 ShowsKnown n _ = Unit {0}
-
--- the repository of whose branch a line shows something, if it shows one
-abbrev pub shown_repo : Command → Option ℕ
-shown_repo (commands.ShowClaims r k) = Some r
-shown_repo (commands.ShowLocation r k) = Some r
-shown_repo (commands.ShowLog r file) = Some r
-shown_repo (commands.ShowLogs r) = Some r
-shown_repo (commands.ShowNumbers r path) = Some r
-shown_repo (commands.ShowLevel r target) = Some r
-shown_repo _ = None

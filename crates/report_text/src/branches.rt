@@ -1,6 +1,5 @@
 //! The branches of a run's repositories, as the entries so far change them.
-ghost use Rattle.std.specs.Prelude.{◌≡◌, ◌<◌, ◌≤◌, ℕ, List, [], ◌∷◌, Some, None, IfOk, OnOk};
-ghost use Rattle.std.specs.Option.{option_copied};
+ghost use Rattle.std.specs.Prelude.{◌≡◌, ◌<◌, ℕ, List, [], ◌∷◌, length, IfOk, OnOk};
 ghost use Rattle.annex_base.specs.Lists.{Each};
 ghost use Rattle.union_merge.specs.LineSet.{IsLine};
 ghost use Rattle.union_merge.specs.Branch.{file_at, merged_file};
@@ -35,12 +34,12 @@ impl Branches {
         Ok(Branches { branches, alloc })
     }
 
-    /// The branch of the repository of this number; one that isn't there has none.
-    pub(crate) fn branch(&self, repo: u32) -> Option<&Branch>
-        ensures known { (repositories : ℕ) (past : List Entry) → HasBranches self.now repositories past → repo < repositories → option_copied result ≡ Some (branch past repo) }
-        ensures beyond { (repositories : ℕ) (past : List Entry) → HasBranches self.now repositories past → repositories ≤ repo → option_copied result ≡ None }
+    /// The branch of the repository of this number.
+    pub(crate) fn branch(&self, repo: u32) -> &Branch
+        requires { repo < length self.now.branches.items }
+        ensures { (repositories : ℕ) (past : List Entry) → HasBranches self.now repositories past → result.now ≡ branch past repo }
     {
-        self.branches.get(repo as usize)
+        &self.branches[repo as usize]
     }
 
     /// Takes note of what one more entry changes: lines that are added to a file of one of the repositories, or a file

@@ -1,18 +1,16 @@
-//! The holds of a repository before a place of a run.
+//! The holds of a repository, as its entries change them.
 
-ghost use Rattle.std.specs.Prelude.{◌≡◌, ◌≤◌, List, filter, map, not, ◌==◌, IfOk, OnOk, reverse};
-ghost use Rattle.annex_base.specs.Lists.{Each};
-ghost use Rattle.run_data.specs.declared.entry.By.TheVariants.{Job as by_job, Peer};
+ghost use Rattle.std.specs.Prelude.{◌≡◌, ◌≤◌, filter, map, not, ◌==◌, IfOk, OnOk};
+ghost use Rattle.run_data.specs.declared.entry.By.TheVariants.{Peer};
 ghost use Rattle.run_data.specs.declared.entry.EntryKind.TheVariants.{Close, Fault};
 ghost use Rattle.node_model.specs.Rows.{blocks, holds_after, is_lost_ordered, keep_of, restart, same_owner};
-ghost use Rattle.run_model.specs.Past.{holds};
 ghost use Rattle.report_text.specs.Row.{blocking, hold_view};
-ghost use Rattle.report_text.specs.Scan.{ended, holds_with, outlives};
-ghost use Rattle.report_text.specs.Walk.{IsWellFormed, SetsClock};
+ghost use Rattle.report_text.specs.Scan.{holds_after_end, outlives};
+ghost use Rattle.report_text.specs.Walk.{SetsClock};
 
 use annex_base::{Call, NoMemory};
 use annex_key::Key;
-use run_data::{By, DropRefusal, Entry, EntryKind, Hold, HoldView, Outcome};
+use run_data::{By, DropRefusal, EntryKind, Hold, HoldView, Outcome};
 use std::alloc::Global;
 
 /// How long a hold lasts, in milliseconds: ten minutes.
@@ -109,7 +107,7 @@ fn outlives(hold: &Hold, job: u32) -> bool
 
 /// Releases what a job held, or keeps it after a lost order.
 fn end(holds: &mut Vec<Hold>, job: u32, lost: bool)
-    ensures { holds.new.items ≡ ended job lost holds.old.items }
+    ensures { holds.new.items ≡ holds_after_end job lost holds.old.items }
 {
     if lost {
         keep(holds, By::Job(job));
@@ -124,8 +122,8 @@ fn release_of(holds: &mut Vec<Hold>, job: u32)
     holds.retain(|hold| outlives(hold, job));
 }
 
-/// Takes note of what an entry of their repository changes.
-fn change(holds: &mut Vec<Hold>, kind: &EntryKind) -> Result<(), NoMemory>
+/// Takes note of what an entry of their repository changes; the newest stands first.
+pub(crate) fn change_holds(holds: &mut Vec<Hold>, kind: &EntryKind) -> Result<(), NoMemory>
     requires { SetsClock kind.now }
     ensures { OnOk result (holds.new.items ≡ holds_after holds.old.items kind.now) }
 {
@@ -149,29 +147,6 @@ fn change(holds: &mut Vec<Hold>, kind: &EntryKind) -> Result<(), NoMemory>
         _ => {}
     }
     Ok(())
-}
-
-/// The same, if the entry is one of this repository.
-fn note(holds: &mut Vec<Hold>, entry: &Entry, repo: u32) -> Result<(), NoMemory>
-    requires { IsWellFormed entry.now }
-    ensures { OnOk result (holds.new.items ≡ holds_with repo holds.old.items entry.now) }
-{
-    if entry.repo == Some(repo) {
-        change(holds, &entry.kind)?;
-    }
-    Ok(())
-}
-
-/// The holds of a repository after these entries, the newest first.
-pub(crate) fn holds(alloc: Global, before: &[Entry], repo: u32) -> Result<Vec<Hold>, NoMemory>
-    requires { Each IsWellFormed before.now }
-    ensures { IfOk result (λ v. v.items ≡ holds (reverse before.now) repo) }
-{
-    let mut holds = Vec::new(alloc);
-    for entry in before {
-        note(&mut holds, entry, repo)?;
-    }
-    Ok(holds)
 }
 
 /// Whether the hold blocks the key at this time of the clock.

@@ -1,6 +1,7 @@
 //! The texts of runs: the report that a script's run prints.
 #![tactic(auto)]
 
+mod bars;
 mod branches;
 mod clock;
 mod contents;
@@ -9,6 +10,7 @@ mod lines;
 mod logs;
 mod named;
 mod row;
+mod rows;
 mod run_report;
 mod settings;
 mod shown;

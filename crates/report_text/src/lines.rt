@@ -29,7 +29,45 @@ pub(crate) fn put_slot(
         Command::Run { repo, .. } | Command::Begin { repo, .. } => {
             put_noslot(out, run, from, upto, *repo)?
         }
-        _ => {}
+        Command::Repo { .. }
+        | Command::Numcopies { .. }
+        | Command::Mincopies { .. }
+        | Command::NumcopiesFor { .. }
+        | Command::MincopiesFor { .. }
+        | Command::Trust { .. }
+        | Command::Describe { .. }
+        | Command::Wanted { .. }
+        | Command::Required { .. }
+        | Command::Group { .. }
+        | Command::GroupWanted { .. }
+        | Command::Log { .. }
+        | Command::Have { .. }
+        | Command::Part { .. }
+        | Command::Damage { .. }
+        | Command::Add { .. }
+        | Command::File { .. }
+        | Command::Turn { .. }
+        | Command::Settle
+        | Command::Merge { .. }
+        | Command::Compact { .. }
+        | Command::Sync { .. }
+        | Command::Close { .. }
+        | Command::Crash { .. }
+        | Command::Wait { .. }
+        | Command::Fail { .. }
+        | Command::Par { .. }
+        | Command::ShowPresence { .. }
+        | Command::ShowClaims { .. }
+        | Command::ShowLocation { .. }
+        | Command::ShowLog { .. }
+        | Command::ShowLogs { .. }
+        | Command::ShowNumbers { .. }
+        | Command::ShowLevel { .. }
+        | Command::ShowWants { .. }
+        | Command::ShowRow { .. }
+        | Command::ShowPlan { .. }
+        | Command::ShowTotals
+        | Command::ShowJournal => {}
     }
     Ok(())
 }

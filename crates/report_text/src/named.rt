@@ -3,7 +3,7 @@
 ghost use Rattle.std.specs.Prelude.{◌≡◌, ◌++◌, ◌∷◌, IfOk, OnOk, bytes_eq, filter, map, not};
 ghost use Rattle.std.specs.List.{flat_map, list_any};
 ghost use Rattle.annex_base.specs.RepoText.{repo_text};
-ghost use Rattle.run_text.specs.Names.{joined};
+ghost use Rattle.run_text.specs.Names.{joined_text};
 ghost use Rattle.report_text.specs.Report.{names_of_ids};
 
 use annex_base::{NoMemory, RepoId, Text};
@@ -70,7 +70,7 @@ pub(crate) fn named(
 
 /// Adds words with a byte between them, or a dash.
 pub(crate) fn put_joined(out: &mut Vec<u8>, between: u8, words: &[Text]) -> Result<(), AllocError>
-    ensures { OnOk result (out.new.items ≡ out.old.items ++ joined between (λ word. word) words.now) }
+    ensures { OnOk result (out.new.items ≡ out.old.items ++ joined_text between (λ word. word) words.now) }
 {
     match words.split_first() {
         None => out.push(b'-')?,

@@ -1,6 +1,6 @@
 //! The report of a script's run, line by line.
 
-ghost use Rattle.std.specs.Prelude.{◌≡◌, ◌++◌, IfOk, OnOk, length};
+ghost use Rattle.std.specs.Prelude.{◌≡◌, ◌++◌, ◌<◌, ◌^◌, IfOk, OnOk, length};
 ghost use Rattle.annex_base.specs.Lists.{Each};
 ghost use Rattle.report_text.specs.Report.{changes_of, line_text, report};
 ghost use Rattle.report_text.specs.Walk.{IsAhead, IsWellFormed, ShowsKnown, StandsIn};
@@ -15,10 +15,10 @@ use std::alloc::Global;
 
 /// The report of a run of this script (own): for each line of the script that its job found no slot, the lines of the
 /// jobs that ended and of the faults while it was done, and what it shows; then those of the entries after the last.
-/// To show where a key is present among 2^32 repositories or more is answered as want of memory.
 pub fn report(alloc: Global, script: &[Command], run: &Run) -> Result<Vec<u8>, NoMemory>
     requires formed { Each IsWellFormed run.now.entries }
     requires ahead { Each IsAhead run.now.repos }
+    requires few { length run.now.repos < 2 ^ 32 }
     requires known { Each (ShowsKnown (length run.now.repos)) script.now }
     ensures { IfOk result (λ text. text.items ≡ report script.now run.now) }
 {
@@ -50,6 +50,7 @@ fn put_line(
     requires stands { StandsIn walk.old run.now }
     requires formed { Each IsWellFormed run.now.entries }
     requires ahead { Each IsAhead run.now.repos }
+    requires few { length run.now.repos < 2 ^ 32 }
     requires known { ShowsKnown (length run.now.repos) command.now }
     ensures text { OnOk result (out.new.items ≡ out.old.items ++ line_text run.now from upto changes command.now) }
     ensures walk { OnOk result (StandsIn walk.new run.now) }
@@ -66,6 +67,44 @@ fn changes_of(command: &Command) -> usize
 {
     match command {
         Command::Add { .. } | Command::File { .. } => 1,
-        _ => 0,
+        Command::Repo { .. }
+        | Command::Numcopies { .. }
+        | Command::Mincopies { .. }
+        | Command::NumcopiesFor { .. }
+        | Command::MincopiesFor { .. }
+        | Command::Trust { .. }
+        | Command::Describe { .. }
+        | Command::Wanted { .. }
+        | Command::Required { .. }
+        | Command::Group { .. }
+        | Command::GroupWanted { .. }
+        | Command::Log { .. }
+        | Command::Have { .. }
+        | Command::Part { .. }
+        | Command::Damage { .. }
+        | Command::Run { .. }
+        | Command::Begin { .. }
+        | Command::Turn { .. }
+        | Command::Settle
+        | Command::Merge { .. }
+        | Command::Compact { .. }
+        | Command::Sync { .. }
+        | Command::Close { .. }
+        | Command::Crash { .. }
+        | Command::Wait { .. }
+        | Command::Fail { .. }
+        | Command::Par { .. }
+        | Command::ShowPresence { .. }
+        | Command::ShowClaims { .. }
+        | Command::ShowLocation { .. }
+        | Command::ShowLog { .. }
+        | Command::ShowLogs { .. }
+        | Command::ShowNumbers { .. }
+        | Command::ShowLevel { .. }
+        | Command::ShowWants { .. }
+        | Command::ShowRow { .. }
+        | Command::ShowPlan { .. }
+        | Command::ShowTotals
+        | Command::ShowJournal => 0,
     }
 }

@@ -1,6 +1,6 @@
 //! What a branch sets: numbers of copies, levels and groups.
 
-ghost use Rattle.std.specs.Prelude.{◌≡◌, ◌++◌, ◌<◌, length, IfOk, OnOk};
+ghost use Rattle.std.specs.Prelude.{◌≡◌, ◌++◌, ◌<◌, length, OnOk};
 ghost use Rattle.union_merge.specs.Branch.{lines_at};
 ghost use Rattle.trust_groups.specs.Settings.{settings};
 ghost use Rattle.run_data.specs.Repos.{id_of};
@@ -10,7 +10,6 @@ use crate::named::put_joined;
 use annex_base::{Level, NoMemory, RepoId, Text, put_number};
 use run_data::{RepoView, Run};
 use run_text::put_name;
-use std::alloc::Global;
 use trust_groups::{groups_of, level_of, mincopies_of, numcopies_of};
 use union_merge::Branch;
 

@@ -1,15 +1,15 @@
 //! What the lines of a script show.
-ghost use Rattle.std.specs.Prelude.{◌≡◌, ◌++◌, ℕ, List, [], ◌∷◌, OnOk, IfOk, Some, length, filter, take, codes};
+ghost use Rattle.std.specs.Prelude.{◌≡◌, ◌++◌, ◌<◌, ◌^◌, List, OnOk, IfOk, length, filter, take, codes};
 ghost use Rattle.std.specs.List.{range_with_len};
 ghost use Rattle.annex_base.specs.Lists.{Each};
 ghost use Rattle.run_data.specs.declared.entry.Entry.{Entry};
 ghost use Rattle.run_model.specs.Past.{present};
 ghost use Rattle.run_text.specs.Jobs.{key_text};
-ghost use Rattle.run_text.specs.Names.{name_of, joined};
+ghost use Rattle.run_text.specs.Names.{name_of, joined_text};
 ghost use Rattle.journal_text.specs.Journal.{journal_of};
 ghost use Rattle.report_text.specs.Contents.{Tracks};
-ghost use Rattle.report_text.specs.Report.{branch_at, show_text};
-ghost use Rattle.report_text.specs.Walk.{IsAhead, IsWellFormed, ShowsKnown, StandsIn, shown_repo};
+ghost use Rattle.report_text.specs.Report.{show_text};
+ghost use Rattle.report_text.specs.Walk.{IsAhead, IsWellFormed, ShowsKnown, StandsIn};
 
 use crate::contents::Contents;
 use crate::logs::{put_claims, put_file, put_files, put_location};
@@ -23,7 +23,6 @@ use run_data::{RepoView, Run};
 use run_text::{put_key, put_names};
 use script_lang::{Command, NamedKey};
 use std::alloc::{AllocError, Global};
-use union_merge::Branch;
 
 /// Adds what a line of a script shows at a place of the run, after lines that made so many changes of the tree.
 pub(crate) fn put_shown(
@@ -37,75 +36,46 @@ pub(crate) fn put_shown(
     requires stands { StandsIn walk.old run.now }
     requires formed { Each IsWellFormed run.now.entries }
     requires ahead { Each IsAhead run.now.repos }
+    requires few { length run.now.repos < 2 ^ 32 }
     requires known { ShowsKnown (length run.now.repos) command.now }
     ensures text { OnOk result (out.new.items ≡ out.old.items ++ show_text run.now place changes command.now) }
     ensures walk { OnOk result (StandsIn walk.new run.now) }
 {
-    if let Command::ShowPresence { key } = command {
-        walk.move_to(*out.allocator(), run, place)?;
-        put_presence(out, run.repos.as_slice(), walk.contents(), key)?;
-    } else if let Command::ShowRow { repo, key } = command {
-        walk.move_to(*out.allocator(), run, place)?;
-        put_row(out, run, place, *repo, walk.contents(), key)?;
-    } else if let Command::ShowJournal = command {
-        put_journal_at(out, run, place, changes)?;
-    } else if let Some(repo) = shown_repo(command) {
-        put_of_repo(out, walk, run, place, changes, repo, command)?;
-    }
-    Ok(())
-}
-
-/// Adds the journal of the entries before a place, and of so many changes of the tree.
-fn put_journal_at(
-    out: &mut Vec<u8>,
-    run: &Run,
-    place: usize,
-    changes: usize,
-) -> Result<(), AllocError>
-    ensures { OnOk result (out.new.items ≡ out.old.items ++ journal_of run.now.repos (take changes run.now.tree) (take place run.now.entries)) }
-{
-    let tree = first(run.tree.as_slice(), changes);
-    let entries = first(run.entries.as_slice(), place);
-    put_journal(out, run.repos.as_slice(), tree, entries)?;
-    Ok(())
-}
-
-/// Adds what a line shows of a repository's branch at a place of the run.
-fn put_of_repo(
-    out: &mut Vec<u8>,
-    walk: &mut Walk,
-    run: &Run,
-    place: usize,
-    _changes: usize,
-    repo: u32,
-    command: &Command,
-) -> Result<(), NoMemory>
-    requires stands { StandsIn walk.old run.now }
-    requires formed { Each IsWellFormed run.now.entries }
-    requires known { ShowsKnown (length run.now.repos) command.now }
-    requires named { shown_repo command.now ≡ Some repo }
-    ensures text { OnOk result (out.new.items ≡ out.old.items ++ show_text run.now place _changes command.now) }
-    ensures walk { OnOk result (StandsIn walk.new run.now) }
-{
     let alloc = *out.allocator();
-    walk.move_to(alloc, run, place)?;
-    if let Some(branch) = walk.branch(repo) {
-        put_branch(out, run, branch, command)?;
-    }
-    Ok(())
-}
-
-/// The repository of whose branch the line shows something, if it shows one.
-fn shown_repo(command: &Command) -> Option<u32>
-    ensures { result ≡ shown_repo command.now }
-{
     match command {
-        Command::ShowClaims { repo, .. }
-        | Command::ShowLocation { repo, .. }
-        | Command::ShowLog { repo, .. }
-        | Command::ShowLogs { repo }
-        | Command::ShowNumbers { repo, .. }
-        | Command::ShowLevel { repo, .. } => Some(*repo),
+        Command::ShowPresence { key } => {
+            walk.move_to(alloc, run, place)?;
+            put_presence(out, run.repos.as_slice(), walk.contents(), key)?;
+        }
+        Command::ShowClaims { repo, key } => {
+            walk.move_to(alloc, run, place)?;
+            put_claims(out, run, *repo, walk.branch(*repo), key)?;
+        }
+        Command::ShowLocation { repo, key } => {
+            walk.move_to(alloc, run, place)?;
+            put_location(out, run, *repo, walk.branch(*repo), key)?;
+        }
+        Command::ShowLog { repo, file } => {
+            walk.move_to(alloc, run, place)?;
+            put_file(out, run, *repo, walk.branch(*repo), file)?;
+        }
+        Command::ShowLogs { repo } => {
+            walk.move_to(alloc, run, place)?;
+            put_files(out, run, *repo, walk.branch(*repo))?;
+        }
+        Command::ShowNumbers { repo, path } => {
+            walk.move_to(alloc, run, place)?;
+            put_numbers_for(out, run, *repo, path, walk.branch(*repo))?;
+        }
+        Command::ShowLevel { repo, target } => {
+            walk.move_to(alloc, run, place)?;
+            put_level(out, run, *repo, *target, walk.branch(*repo))?;
+        }
+        Command::ShowRow { repo, key } => {
+            walk.move_to(alloc, run, place)?;
+            put_row(out, run, walk, *repo, key)?;
+        }
+        Command::ShowJournal => put_journal_at(out, run, place, changes)?,
         Command::Repo { .. }
         | Command::Numcopies { .. }
         | Command::Mincopies { .. }
@@ -135,35 +105,25 @@ fn shown_repo(command: &Command) -> Option<u32>
         | Command::Wait { .. }
         | Command::Fail { .. }
         | Command::Par { .. }
-        | Command::ShowPresence { .. }
         | Command::ShowWants { .. }
-        | Command::ShowRow { .. }
         | Command::ShowPlan { .. }
-        | Command::ShowTotals
-        | Command::ShowJournal => None,
+        | Command::ShowTotals => {}
     }
+    Ok(())
 }
 
-/// Adds what a line shows of a branch: that of its repository at a place of the run.
-fn put_branch(
+/// Adds the journal of the entries before a place, and of so many changes of the tree.
+fn put_journal_at(
     out: &mut Vec<u8>,
     run: &Run,
-    branch: &Branch,
-    command: &Command,
-) -> Result<(), NoMemory>
-    requires { ShowsKnown (length run.now.repos) command.now }
-    ensures { OnOk result ((place changes repo : ℕ) → shown_repo command.now ≡ Some repo → branch.now ≡ branch_at run.now place repo
-        → out.new.items ≡ out.old.items ++ show_text run.now place changes command.now) }
+    place: usize,
+    changes: usize,
+) -> Result<(), AllocError>
+    ensures { OnOk result (out.new.items ≡ out.old.items ++ journal_of run.now.repos (take changes run.now.tree) (take place run.now.entries)) }
 {
-    match command {
-        Command::ShowClaims { repo, key } => put_claims(out, run, *repo, branch, key)?,
-        Command::ShowLocation { repo, key } => put_location(out, run, *repo, branch, key)?,
-        Command::ShowLog { repo, file } => put_file(out, run, *repo, branch, file)?,
-        Command::ShowLogs { repo } => put_files(out, run, *repo, branch)?,
-        Command::ShowNumbers { repo, path } => put_numbers_for(out, run, *repo, path, branch)?,
-        Command::ShowLevel { repo, target } => put_level(out, run, *repo, *target, branch)?,
-        _ => {}
-    }
+    let tree = first(run.tree.as_slice(), changes);
+    let entries = first(run.entries.as_slice(), place);
+    put_journal(out, run.repos.as_slice(), tree, entries)?;
     Ok(())
 }
 
@@ -173,9 +133,10 @@ fn put_presence(
     contents: &Contents,
     key: &NamedKey,
 ) -> Result<(), NoMemory>
+    requires { length repos.now < 2 ^ 32 }
     ensures { OnOk result ((past : List Entry) → Tracks contents.now (length repos.now) past → out.new.items ≡ out.old.items
         ++ (codes "presence " ++ key_text key.now.key key.now.path ++ codes " "
-        ++ joined 32 (name_of repos.now) (filter (λ r. present past r key.now.key) (range_with_len 0 (length repos.now))) ++ codes "\n")) }
+        ++ joined_text 32 (name_of repos.now) (filter (λ r. present past r key.now.key) (range_with_len 0 (length repos.now))) ++ codes "\n")) }
 {
     out.extend_from_slice(b"presence ")?;
     put_key(out, &key.key, &key.path)?;
@@ -186,22 +147,19 @@ fn put_presence(
     Ok(())
 }
 
-/// The numbers of the repositories that have the key, in order. Want of memory comes also where there are so many
-/// repositories that a number passes its type.
+/// The numbers of the repositories that have the key, in order.
 fn having(
     alloc: Global,
     contents: &Contents,
     repositories: usize,
     key: &Key,
 ) -> Result<Vec<u32>, NoMemory>
+    requires { repositories < 2 ^ 32 }
     ensures { IfOk result (λ numbers. (past : List Entry) → Tracks contents.now repositories past
         → numbers.items ≡ filter (λ r. present past r key.now) (range_with_len 0 repositories)) }
 {
-    let Ok(count) = u32::try_from(repositories) else {
-        return Err(NoMemory);
-    };
     let mut numbers = Vec::new(alloc);
-    for repo in 0..count {
+    for repo in 0..repositories as u32 {
         if contents.has(repo, key) {
             numbers.push(repo)?;
         }

@@ -1,38 +1,43 @@
-//! The way through a run: which repositories have which keys at a place, and their branches there.
+//! The way through a run: which repositories have which keys at a place, and their branches and rows there.
 
-ghost use Rattle.std.specs.Prelude.{◌≡◌, ◌≤◌, ◌<◌, ◌∷◌, ℕ, List, OnOk, IfOk, Some, length};
-ghost use Rattle.std.specs.Option.{option_copied};
+ghost use Rattle.std.specs.Prelude.{◌≡◌, ◌≤◌, ◌<◌, ◌∷◌, ℕ, List, OnOk, IfOk, length};
 ghost use Rattle.annex_base.specs.Lists.{Each};
-ghost use Rattle.run_model.specs.Logs.{branch};
 ghost use Rattle.run_data.specs.declared.entry.Entry.{Entry};
+ghost use Rattle.run_data.specs.declared.run.RepoView.{RepoView};
 ghost use Rattle.run_data.specs.declared.run.Run.{Run};
-ghost use Rattle.run_model.specs.Safety.{past_at};
-ghost use Rattle.report_text.specs.Walk.{IsWellFormed, Knows, StandsIn, StandsAt};
+ghost use Rattle.report_text.specs.Report.{branch_at};
+ghost use Rattle.report_text.specs.Row.{row_at};
+ghost use Rattle.report_text.specs.Walk.{IsAhead, IsWellFormed, Knows, StandsIn, StandsAt};
 
 use crate::branches::Branches;
 use crate::contents::Contents;
-use annex_base::NoMemory;
-use run_data::{Entry, Run};
+use crate::rows::Rows;
+use annex_base::{Items, NoMemory};
+use annex_key::Key;
+use run_data::{Entry, RowView, Run};
 use std::alloc::Global;
 use union_merge::Branch;
 
-/// A place of a run, which repositories have which keys there, and their branches.
+/// A place of a run, which repositories have which keys there, and their branches and rows.
 #[derive(Drop)]
 pub(crate) struct Walk {
     contents: Contents,
     branches: Branches,
+    rows: Rows,
     place: usize,
 }
 
 impl Walk {
     /// Before the first entry.
     pub(crate) fn new(alloc: Global, run: &Run) -> Result<Walk, NoMemory>
+        requires { Each IsAhead run.now.repos }
         ensures { IfOk result (λ walk. StandsAt walk run.now 0) }
     {
-        let repositories = run.repos.as_slice().len();
+        let repos = run.repos.as_slice();
         Ok(Walk {
-            contents: Contents::new(alloc, repositories)?,
-            branches: Branches::new(alloc, repositories)?,
+            contents: Contents::new(alloc, repos.len())?,
+            branches: Branches::new(alloc, repos.len())?,
+            rows: Rows::new(alloc, repos)?,
             place: 0,
         })
     }
@@ -43,17 +48,32 @@ impl Walk {
         &self.contents
     }
 
-    /// The branch of a repository; one that isn't there has none.
-    pub(crate) fn branch(&self, repo: u32) -> Option<&Branch>
-        ensures { (run : Run) (place : ℕ) → StandsAt self.now run place → repo < length run.repos → option_copied result ≡ Some (branch (past_at run place) repo) }
+    /// The branch of a repository of the run.
+    pub(crate) fn branch(&self, repo: u32) -> &Branch
+        requires { repo < length self.now.branches.branches.items }
+        ensures { (run : Run) (place : ℕ) → StandsAt self.now run place → result.now ≡ branch_at run place repo }
     {
         self.branches.branch(repo)
+    }
+
+    /// The row of a key at a repository.
+    pub(crate) fn row(&self, alloc: Global, repo: u32, key: &Key) -> Result<RowView, NoMemory>
+        requires { repo < length self.now.rows.repos.items }
+        ensures { IfOk result (λ row. (run : Run) (place : ℕ) → StandsAt self.now run place → row ≡ row_at run place repo key.now) }
+    {
+        let holds = self.rows.blocking(alloc, repo, key)?;
+        Ok(RowView {
+            present: self.contents.has(repo, key),
+            bar: self.rows.bar(repo, key),
+            holds: Items::from_vec(holds),
+        })
     }
 
     /// Goes to a place: on from where it stands, or from the beginning to one before that.
     pub(crate) fn move_to(&mut self, alloc: Global, run: &Run, place: usize) -> Result<(), NoMemory>
         requires stands { StandsIn self.old run.now }
         requires formed { Each IsWellFormed run.now.entries }
+        requires ahead { Each IsAhead run.now.repos }
         ensures { OnOk result (StandsAt self.new run.now place) }
     {
         self.back_before(alloc, run, place)?;
@@ -63,7 +83,8 @@ impl Walk {
 
     /// Goes back to the beginning, unless it stands at the place or before it.
     fn back_before(&mut self, alloc: Global, run: &Run, place: usize) -> Result<(), NoMemory>
-        requires { StandsIn self.old run.now }
+        requires stands { StandsIn self.old run.now }
+        requires ahead { Each IsAhead run.now.repos }
         ensures stands { OnOk result (StandsIn self.new run.now) }
         ensures before { OnOk result (self.new.place ≤ place) }
     {
@@ -91,10 +112,11 @@ impl Walk {
     /// Takes note of one more entry; where it stands is left to the caller.
     fn add(&mut self, entry: &Entry) -> Result<(), NoMemory>
         requires { IsWellFormed entry.now }
-        ensures { OnOk result ((repositories : ℕ) (past : List Entry) → Knows self.old repositories past → Knows self.new repositories (entry.now ∷ past)) }
+        ensures { OnOk result ((repos : List RepoView) (past : List Entry) → Knows self.old repos past → Knows self.new repos (entry.now ∷ past)) }
     {
         self.contents.add(entry)?;
         self.branches.add(entry)?;
+        self.rows.add(entry)?;
         Ok(())
     }
 }

@@ -12,9 +12,9 @@ abbrev pub name_of : List RepoView → ℕ → List ℕ
 name_of repos r = name_in (slice_get repos r)
 
 -- items with a byte between them, or a dash
-abbrev pub joined : {X : Type 0} → ℕ → (X → List ℕ) → List X → List ℕ
-joined between f [] = 45 ∷ []
-joined between f (x ∷ xs) = f x ++ flat_map (λ y. between ∷ f y) xs
+abbrev pub joined_text : {X : Type 0} → ℕ → (X → List ℕ) → List X → List ℕ
+joined_text between f [] = 45 ∷ []
+joined_text between f (x ∷ xs) = f x ++ flat_map (λ y. between ∷ f y) xs
 
 abbrev pub names : List RepoView → List ℕ → List ℕ
-names repos rs = joined 44 (name_of repos) rs
+names repos rs = joined_text 44 (name_of repos) rs

@@ -20,7 +20,7 @@ use Rattle.run_data.specs.declared.job.SourceCause.TheVariants as sources
 use Rattle.run_data.specs.declared.job.SourceFailure.{SourceFailure}
 use Rattle.run_data.specs.declared.job.Outcome.{Outcome}
 use Rattle.run_data.specs.declared.job.Outcome.TheVariants as outcomes
-use Rattle.run_text.specs.Names.{name_of, names, joined}
+use Rattle.run_text.specs.Names.{name_of, names, joined_text}
 
 abbrev pub proof_text : List RepoView → Proof → List ℕ
 proof_text repos proof = codes "need=" ++ decimal proof.need.n ++ codes "," ++ decimal proof.need.m
@@ -57,7 +57,7 @@ refusal_text repos refusals.NotPresent = codes "1 notpresent"
 refusal_text repos (refusals.Required expression) = codes "2 required " ++ expression
 refusal_text repos (refusals.Held until) = codes "3 held until=" ++ until_text until
 refusal_text repos (refusals.Barred job) = codes "4 barred " ++ decimal job
-refusal_text repos (refusals.Lacking proof reasons) = codes "5 lacking " ++ proof_text repos proof ++ codes " causes=" ++ joined 44 (candidate_text repos) reasons
+refusal_text repos (refusals.Lacking proof reasons) = codes "5 lacking " ++ proof_text repos proof ++ codes " causes=" ++ joined_text 44 (candidate_text repos) reasons
 refusal_text repos (refusals.Expired end clock) = codes "6 expired " ++ decimal end ++ codes " " ++ decimal clock
 refusal_text repos (refusals.Denied answer) = codes "7 denied " ++ denial_text answer
 refusal_text repos (refusals.Lost ordered) = codes "8 lost " ++ ordered_text ordered
@@ -77,7 +77,7 @@ failure_text repos x = name_of repos x.repo ++ codes ":" ++ source_text x.cause
 -- the number of a transfer's refusal, and its reason
 abbrev pub transfer_text : List RepoView → TransferRefusal → List ℕ
 transfer_text repos transfers.NotHere = codes "1 nothere"
-transfer_text repos (transfers.NoSource reasons) = codes "2 nosource causes=" ++ joined 44 (failure_text repos) reasons
+transfer_text repos (transfers.NoSource reasons) = codes "2 nosource causes=" ++ joined_text 44 (failure_text repos) reasons
 transfer_text repos transfers.Busy = codes "3 busy"
 transfer_text repos transfers.Closed = codes "4 closed"
 transfer_text repos transfers.Rejected = codes "5 rejected"

@@ -1,6 +1,6 @@
 //! How a job ended.
 
-ghost use Rattle.std.specs.Prelude.{◌≡◌, ◌++◌, OnOk, codes, option_copied};
+ghost use Rattle.std.specs.Prelude.{◌≡◌, ◌++◌, IfOk, OnOk, OnErr, codes, option_copied};
 ghost use Rattle.run_text.specs.Outcomes.{transfer_word, transfer_word_of, start_text, from_text, outcome_text};
 
 use crate::names::put_name;
@@ -9,42 +9,56 @@ use crate::refusal::put_refusal;
 use crate::transfer::put_transfer;
 use annex_base::put_number;
 use run_data::{Job, JobKind, Outcome, RepoView};
-use std::alloc::AllocError;
+use std::alloc::{AllocError, Global};
 
-/// Adds what follows the job in the line of its end.
+/// Adds what follows the job in the line of its end; without memory it adds nothing.
 pub fn put_outcome(
     out: &mut Vec<u8>,
     repos: &[RepoView],
     job: Option<&Job>,
     outcome: &Outcome,
 ) -> Result<(), AllocError>
-    ensures { OnOk result (out.new.items ≡ out.old.items ++ outcome_text repos.now (option_copied job.entry) outcome.now) }
+    ensures ok { OnOk result (out.new.items ≡ out.old.items ++ outcome_text repos.now (option_copied job.entry) outcome.now) }
+    ensures err { OnErr result (out.new.items ≡ out.old.items) }
 {
+    let text = outcome_text(*out.allocator(), repos, job, outcome)?;
+    out.extend_from_slice(&text)
+}
+
+fn outcome_text(
+    alloc: Global,
+    repos: &[RepoView],
+    job: Option<&Job>,
+    outcome: &Outcome,
+) -> Result<Vec<u8>, AllocError>
+    ensures { IfOk result (λ text. text.items ≡ outcome_text repos.now (option_copied job.entry) outcome.now) }
+{
+    let mut text = Vec::new(alloc);
     match outcome {
         Outcome::Dropped(proof) => {
-            out.extend_from_slice(b" done ")?;
-            put_proof(out, repos, proof)?;
+            text.extend_from_slice(b" done ")?;
+            put_proof(&mut text, repos, proof)?;
         }
         Outcome::DroppedAbsent(proof) => {
-            out.extend_from_slice(b" done absent ")?;
-            put_proof(out, repos, proof)?;
+            text.extend_from_slice(b" done absent ")?;
+            put_proof(&mut text, repos, proof)?;
         }
-        Outcome::Got { source, start } => put_got(out, repos, *source, *start)?,
+        Outcome::Got { source, start } => put_got(&mut text, repos, *source, *start)?,
         Outcome::Copied { start } => {
-            out.extend_from_slice(b" done start=")?;
-            put_start(out, *start)?;
+            text.extend_from_slice(b" done start=")?;
+            put_start(&mut text, *start)?;
         }
         Outcome::Refused(refusal) => {
-            out.extend_from_slice(b" refused ")?;
-            put_refusal(out, repos, refusal)?;
+            text.extend_from_slice(b" refused ")?;
+            put_refusal(&mut text, repos, refusal)?;
         }
         Outcome::TransferRefused(refusal) => {
-            out.extend_from_slice(b" refused ")?;
-            out.extend_from_slice(word_of_transfer(job))?;
-            put_transfer(out, repos, refusal)?;
+            text.extend_from_slice(b" refused ")?;
+            text.extend_from_slice(word_of_transfer(job))?;
+            put_transfer(&mut text, repos, refusal)?;
         }
     }
-    Ok(())
+    Ok(text)
 }
 
 fn put_got(

@@ -3,7 +3,7 @@
 ghost use Rattle.std.specs.Prelude.{◌≡◌, ◌++◌, ◌∷◌, OnOk, codes};
 ghost use Rattle.std.specs.List.{flat_map};
 ghost use Rattle.std.specs.Fmt.{decimal};
-ghost use Rattle.run_text.specs.Names.{joined};
+ghost use Rattle.run_text.specs.Names.{joined_text};
 ghost use Rattle.run_text.specs.Outcomes.{proof_text, cause_text, candidate_text, until_text, denial_text, ordered_text, refusal_text};
 
 use crate::names::put_name;
@@ -63,7 +63,7 @@ fn put_lacking(
     causes: &[CandidateCause],
 ) -> Result<(), AllocError>
     ensures { OnOk result (out.new.items ≡ out.old.items
-        ++ (codes "5 lacking " ++ proof_text repos.now proof.now ++ codes " causes=" ++ joined 44 (candidate_text repos.now) causes.now)) }
+        ++ (codes "5 lacking " ++ proof_text repos.now proof.now ++ codes " causes=" ++ joined_text 44 (candidate_text repos.now) causes.now)) }
 {
     out.extend_from_slice(b"5 lacking ")?;
     put_proof(out, repos, proof)?;
@@ -87,7 +87,7 @@ fn put_candidates(
     repos: &[RepoView],
     causes: &[CandidateCause],
 ) -> Result<(), AllocError>
-    ensures { OnOk result (out.new.items ≡ out.old.items ++ joined 44 (candidate_text repos.now) causes.now) }
+    ensures { OnOk result (out.new.items ≡ out.old.items ++ joined_text 44 (candidate_text repos.now) causes.now) }
 {
     match causes.split_first() {
         None => out.push(b'-')?,

@@ -2,7 +2,7 @@
 
 ghost use Rattle.std.specs.Prelude.{◌≡◌, ◌++◌, ◌∷◌, OnOk};
 ghost use Rattle.std.specs.List.{flat_map};
-ghost use Rattle.run_text.specs.Names.{joined};
+ghost use Rattle.run_text.specs.Names.{joined_text};
 ghost use Rattle.run_text.specs.Outcomes.{source_text, failure_text, transfer_text};
 
 use crate::names::put_name;
@@ -37,7 +37,7 @@ fn put_failures(
     repos: &[RepoView],
     causes: &[SourceFailure],
 ) -> Result<(), AllocError>
-    ensures { OnOk result (out.new.items ≡ out.old.items ++ joined 44 (failure_text repos.now) causes.now) }
+    ensures { OnOk result (out.new.items ≡ out.old.items ++ joined_text 44 (failure_text repos.now) causes.now) }
 {
     match causes.split_first() {
         None => out.push(b'-')?,

@@ -1,8 +1,12 @@
 -- What is answered is the one thing that is due.
+use Rattle.std.proofs.Common.{◌++◌}
+use Rattle.run_data.specs.Histories.{most_entries}
 use Rattle.driver_model.specs.Driving.{run_of}
+use Rattle.driver_model.specs.Limits.{limited_run}
 use Rattle.driver_script.specs.Given.{given_of}
 use Rattle.report_text.specs.Report.{report}
-use Rattle.annex_cli.proofs.DueLemmas.{HaveOneReading, due_answered, due_report}
+use Rattle.annex_cli.specs.Top.{entries_name, limit_text}
+use Rattle.annex_cli.proofs.DueLemmas.{HaveOneReading, due_answered, due_cut, due_report}
 use Rattle.annex_cli.proofs.annex.Goals as goal
 
 pub returns-clause-due : goal.returns-clause-due
@@ -13,6 +17,11 @@ returns-clause-due g c = λ bytes text status words left due read write.
     (λ fault. read (c.run.ensures.read fault)) (λ fault. write (c.run.ensures.write fault))
 
 pub returns-clause-reported : goal.returns-clause-reported
-returns-clause-reported g c = λ bytes script lines words left short says built read write.
+returns-clause-reported g c = λ bytes script lines words left short says built whole read write.
     returns-clause-due g c bytes (report script (run_of (given_of script) lines)) _ words left
-    (due_report bytes script lines short (record { says = says; built = built })) read write
+    (due_report bytes script lines short (record { says = says; built = built }) whole) read write
+
+pub returns-clause-cut : goal.returns-clause-cut
+returns-clause-cut g c = λ bytes script lines words left short says built cut read write.
+    returns-clause-due g c bytes (report script (limited_run (given_of script) lines).run ++ limit_text entries_name most_entries) _ words left
+    (due_cut bytes script lines short (record { says = says; built = built }) cut) read write

@@ -3,7 +3,9 @@ use Rattle.std.proofs.Common.{◌≡◌, ◌<◌, Some, length, ap, sym, ◌∙�
 use Rattle.std.specs.Prelude.{slice_get}
 use Rattle.script_lang.specs.Numbering.{line_numbers}
 use Rattle.driver_script.specs.Lines.{repos_of}
-use Rattle.annex_cli.proofs.DueLemmas.{due_by, missing_is_due}
+use Rattle.driver_script.specs.Script.{IsUnbuilt}
+use Rattle.annex_cli.proofs.DueLemmas.{HaveOneReading, due_by, missing_is_due}
+use Rattle.annex_cli.proofs.GoodLemmas.{good_where_ok, missing_has_none}
 use Rattle.annex_cli.proofs.PlaceLemmas.{first_within}
 use Rattle.annex_cli.proofs.due.missing_due.Goals as goal
 
@@ -15,7 +17,21 @@ line_at-requires c =
 pub returns-clause-due : goal.returns-clause-due
 returns-clause-due c =
     let numbers = c.deref.ensures.value ∙ c.in_ok-numbers.ensures in
-    due_by c.complaint_due.result c.args.bytes.now _ _ c.complaint_due.ensures (missing_is_due c.args.bytes.now c.line_at.result c.requires.short (record {
+    let unbuilt : IsUnbuilt c.args.bytes.now c.line_at.result = record {
+      all = c.args._script.now;
+      says = c.requires.says;
+      place = c.args.place;
+      first = c.requires.first;
+      line_is = ap (λ ns. slice_get ns c.args.place) (sym numbers) ∙ c.line_at.ensures;
+    } in
+    due_by c.complaint_due.result c.args.bytes.now _ _ c.complaint_due.ensures (missing_is_due c.args.bytes.now c.line_at.result c.requires.short unbuilt)
+
+pub returns-clause-good : goal.returns-clause-good
+returns-clause-good c =
+    let numbers = c.deref.ensures.value ∙ c.in_ok-numbers.ensures in
+    let law = c.scripts_are_built_or_not.ensures in
+    let one : HaveOneReading = record { script = law.script; line = law.line; one = law.one } in
+    good_where_ok c.complaint_due.result c.args.bytes.now (missing_has_none one c.args.bytes.now c.line_at.result (record {
       all = c.args._script.now;
       says = c.requires.says;
       place = c.args.place;

@@ -1,9 +1,10 @@
 -- One line more, and after the last none is left.
-use Rattle.std.proofs.Common.{◌+◌, ◌<◌, ◌≤◌, [], List, length, drop, sym, subst, arith}
+use Rattle.std.proofs.Common.{◌+◌, ◌<◌, ◌≤◌, true, [], List, length, drop, Err, sym, ap, ◌∙◌, subst, arith}
 use Rattle.repo_node.specs.Stored.{store_view}
 use Rattle.script_lang.specs.declared.command.Command.{Command}
-use Rattle.annex_cli.specs.Runs.{HasDone}
-use Rattle.annex_cli.proofs.RunLemmas.{done_at_first, done_before, done_next, may_be_done, none_left}
+use Rattle.fleet_run.specs.declared.stop.FleetStop.TheVariants.{Full}
+use Rattle.annex_cli.specs.Runs.{HasDone, IsRunOf}
+use Rattle.annex_cli.proofs.RunLemmas.{cut_here, done_at_first, done_before, done_next, may_be_done, none_left, stop_is}
 use Rattle.annex_cli.proofs.runs.run_lines.Goals as goal
 
 pub loop-command-init : goal.loop-command-init
@@ -25,10 +26,20 @@ loop-command-preserved g c =
     let i = c.loop-command.command-index in
     let within : i < length all = omega arith in
     let before = done_before _ all i c.command-item.result c.loop-command.fleet within c.command-item.is c.loop-command.invariant in
-    done_next _ all c.command-item.result (drop (i + 1) all) c.loop-command.fleet before c.only_waits_take_time.ensures c.lines_wait_as_long.ensures c.line.new.self c.in_ok-line.ensures.ok
+    done_next _ all c.command-item.result (drop (i + 1) all) c.loop-command.fleet before c.only_waits_take_time.ensures c.lines_wait_as_long.ensures c.line.new.self c.in_ok-line.ensures.within c.in_ok-line.ensures.ok
 
-pub returns : goal.returns
-returns g c =
+pub returns-in_err-line-clause-cut : goal.returns-in_err-line-clause-cut
+returns-in_err-line-clause-cut g c = λ r stops.
+    let all : List Command = c.lines-commands.result.now in
+    let i = c.loop-command.command-index in
+    let within : i < length all = omega arith in
+    let before = done_before _ all i c.command-item.result c.loop-command.fleet within c.command-item.is c.loop-command.invariant in
+    let full = stop_is c.from_residual.result c.in_err-line.field-0.0 (Full r) c.from_residual.ensures.1 stops in
+    subst (λ (cs : List Command). IsRunOf cs true c.line.new.self.run) c.lines-commands.ensures
+    (cut_here _ all c.command-item.result (drop (i + 1) all) c.loop-command.fleet before r c.line.new.self (c.line.ensures.full r (c.in_err-line.was ∙ ap Err full)))
+
+pub returns-clause-done : goal.returns-clause-done
+returns-clause-done g c =
     let all : List Command = c.lines-commands.result.now in
     let past : length all ≤ c.loop-command.command-index = omega arith in
     subst (λ (cs : List Command). HasDone (λ k. store_view (g.K.Keeper.contents k) (g.K.Keeper.parts k) (g.K.Keeper.failing k) (g.K.Keeper.faults k)) cs [] c.loop-command.fleet) c.lines-commands.ensures

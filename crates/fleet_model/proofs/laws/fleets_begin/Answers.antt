@@ -1,5 +1,5 @@
 -- A fleet of new nodes.
-use Rattle.fleet_model.proofs.Firsts.{FirstLaws, first_comes}
+use Rattle.fleet_model.proofs.Firsts.{first_comes}
 use Rattle.fleet_model.proofs.laws.fleets_begin.Goals as goal
 
 pub returns : goal.returns

@@ -4,9 +4,8 @@ use Rattle.fleet_model.proofs.DirectContents.{content_comes, content_stops, part
 use Rattle.fleet_model.proofs.Directs.{line_comes, setting_comes}
 use Rattle.fleet_model.proofs.DirectWalks.{compact_comes, merge_comes}
 use Rattle.fleet_model.proofs.FailsNext.{fail_comes}
-use Rattle.fleet_model.proofs.Hearing.{WordLaws}
 use Rattle.fleet_model.proofs.JobBegins.{begin_comes, begin_stops}
-use Rattle.fleet_model.proofs.States.{Carried, state_is}
+use Rattle.fleet_model.proofs.States.{state_is}
 use Rattle.fleet_model.proofs.laws.fleets_do_lines.Goals as goal
 
 pub returns-clause-line : goal.returns-clause-line

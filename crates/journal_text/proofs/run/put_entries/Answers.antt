@@ -7,4 +7,4 @@ pub loop-place-preserved : goal.loop-place-preserved
 loop-place-preserved c =
     let within : c.loop-place.place < length c.args.entries.now = omega arith in
     entries_more c.args.repos.now c.args.entries.now c.split_at.result.0.now c.loop-place.place _ _ _ _ c.split_at.ensures.front within c.index-entries-place.is
-    c.loop-place.invariant c.in_ok-put_entry.ensures
+    c.loop-place.invariant c.in_ok-put_parts.ensures

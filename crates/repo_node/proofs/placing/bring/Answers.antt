@@ -3,6 +3,7 @@ use Rattle.repo_node.proofs.GainLemmas.{same_later, stops_later}
 use Rattle.std.proofs.Common.{Err, ap}
 use Rattle.repo_node.specs.declared.refused.NodeRefused.{NodeRefused}
 use Rattle.repo_node.proofs.CallLemmas.{handed}
+use Rattle.repo_node.proofs.FullLemmas.{had_room}
 use Rattle.repo_node.proofs.PlaceCallLemmas.{StopsTold, ready_stops, told_later}
 use Rattle.repo_node.proofs.placing.bring.Goals as goal
 
@@ -19,3 +20,6 @@ returns-in_err-ready-clause-stops g c =
 
 pub returns-clause-stops : goal.returns-clause-stops
 returns-clause-stops g c = told_later c.bring_ready.result c.args.key.now c.args.bytes.now c.args.table.now (g.K.Keeper.contents c.args.keeper.now) (g.K.Keeper.parts c.args.keeper.now) (g.K.Keeper.parts c.bring_ready.new.keeper) (g.K.Keeper.failing c.args.keeper.now) (g.K.Keeper.failing c.bring_ready.new.keeper) c.args.past.now c.ready.new.past c.bring_ready.new.past c.ready.ensures.same c.bring_ready.ensures.stops
+
+pub returns-clause-room : goal.returns-clause-room
+returns-clause-room g c = had_room c.bring_ready.result c.args.past.now c.ready.new.past c.ready.ensures.same c.in_ok-ready.ensures.ready

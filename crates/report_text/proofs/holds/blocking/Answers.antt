@@ -1,6 +1,6 @@
 -- What the proof of `holds::blocking` needs beside the tactics.
 use Rattle.std.proofs.Common.{◌<◌, ◌∙◌, sym, arith, length}
-use Rattle.report_text.proofs.Rows.{blocking_with, blocking_without}
+use Rattle.report_text.proofs.RowLemmas.{blocking_with, blocking_without}
 use Rattle.report_text.proofs.holds.blocking.Goals as goal
 use Rattle.report_text.proofs.holds.blocking.Goals.{then-is_blocking+in_ok-insert, else-is_blocking}
 

@@ -1,6 +1,6 @@
 -- What the proof of `row::first` needs beside the tactics.
 use Rattle.std.proofs.Common.{◌≡◌, ◌∙◌, ap, arith, length, min, take}
-use Rattle.report_text.proofs.Rows.{take_min}
+use Rattle.report_text.proofs.RowLemmas.{take_min}
 use Rattle.report_text.proofs.row.first.Goals as goal
 
 pub returns : goal.returns

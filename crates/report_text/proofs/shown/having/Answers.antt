@@ -6,7 +6,6 @@ use Rattle.report_text.proofs.shown.having.Goals.{then-has+in_ok-push, else-has}
 
 pub loop-repo-preserved : goal.loop-repo-preserved
 loop-repo-preserved c = λ past t.
-    let count : c.in-Ok.count ≡ c.args.repositories = c.in-Ok.ensures.1 in
     let within : c.loop-repo.repo < c.args.repositories = omega arith in
     let known = c.has.ensures.known c.args.repositories past t within in
     elim c.if-has.branch [
@@ -18,6 +17,5 @@ loop-repo-preserved c = λ past t.
 
 pub returns : goal.returns
 returns c = λ past t.
-    let count : c.in-Ok.count ≡ c.args.repositories = c.in-Ok.ensures.1 in
     let all : c.loop-repo.repo ≡ c.args.repositories = omega arith in
     rw all at (c.loop-repo.invariant past t)

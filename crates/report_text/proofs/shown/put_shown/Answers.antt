@@ -1,18 +1,25 @@
 -- What the proof of `shown::put_shown` needs beside the tactics.
-use Rattle.std.proofs.Common.{sym, subst, length}
+use Rattle.std.proofs.Common.{◌<◌, ◌++◌, ℕ, ap, ◌∙◌, sym, subst}
+use Rattle.union_merge.specs.Branch.{Files, lines_at}
+use Rattle.trust_groups.specs.Settings.{claims}
 use Rattle.run_model.specs.Safety.{past_at}
-use Rattle.report_text.specs.Contents.{Tracks}
-use Rattle.report_text.specs.declared.contents.Contents.{Contents}
+use Rattle.report_text.specs.Report.{claims_text}
 use Rattle.report_text.proofs.shown.put_shown.Goals as goal
 
-pub returns-in_ok-put_presence-clause-text : goal.returns-in_ok-put_presence-clause-text
-returns-in_ok-put_presence-clause-text c =
-    let told = rw (c.as_slice.ensures, c.contents.ensures) at c.in_ok-put_presence.ensures in
-    rw c.in-ShowPresence.is (told (past_at c.args.run.now c.args.place) c.in_ok-move_to.ensures.knows.contents)
+pub returns-in_ok-put_presence-in-ShowPresence-clause-text : goal.returns-in_ok-put_presence-in-ShowPresence-clause-text
+returns-in_ok-put_presence-in-ShowPresence-clause-text c =
+    let told = rw (c.as_slice.ensures, c.contents.ensures) at c.in_ok-put_presence-in-ShowPresence.ensures in
+    rw c.in-ShowPresence.is (told (past_at c.args.run.now c.args.place) c.in_ok-move_to-in-ShowPresence.ensures.knows.contents)
 
-pub put_row-requires-clause-known : goal.put_row-requires-clause-known
-put_row-requires-clause-known c = rw c.in-ShowRow.is at c.requires.known
+pub returns-in_ok-put_claims-in-ShowClaims-clause-text : goal.returns-in_ok-put_claims-in-ShowClaims-clause-text
+returns-in_ok-put_claims-in-ShowClaims-clause-text c =
+    let text = claims_text c.args.run.now c.in-ShowClaims.repo c.in-ShowClaims.key in
+    rw c.in-ShowClaims.is (c.in_ok-put_claims-in-ShowClaims.ensures
+    ∙ ap (λ (b : Files). c.args.out.now.items ++ text (claims (lines_at b) c.in-ShowClaims.key.key)) (c.branch-walk.ensures c.args.run.now c.args.place c.in_ok-move_to-in-ShowClaims.ensures))
 
-pub put_row-requires-clause-contents : goal.put_row-requires-clause-contents
-put_row-requires-clause-contents c =
-    subst (λ (t : Contents). Tracks t (length c.args.run.now.repos) (past_at c.args.run.now c.args.place)) (sym c.contents-in-ShowRow.ensures) c.in_ok-move_to-2.ensures.knows.contents
+pub put_row-requires : goal.put_row-requires
+put_row-requires c =
+    subst (λ (n : ℕ). c.in-ShowRow.repo < n) (sym c.in_ok-move_to-in-ShowRow.ensures.knows.rows.number_is) (rw c.in-ShowRow.is at c.requires.known)
+
+pub returns-in_ok-put_row-in-ShowRow-clause-text : goal.returns-in_ok-put_row-in-ShowRow-clause-text
+returns-in_ok-put_row-in-ShowRow-clause-text c = rw c.in-ShowRow.is (c.in_ok-put_row-in-ShowRow.ensures c.args.place c.in_ok-move_to-in-ShowRow.ensures)

@@ -7,6 +7,8 @@ use Rattle.repo_node.specs.Walks.{StopsAfter, compact_files, over}
 use Rattle.fleet_run.proofs.Called.{called, raised_there, seen_as}
 use Rattle.fleet_run.proofs.Growing.{compact_grows, had_at_most}
 use Rattle.fleet_run.proofs.Writing.{WritesFiles, compacts_go, never_bundle, on_ok}
+use Rattle.fleet_run.proofs.Full.{CompactMeets, ends_for, compacts_end, rest_on, rest_where_same}
+use Rattle.driver_model.specs.ScriptSteps.{compacts}
 use Rattle.fleet_run.proofs.running.Running.compacts.Goals as goal
 
 pub tell-requires-clause-had : goal.tell-requires-clause-had
@@ -40,4 +42,20 @@ returns g c =
           })
           c.in_ok-tell.ensures.ok)
           ended (λ given d known. c.drivers_stay_sound.ensures.compacts given c.args.repo d known));
+      full = λ r e. let full = c.after_step.ensures.full r e in
+          ends_for tells c.args.repo r (λ given d. compacts c.args.repo d) c.args.self.now c.tell.new.self full.0
+          (compacts_end tells c.args.repo c.args.self.now (record { nodes = c.self.inside.nodes; run = c.self.inside.run }) c.tell.new.self (c.fleets_stop_at_full_histories.ensures.compact tells) c.requires.there
+          (called tells c.args.repo c.in_ok-had.had c.args.self.now c.raise.new.self c.self.inside.nodes c.compact-done.new.self c.self.inside.run c.tell.new.self
+          (CompactMeets tells)
+          c.self.view_is c.in_ok-had.ensures.ok c.compact-done.ensures.others c.compact-done.ensures.count
+          (λ n m at_n at_m. c.compact-done.ensures.full n m at_n at_m full.1)
+          c.in_ok-tell.ensures.ok)
+          (c.after_step.ensures.few r e));
+      rest = rest_on c.args.self.now c.raise.new.self c.self.inside.nodes c.compact-done.new.self c.self.inside.run c.tell.new.self c.self.view_is c.raise.ensures.run c.tell.ensures.rest;
     }
+
+pub returns-in_err-had-clause-rest : goal.returns-in_err-had-clause-rest
+returns-in_err-had-clause-rest g c = rest_where_same c.args.self.now c.raise.new.self c.raise.ensures.run
+
+pub returns-in_err-tell-clause-rest : goal.returns-in_err-tell-clause-rest
+returns-in_err-tell-clause-rest g c = rest_on c.args.self.now c.raise.new.self c.self.inside.nodes c.compact-done.new.self c.self.inside.run c.tell.new.self c.self.view_is c.raise.ensures.run c.tell.ensures.rest

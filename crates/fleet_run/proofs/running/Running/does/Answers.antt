@@ -1,5 +1,5 @@
 -- What the proof of `running::Running::does` needs beside the tactics.
-use Rattle.std.proofs.Common.{◌+◌, ◌≤◌, length, subst}
+use Rattle.std.proofs.Common.{length, refl, subst, ◌+◌, ◌≤◌}
 use Rattle.repo_node.specs.Stored.{StoreView, store_view}
 use Rattle.script_lang.specs.declared.command.Command.TheVariants as commands
 use Rattle.driver_model.specs.Lines as driver
@@ -7,6 +7,8 @@ use Rattle.driver_model.specs.Lines.{Raw}
 use Rattle.driver_script.specs.Lines.{is_added, is_local_drop}
 use Rattle.fleet_run.proofs.Commands.{added_kind, added_path, as_form, built_as, built_goes, built_if, file_line, group_lines, has_node, in_time, local_alone, local_drops, mincopies_apart, never_unbuilt, numcopies_apart, quiet_of, quiet_stays, short_content, stands_as, within_as}
 use Rattle.fleet_run.proofs.Writing.{on_ok}
+use Rattle.fleet_run.proofs.Cutting.{CutLaws, always_ok, built_ends, cut_as, form_ends, have_cuts, room_had, room_quiet, room_unasked, settle_ends}
+use Rattle.fleet_run.proofs.Full.{ok_or_err}
 use Rattle.fleet_run.proofs.running.Running.does.Goals as goal
 
 pub sets_number-requires-clause-there : goal.sets_number-requires-clause-there
@@ -21,7 +23,12 @@ sets_number-requires-clause-kind g c = numcopies_apart
 pub returns-in-Numcopies : goal.returns-in-Numcopies
 returns-in-Numcopies g c =
     let tells : g.row.K.Denot → StoreView = λ k. store_view (g.K.Keeper.contents k) (g.K.Keeper.parts k) (g.K.Keeper.failing k) (g.K.Keeper.faults k) in
-    record { ok = on_ok c.sets_number.result _ _ c.sets_number.ensures.ok (λ goes. as_form tells c.args.command.now (commands.Numcopies c.in-Numcopies.repo c.in-Numcopies.number) c.args.self.now c.sets_number.new.self c.in-Numcopies.is goes) }
+    let laws : CutLaws = record { cut = c.runs_are_cut_where_histories_are_full.ensures.cut; entries = c.runs_are_cut_where_histories_are_full.ensures.entries; marks = c.runs_are_cut_where_histories_are_full.ensures.marks; tree = c.runs_are_cut_where_histories_are_full.ensures.tree } in
+    record {
+      ok = on_ok c.sets_number.result _ _ c.sets_number.ensures.ok (λ goes. as_form tells c.args.command.now (commands.Numcopies c.in-Numcopies.repo c.in-Numcopies.number) c.args.self.now c.sets_number.new.self c.in-Numcopies.is goes);
+      room = always_ok c.sets_number.result _ (room_unasked tells c.args.command.now (commands.Numcopies c.in-Numcopies.repo c.in-Numcopies.number) c.args.self.now c.in-Numcopies.is refl);
+      full = λ r e. form_ends tells laws r c.args.command.now (commands.Numcopies c.in-Numcopies.repo c.in-Numcopies.number) c.args.self.now c.sets_number.new.self c.in-Numcopies.is (c.sets_number.ensures.full r e) c.sets_number.ensures.rest;
+    }
 
 pub sets_number-requires-in-Mincopies-clause-there : goal.sets_number-requires-in-Mincopies-clause-there
 sets_number-requires-in-Mincopies-clause-there g c = has_node c.in-Mincopies.repo (length c.requires.may.context.repos) (length c.args.self.now.nodes) (stands_as c.requires.may.context c.args.command.now (commands.Mincopies c.in-Mincopies.repo c.in-Mincopies.number) c.in-Mincopies.is c.requires.may.stands).0 c.requires.may.repos
@@ -35,7 +42,12 @@ sets_number-requires-in-Mincopies-clause-kind g c = mincopies_apart
 pub returns-in-Mincopies : goal.returns-in-Mincopies
 returns-in-Mincopies g c =
     let tells : g.row.K.Denot → StoreView = λ k. store_view (g.K.Keeper.contents k) (g.K.Keeper.parts k) (g.K.Keeper.failing k) (g.K.Keeper.faults k) in
-    record { ok = on_ok c.sets_number-in-Mincopies.result _ _ c.sets_number-in-Mincopies.ensures.ok (λ goes. as_form tells c.args.command.now (commands.Mincopies c.in-Mincopies.repo c.in-Mincopies.number) c.args.self.now c.sets_number-in-Mincopies.new.self c.in-Mincopies.is goes) }
+    let laws : CutLaws = record { cut = c.runs_are_cut_where_histories_are_full.ensures.cut; entries = c.runs_are_cut_where_histories_are_full.ensures.entries; marks = c.runs_are_cut_where_histories_are_full.ensures.marks; tree = c.runs_are_cut_where_histories_are_full.ensures.tree } in
+    record {
+      ok = on_ok c.sets_number-in-Mincopies.result _ _ c.sets_number-in-Mincopies.ensures.ok (λ goes. as_form tells c.args.command.now (commands.Mincopies c.in-Mincopies.repo c.in-Mincopies.number) c.args.self.now c.sets_number-in-Mincopies.new.self c.in-Mincopies.is goes);
+      room = always_ok c.sets_number-in-Mincopies.result _ (room_unasked tells c.args.command.now (commands.Mincopies c.in-Mincopies.repo c.in-Mincopies.number) c.args.self.now c.in-Mincopies.is refl);
+      full = λ r e. form_ends tells laws r c.args.command.now (commands.Mincopies c.in-Mincopies.repo c.in-Mincopies.number) c.args.self.now c.sets_number-in-Mincopies.new.self c.in-Mincopies.is (c.sets_number-in-Mincopies.ensures.full r e) c.sets_number-in-Mincopies.ensures.rest;
+    }
 
 pub sets_level-requires-clause-there : goal.sets_level-requires-clause-there
 sets_level-requires-clause-there g c = has_node c.in-Trust.repo (length c.requires.may.context.repos) (length c.args.self.now.nodes) (stands_as c.requires.may.context c.args.command.now (commands.Trust c.in-Trust.repo c.in-Trust.target c.in-Trust.level) c.in-Trust.is c.requires.may.stands).0 c.requires.may.repos
@@ -49,7 +61,12 @@ sets_level-requires-clause-driven g c = c.requires.driven
 pub returns-in-Trust : goal.returns-in-Trust
 returns-in-Trust g c =
     let tells : g.row.K.Denot → StoreView = λ k. store_view (g.K.Keeper.contents k) (g.K.Keeper.parts k) (g.K.Keeper.failing k) (g.K.Keeper.faults k) in
-    record { ok = on_ok c.sets_level.result _ _ c.sets_level.ensures.ok (λ goes. as_form tells c.args.command.now (commands.Trust c.in-Trust.repo c.in-Trust.target c.in-Trust.level) c.args.self.now c.sets_level.new.self c.in-Trust.is goes) }
+    let laws : CutLaws = record { cut = c.runs_are_cut_where_histories_are_full.ensures.cut; entries = c.runs_are_cut_where_histories_are_full.ensures.entries; marks = c.runs_are_cut_where_histories_are_full.ensures.marks; tree = c.runs_are_cut_where_histories_are_full.ensures.tree } in
+    record {
+      ok = on_ok c.sets_level.result _ _ c.sets_level.ensures.ok (λ goes. as_form tells c.args.command.now (commands.Trust c.in-Trust.repo c.in-Trust.target c.in-Trust.level) c.args.self.now c.sets_level.new.self c.in-Trust.is goes);
+      room = always_ok c.sets_level.result _ (room_unasked tells c.args.command.now (commands.Trust c.in-Trust.repo c.in-Trust.target c.in-Trust.level) c.args.self.now c.in-Trust.is refl);
+      full = λ r e. form_ends tells laws r c.args.command.now (commands.Trust c.in-Trust.repo c.in-Trust.target c.in-Trust.level) c.args.self.now c.sets_level.new.self c.in-Trust.is (c.sets_level.ensures.full r e) c.sets_level.ensures.rest;
+    }
 
 pub sets_text-requires-clause-there : goal.sets_text-requires-clause-there
 sets_text-requires-clause-there g c = has_node c.in-Describe.repo (length c.requires.may.context.repos) (length c.args.self.now.nodes) (stands_as c.requires.may.context c.args.command.now (commands.Describe c.in-Describe.repo c.in-Describe.target c.in-Describe.text) c.in-Describe.is c.requires.may.stands).0 c.requires.may.repos
@@ -66,7 +83,12 @@ sets_text-requires-clause-line g c = (stands_as c.requires.may.context c.args.co
 pub returns-in-Describe : goal.returns-in-Describe
 returns-in-Describe g c =
     let tells : g.row.K.Denot → StoreView = λ k. store_view (g.K.Keeper.contents k) (g.K.Keeper.parts k) (g.K.Keeper.failing k) (g.K.Keeper.faults k) in
-    record { ok = on_ok c.sets_text.result _ _ c.sets_text.ensures.ok (λ goes. as_form tells c.args.command.now (commands.Describe c.in-Describe.repo c.in-Describe.target c.in-Describe.text) c.args.self.now c.sets_text.new.self c.in-Describe.is goes) }
+    let laws : CutLaws = record { cut = c.runs_are_cut_where_histories_are_full.ensures.cut; entries = c.runs_are_cut_where_histories_are_full.ensures.entries; marks = c.runs_are_cut_where_histories_are_full.ensures.marks; tree = c.runs_are_cut_where_histories_are_full.ensures.tree } in
+    record {
+      ok = on_ok c.sets_text.result _ _ c.sets_text.ensures.ok (λ goes. as_form tells c.args.command.now (commands.Describe c.in-Describe.repo c.in-Describe.target c.in-Describe.text) c.args.self.now c.sets_text.new.self c.in-Describe.is goes);
+      room = always_ok c.sets_text.result _ (room_unasked tells c.args.command.now (commands.Describe c.in-Describe.repo c.in-Describe.target c.in-Describe.text) c.args.self.now c.in-Describe.is refl);
+      full = λ r e. form_ends tells laws r c.args.command.now (commands.Describe c.in-Describe.repo c.in-Describe.target c.in-Describe.text) c.args.self.now c.sets_text.new.self c.in-Describe.is (c.sets_text.ensures.full r e) c.sets_text.ensures.rest;
+    }
 
 pub sets_groups-requires-clause-there : goal.sets_groups-requires-clause-there
 sets_groups-requires-clause-there g c = has_node c.in-Group.repo (length c.requires.may.context.repos) (length c.args.self.now.nodes) (stands_as c.requires.may.context c.args.command.now (commands.Group c.in-Group.repo c.in-Group.target c.in-Group.groups) c.in-Group.is c.requires.may.stands).0 c.requires.may.repos
@@ -83,7 +105,12 @@ sets_groups-requires-clause-lines g c = group_lines c.in-Group.groups (stands_as
 pub returns-in-Group : goal.returns-in-Group
 returns-in-Group g c =
     let tells : g.row.K.Denot → StoreView = λ k. store_view (g.K.Keeper.contents k) (g.K.Keeper.parts k) (g.K.Keeper.failing k) (g.K.Keeper.faults k) in
-    record { ok = on_ok c.sets_groups.result _ _ c.sets_groups.ensures.ok (λ goes. as_form tells c.args.command.now (commands.Group c.in-Group.repo c.in-Group.target c.in-Group.groups) c.args.self.now c.sets_groups.new.self c.in-Group.is goes) }
+    let laws : CutLaws = record { cut = c.runs_are_cut_where_histories_are_full.ensures.cut; entries = c.runs_are_cut_where_histories_are_full.ensures.entries; marks = c.runs_are_cut_where_histories_are_full.ensures.marks; tree = c.runs_are_cut_where_histories_are_full.ensures.tree } in
+    record {
+      ok = on_ok c.sets_groups.result _ _ c.sets_groups.ensures.ok (λ goes. as_form tells c.args.command.now (commands.Group c.in-Group.repo c.in-Group.target c.in-Group.groups) c.args.self.now c.sets_groups.new.self c.in-Group.is goes);
+      room = always_ok c.sets_groups.result _ (room_unasked tells c.args.command.now (commands.Group c.in-Group.repo c.in-Group.target c.in-Group.groups) c.args.self.now c.in-Group.is refl);
+      full = λ r e. form_ends tells laws r c.args.command.now (commands.Group c.in-Group.repo c.in-Group.target c.in-Group.groups) c.args.self.now c.sets_groups.new.self c.in-Group.is (c.sets_groups.ensures.full r e) c.sets_groups.ensures.rest;
+    }
 
 pub writes-requires-clause-there : goal.writes-requires-clause-there
 writes-requires-clause-there g c = has_node c.in-Log.repo (length c.requires.may.context.repos) (length c.args.self.now.nodes) (stands_as c.requires.may.context c.args.command.now (commands.Log c.in-Log.repo c.in-Log.file c.in-Log.line) c.in-Log.is c.requires.may.stands).0 c.requires.may.repos
@@ -103,7 +130,12 @@ writes-requires-clause-line g c = file_line c.in-Log.line (stands_as c.requires.
 pub returns-in-Log : goal.returns-in-Log
 returns-in-Log g c =
     let tells : g.row.K.Denot → StoreView = λ k. store_view (g.K.Keeper.contents k) (g.K.Keeper.parts k) (g.K.Keeper.failing k) (g.K.Keeper.faults k) in
-    record { ok = on_ok c.writes.result _ _ c.writes.ensures.ok (λ goes. as_form tells c.args.command.now (commands.Log c.in-Log.repo c.in-Log.file c.in-Log.line) c.args.self.now c.writes.new.self c.in-Log.is (built_goes tells (is_added c.in-Log.file) (Raw c.in-Log.repo c.in-Log.file c.in-Log.line) c.args.self.now c.writes.new.self (built_as c.args.self.now.run.repos c.args.command.now (commands.Log c.in-Log.repo c.in-Log.file c.in-Log.line) c.in-Log.is c.requires.may.built) goes)) }
+    let laws : CutLaws = record { cut = c.runs_are_cut_where_histories_are_full.ensures.cut; entries = c.runs_are_cut_where_histories_are_full.ensures.entries; marks = c.runs_are_cut_where_histories_are_full.ensures.marks; tree = c.runs_are_cut_where_histories_are_full.ensures.tree } in
+    record {
+      ok = on_ok c.writes.result _ _ c.writes.ensures.ok (λ goes. as_form tells c.args.command.now (commands.Log c.in-Log.repo c.in-Log.file c.in-Log.line) c.args.self.now c.writes.new.self c.in-Log.is (built_goes tells (is_added c.in-Log.file) (Raw c.in-Log.repo c.in-Log.file c.in-Log.line) c.args.self.now c.writes.new.self (built_as c.args.self.now.run.repos c.args.command.now (commands.Log c.in-Log.repo c.in-Log.file c.in-Log.line) c.in-Log.is c.requires.may.built) goes));
+      room = always_ok c.writes.result _ (room_unasked tells c.args.command.now (commands.Log c.in-Log.repo c.in-Log.file c.in-Log.line) c.args.self.now c.in-Log.is refl);
+      full = λ r e. form_ends tells laws r c.args.command.now (commands.Log c.in-Log.repo c.in-Log.file c.in-Log.line) c.args.self.now c.writes.new.self c.in-Log.is (built_ends tells r (is_added c.in-Log.file) (Raw c.in-Log.repo c.in-Log.file c.in-Log.line) c.args.self.now c.writes.new.self (built_as c.args.self.now.run.repos c.args.command.now (commands.Log c.in-Log.repo c.in-Log.file c.in-Log.line) c.in-Log.is c.requires.may.built) (c.writes.ensures.full r e)) c.writes.ensures.rest;
+    }
 
 pub has-requires-clause-there : goal.has-requires-clause-there
 has-requires-clause-there g c = has_node c.in-Have.repo (length c.requires.may.context.repos) (length c.args.self.now.nodes) (stands_as c.requires.may.context c.args.command.now (commands.Have c.in-Have.repo c.in-Have.key c.in-Have.content) c.in-Have.is c.requires.may.stands).0 c.requires.may.repos
@@ -123,7 +155,12 @@ has-requires-clause-small g c = short_content c.in-Have.content (stands_as c.req
 pub returns-in-Have : goal.returns-in-Have
 returns-in-Have g c =
     let tells : g.row.K.Denot → StoreView = λ k. store_view (g.K.Keeper.contents k) (g.K.Keeper.parts k) (g.K.Keeper.failing k) (g.K.Keeper.faults k) in
-    record { ok = on_ok c.has.result _ _ c.has.ensures.ok (λ goes. as_form tells c.args.command.now (commands.Have c.in-Have.repo c.in-Have.key c.in-Have.content) c.args.self.now c.has.new.self c.in-Have.is goes) }
+    let laws : CutLaws = record { cut = c.runs_are_cut_where_histories_are_full.ensures.cut; entries = c.runs_are_cut_where_histories_are_full.ensures.entries; marks = c.runs_are_cut_where_histories_are_full.ensures.marks; tree = c.runs_are_cut_where_histories_are_full.ensures.tree } in
+    record {
+      ok = on_ok c.has.result _ _ c.has.ensures.ok (λ goes. as_form tells c.args.command.now (commands.Have c.in-Have.repo c.in-Have.key c.in-Have.content) c.args.self.now c.has.new.self c.in-Have.is goes);
+      room = on_ok c.has.result _ _ c.has.ensures.room (λ room. room_had tells c.in-Have.repo c.in-Have.key c.in-Have.content c.args.command.now c.args.self.now c.in-Have.is room);
+      full = λ r e. cut_as tells r c.args.command.now (commands.Have c.in-Have.repo c.in-Have.key c.in-Have.content) c.args.self.now c.has.new.self c.in-Have.is (have_cuts tells laws c.in-Have.repo r c.in-Have.key c.in-Have.content c.args.self.now c.has.new.self (c.has.ensures.full r e) c.has.ensures.rest);
+    }
 
 pub begins_and_settles-requires-clause-there : goal.begins_and_settles-requires-clause-there
 begins_and_settles-requires-clause-there g c = has_node c.in-Run.repo (length c.requires.may.context.repos) (length c.args.self.now.nodes) (stands_as c.requires.may.context c.args.command.now (commands.Run c.in-Run.repo c.in-Run.job) c.in-Run.is c.requires.may.stands).repo c.requires.may.repos
@@ -143,7 +180,12 @@ begins_and_settles-requires-clause-key g c = (c.key_texts_have_no_fault.ensures.
 pub returns-in-Run : goal.returns-in-Run
 returns-in-Run g c =
     let tells : g.row.K.Denot → StoreView = λ k. store_view (g.K.Keeper.contents k) (g.K.Keeper.parts k) (g.K.Keeper.failing k) (g.K.Keeper.faults k) in
-    record { ok = on_ok c.begins_and_settles.result _ _ c.begins_and_settles.ensures.ok (λ goes. as_form tells c.args.command.now (commands.Run c.in-Run.repo c.in-Run.job) c.args.self.now c.begins_and_settles.new.self c.in-Run.is (built_goes tells (is_local_drop c.in-Run.job) (driver.Run c.in-Run.repo c.in-Run.job) c.args.self.now c.begins_and_settles.new.self (built_as c.args.self.now.run.repos c.args.command.now (commands.Run c.in-Run.repo c.in-Run.job) c.in-Run.is c.requires.may.built) goes)) }
+    let laws : CutLaws = record { cut = c.runs_are_cut_where_histories_are_full.ensures.cut; entries = c.runs_are_cut_where_histories_are_full.ensures.entries; marks = c.runs_are_cut_where_histories_are_full.ensures.marks; tree = c.runs_are_cut_where_histories_are_full.ensures.tree } in
+    record {
+      ok = on_ok c.begins_and_settles.result _ _ c.begins_and_settles.ensures.ok (λ goes. as_form tells c.args.command.now (commands.Run c.in-Run.repo c.in-Run.job) c.args.self.now c.begins_and_settles.new.self c.in-Run.is (built_goes tells (is_local_drop c.in-Run.job) (driver.Run c.in-Run.repo c.in-Run.job) c.args.self.now c.begins_and_settles.new.self (built_as c.args.self.now.run.repos c.args.command.now (commands.Run c.in-Run.repo c.in-Run.job) c.in-Run.is c.requires.may.built) goes));
+      room = always_ok c.begins_and_settles.result _ (room_unasked tells c.args.command.now (commands.Run c.in-Run.repo c.in-Run.job) c.args.self.now c.in-Run.is refl);
+      full = λ r e. form_ends tells laws r c.args.command.now (commands.Run c.in-Run.repo c.in-Run.job) c.args.self.now c.begins_and_settles.new.self c.in-Run.is (built_ends tells r (is_local_drop c.in-Run.job) (driver.Run c.in-Run.repo c.in-Run.job) c.args.self.now c.begins_and_settles.new.self (built_as c.args.self.now.run.repos c.args.command.now (commands.Run c.in-Run.repo c.in-Run.job) c.in-Run.is c.requires.may.built) (c.begins_and_settles.ensures.full r e)) c.begins_and_settles.ensures.rest;
+    }
 
 pub begins-requires-clause-there : goal.begins-requires-clause-there
 begins-requires-clause-there g c = has_node c.in-Begin.repo (length c.requires.may.context.repos) (length c.args.self.now.nodes) (stands_as c.requires.may.context c.args.command.now (commands.Begin c.in-Begin.repo c.in-Begin.job) c.in-Begin.is c.requires.may.stands).repo c.requires.may.repos
@@ -163,7 +205,12 @@ begins-requires-clause-key g c = (c.key_texts_have_no_fault.ensures.sound c.in-B
 pub returns-in-Begin : goal.returns-in-Begin
 returns-in-Begin g c =
     let tells : g.row.K.Denot → StoreView = λ k. store_view (g.K.Keeper.contents k) (g.K.Keeper.parts k) (g.K.Keeper.failing k) (g.K.Keeper.faults k) in
-    record { ok = on_ok c.begins.result _ _ c.begins.ensures.ok (λ goes. as_form tells c.args.command.now (commands.Begin c.in-Begin.repo c.in-Begin.job) c.args.self.now c.begins.new.self c.in-Begin.is (built_goes tells (is_local_drop c.in-Begin.job) (driver.Begin c.in-Begin.repo c.in-Begin.job) c.args.self.now c.begins.new.self (built_as c.args.self.now.run.repos c.args.command.now (commands.Begin c.in-Begin.repo c.in-Begin.job) c.in-Begin.is c.requires.may.built) goes)) }
+    let laws : CutLaws = record { cut = c.runs_are_cut_where_histories_are_full.ensures.cut; entries = c.runs_are_cut_where_histories_are_full.ensures.entries; marks = c.runs_are_cut_where_histories_are_full.ensures.marks; tree = c.runs_are_cut_where_histories_are_full.ensures.tree } in
+    record {
+      ok = on_ok c.begins.result _ _ c.begins.ensures.ok (λ goes. as_form tells c.args.command.now (commands.Begin c.in-Begin.repo c.in-Begin.job) c.args.self.now c.begins.new.self c.in-Begin.is (built_goes tells (is_local_drop c.in-Begin.job) (driver.Begin c.in-Begin.repo c.in-Begin.job) c.args.self.now c.begins.new.self (built_as c.args.self.now.run.repos c.args.command.now (commands.Begin c.in-Begin.repo c.in-Begin.job) c.in-Begin.is c.requires.may.built) goes));
+      room = always_ok c.begins.result _ (room_unasked tells c.args.command.now (commands.Begin c.in-Begin.repo c.in-Begin.job) c.args.self.now c.in-Begin.is refl);
+      full = λ r e. form_ends tells laws r c.args.command.now (commands.Begin c.in-Begin.repo c.in-Begin.job) c.args.self.now c.begins.new.self c.in-Begin.is (built_ends tells r (is_local_drop c.in-Begin.job) (driver.Begin c.in-Begin.repo c.in-Begin.job) c.args.self.now c.begins.new.self (built_as c.args.self.now.run.repos c.args.command.now (commands.Begin c.in-Begin.repo c.in-Begin.job) c.in-Begin.is c.requires.may.built) (c.begins.ensures.full r e)) c.begins.ensures.rest;
+    }
 
 pub turns-requires-clause-there : goal.turns-requires-clause-there
 turns-requires-clause-there g c = has_node c.in-Turn.repo (length c.requires.may.context.repos) (length c.args.self.now.nodes) (stands_as c.requires.may.context c.args.command.now (commands.Turn c.in-Turn.repo c.in-Turn.turns) c.in-Turn.is c.requires.may.stands) c.requires.may.repos
@@ -174,7 +221,12 @@ turns-requires-clause-driven g c = c.requires.driven
 pub returns-in-Turn : goal.returns-in-Turn
 returns-in-Turn g c =
     let tells : g.row.K.Denot → StoreView = λ k. store_view (g.K.Keeper.contents k) (g.K.Keeper.parts k) (g.K.Keeper.failing k) (g.K.Keeper.faults k) in
-    record { ok = on_ok c.turns.result _ _ c.turns.ensures.ok (λ goes. as_form tells c.args.command.now (commands.Turn c.in-Turn.repo c.in-Turn.turns) c.args.self.now c.turns.new.self c.in-Turn.is goes) }
+    let laws : CutLaws = record { cut = c.runs_are_cut_where_histories_are_full.ensures.cut; entries = c.runs_are_cut_where_histories_are_full.ensures.entries; marks = c.runs_are_cut_where_histories_are_full.ensures.marks; tree = c.runs_are_cut_where_histories_are_full.ensures.tree } in
+    record {
+      ok = on_ok c.turns.result _ _ c.turns.ensures.ok (λ goes. as_form tells c.args.command.now (commands.Turn c.in-Turn.repo c.in-Turn.turns) c.args.self.now c.turns.new.self c.in-Turn.is goes);
+      room = always_ok c.turns.result _ (room_unasked tells c.args.command.now (commands.Turn c.in-Turn.repo c.in-Turn.turns) c.args.self.now c.in-Turn.is refl);
+      full = λ r e. form_ends tells laws r c.args.command.now (commands.Turn c.in-Turn.repo c.in-Turn.turns) c.args.self.now c.turns.new.self c.in-Turn.is (c.turns.ensures.full r e) c.turns.ensures.rest;
+    }
 
 pub settles-requires : goal.settles-requires
 settles-requires g c = record { driven = c.requires.driven }
@@ -182,7 +234,12 @@ settles-requires g c = record { driven = c.requires.driven }
 pub returns-in-Settle : goal.returns-in-Settle
 returns-in-Settle g c =
     let tells : g.row.K.Denot → StoreView = λ k. store_view (g.K.Keeper.contents k) (g.K.Keeper.parts k) (g.K.Keeper.failing k) (g.K.Keeper.faults k) in
-    record { ok = on_ok c.settles.result _ _ c.settles.ensures.ok (λ goes. as_form tells c.args.command.now commands.Settle c.args.self.now c.settles.new.self c.in-Settle.is goes) }
+    let laws : CutLaws = record { cut = c.runs_are_cut_where_histories_are_full.ensures.cut; entries = c.runs_are_cut_where_histories_are_full.ensures.entries; marks = c.runs_are_cut_where_histories_are_full.ensures.marks; tree = c.runs_are_cut_where_histories_are_full.ensures.tree } in
+    record {
+      ok = on_ok c.settles.result _ _ c.settles.ensures.ok (λ goes. as_form tells c.args.command.now commands.Settle c.args.self.now c.settles.new.self c.in-Settle.is goes);
+      room = always_ok c.settles.result _ (room_unasked tells c.args.command.now commands.Settle c.args.self.now c.in-Settle.is refl);
+      full = λ r e. form_ends tells laws r c.args.command.now commands.Settle c.args.self.now c.settles.new.self c.in-Settle.is (settle_ends tells r c.args.self.now c.settles.new.self (c.settles.ensures.full r e)) c.settles.ensures.rest;
+    }
 
 pub merges-requires-clause-there : goal.merges-requires-clause-there
 merges-requires-clause-there g c = has_node c.in-Merge.repo (length c.requires.may.context.repos) (length c.args.self.now.nodes) (stands_as c.requires.may.context c.args.command.now (commands.Merge c.in-Merge.repo c.in-Merge.other) c.in-Merge.is c.requires.may.stands).first c.requires.may.repos
@@ -196,7 +253,12 @@ merges-requires-clause-driven g c = c.requires.driven
 pub returns-in-Merge : goal.returns-in-Merge
 returns-in-Merge g c =
     let tells : g.row.K.Denot → StoreView = λ k. store_view (g.K.Keeper.contents k) (g.K.Keeper.parts k) (g.K.Keeper.failing k) (g.K.Keeper.faults k) in
-    record { ok = on_ok c.merges.result _ _ c.merges.ensures.ok (λ goes. as_form tells c.args.command.now (commands.Merge c.in-Merge.repo c.in-Merge.other) c.args.self.now c.merges.new.self c.in-Merge.is goes) }
+    let laws : CutLaws = record { cut = c.runs_are_cut_where_histories_are_full.ensures.cut; entries = c.runs_are_cut_where_histories_are_full.ensures.entries; marks = c.runs_are_cut_where_histories_are_full.ensures.marks; tree = c.runs_are_cut_where_histories_are_full.ensures.tree } in
+    record {
+      ok = on_ok c.merges.result _ _ c.merges.ensures.ok (λ goes. as_form tells c.args.command.now (commands.Merge c.in-Merge.repo c.in-Merge.other) c.args.self.now c.merges.new.self c.in-Merge.is goes);
+      room = always_ok c.merges.result _ (room_unasked tells c.args.command.now (commands.Merge c.in-Merge.repo c.in-Merge.other) c.args.self.now c.in-Merge.is refl);
+      full = λ r e. form_ends tells laws r c.args.command.now (commands.Merge c.in-Merge.repo c.in-Merge.other) c.args.self.now c.merges.new.self c.in-Merge.is (c.merges.ensures.full r e) c.merges.ensures.rest;
+    }
 
 pub compacts-requires-clause-there : goal.compacts-requires-clause-there
 compacts-requires-clause-there g c = has_node c.in-Compact.repo (length c.requires.may.context.repos) (length c.args.self.now.nodes) (stands_as c.requires.may.context c.args.command.now (commands.Compact c.in-Compact.repo) c.in-Compact.is c.requires.may.stands) c.requires.may.repos
@@ -207,7 +269,12 @@ compacts-requires-clause-driven g c = c.requires.driven
 pub returns-in-Compact : goal.returns-in-Compact
 returns-in-Compact g c =
     let tells : g.row.K.Denot → StoreView = λ k. store_view (g.K.Keeper.contents k) (g.K.Keeper.parts k) (g.K.Keeper.failing k) (g.K.Keeper.faults k) in
-    record { ok = on_ok c.compacts.result _ _ c.compacts.ensures.ok (λ goes. as_form tells c.args.command.now (commands.Compact c.in-Compact.repo) c.args.self.now c.compacts.new.self c.in-Compact.is goes) }
+    let laws : CutLaws = record { cut = c.runs_are_cut_where_histories_are_full.ensures.cut; entries = c.runs_are_cut_where_histories_are_full.ensures.entries; marks = c.runs_are_cut_where_histories_are_full.ensures.marks; tree = c.runs_are_cut_where_histories_are_full.ensures.tree } in
+    record {
+      ok = on_ok c.compacts.result _ _ c.compacts.ensures.ok (λ goes. as_form tells c.args.command.now (commands.Compact c.in-Compact.repo) c.args.self.now c.compacts.new.self c.in-Compact.is goes);
+      room = always_ok c.compacts.result _ (room_unasked tells c.args.command.now (commands.Compact c.in-Compact.repo) c.args.self.now c.in-Compact.is refl);
+      full = λ r e. form_ends tells laws r c.args.command.now (commands.Compact c.in-Compact.repo) c.args.self.now c.compacts.new.self c.in-Compact.is (c.compacts.ensures.full r e) c.compacts.ensures.rest;
+    }
 
 pub waits-requires-clause-driven : goal.waits-requires-clause-driven
 waits-requires-clause-driven g c = c.requires.driven
@@ -218,7 +285,11 @@ waits-requires-clause-early g c = subst (λ t. t + c.in-Wait.milliseconds ≤ 10
 pub returns-in-Wait : goal.returns-in-Wait
 returns-in-Wait g c =
     let tells : g.row.K.Denot → StoreView = λ k. store_view (g.K.Keeper.contents k) (g.K.Keeper.parts k) (g.K.Keeper.failing k) (g.K.Keeper.faults k) in
-    record { ok = on_ok c.waits.result _ _ c.waits.ensures.ok (λ goes. as_form tells c.args.command.now (commands.Wait c.in-Wait.milliseconds) c.args.self.now c.waits.new.self c.in-Wait.is goes) }
+    record {
+      ok = on_ok c.waits.result _ _ c.waits.ensures.ok (λ goes. as_form tells c.args.command.now (commands.Wait c.in-Wait.milliseconds) c.args.self.now c.waits.new.self c.in-Wait.is goes);
+      room = always_ok c.waits.result _ (room_unasked tells c.args.command.now (commands.Wait c.in-Wait.milliseconds) c.args.self.now c.in-Wait.is refl);
+      full = λ r e. absurd (c.waits.ensures.full r e);
+    }
 
 pub fails-requires-clause-there : goal.fails-requires-clause-there
 fails-requires-clause-there g c = has_node c.in-Fail.repo (length c.requires.may.context.repos) (length c.args.self.now.nodes) (stands_as c.requires.may.context c.args.command.now (commands.Fail c.in-Fail.repo c.in-Fail.call) c.in-Fail.is c.requires.may.stands) c.requires.may.repos
@@ -229,57 +300,101 @@ fails-requires-clause-driven g c = c.requires.driven
 pub returns-in-Fail : goal.returns-in-Fail
 returns-in-Fail g c =
     let tells : g.row.K.Denot → StoreView = λ k. store_view (g.K.Keeper.contents k) (g.K.Keeper.parts k) (g.K.Keeper.failing k) (g.K.Keeper.faults k) in
-    record { ok = on_ok c.fails.result _ _ c.fails.ensures.ok (λ goes. as_form tells c.args.command.now (commands.Fail c.in-Fail.repo c.in-Fail.call) c.args.self.now c.fails.new.self c.in-Fail.is goes) }
+    record {
+      ok = on_ok c.fails.result _ _ c.fails.ensures.ok (λ goes. as_form tells c.args.command.now (commands.Fail c.in-Fail.repo c.in-Fail.call) c.args.self.now c.fails.new.self c.in-Fail.is goes);
+      room = always_ok c.fails.result _ (room_unasked tells c.args.command.now (commands.Fail c.in-Fail.repo c.in-Fail.call) c.args.self.now c.in-Fail.is refl);
+      full = λ r e. absurd (c.fails.ensures.full r e);
+    }
 
 pub returns-in-Repo : goal.returns-in-Repo
 returns-in-Repo g c =
     let tells : g.row.K.Denot → StoreView = λ k. store_view (g.K.Keeper.contents k) (g.K.Keeper.parts k) (g.K.Keeper.failing k) (g.K.Keeper.faults k) in
-    record { ok = quiet_stays tells c.args.command.now c.args.self.now (quiet_of c.args.command.now c.in-Repo.is) }
+    record {
+      ok = quiet_stays tells c.args.command.now c.args.self.now (quiet_of c.args.command.now c.in-Repo.is);
+      room = room_quiet tells c.args.command.now c.args.self.now (quiet_of c.args.command.now c.in-Repo.is);
+      full = λ r e. absurd (ok_or_err _ _ e);
+    }
 
 pub returns-in-Repo-2 : goal.returns-in-Repo-2
 returns-in-Repo-2 g c =
     let tells : g.row.K.Denot → StoreView = λ k. store_view (g.K.Keeper.contents k) (g.K.Keeper.parts k) (g.K.Keeper.failing k) (g.K.Keeper.faults k) in
-    record { ok = quiet_stays tells c.args.command.now c.args.self.now (quiet_of c.args.command.now c.in-Repo.is) }
+    record {
+      ok = quiet_stays tells c.args.command.now c.args.self.now (quiet_of c.args.command.now c.in-Repo.is);
+      room = room_quiet tells c.args.command.now c.args.self.now (quiet_of c.args.command.now c.in-Repo.is);
+      full = λ r e. absurd (ok_or_err _ _ e);
+    }
 
 pub returns-in-Repo-3 : goal.returns-in-Repo-3
 returns-in-Repo-3 g c =
     let tells : g.row.K.Denot → StoreView = λ k. store_view (g.K.Keeper.contents k) (g.K.Keeper.parts k) (g.K.Keeper.failing k) (g.K.Keeper.faults k) in
-    record { ok = quiet_stays tells c.args.command.now c.args.self.now (quiet_of c.args.command.now c.in-Repo.is) }
+    record {
+      ok = quiet_stays tells c.args.command.now c.args.self.now (quiet_of c.args.command.now c.in-Repo.is);
+      room = room_quiet tells c.args.command.now c.args.self.now (quiet_of c.args.command.now c.in-Repo.is);
+      full = λ r e. absurd (ok_or_err _ _ e);
+    }
 
 pub returns-in-Repo-4 : goal.returns-in-Repo-4
 returns-in-Repo-4 g c =
     let tells : g.row.K.Denot → StoreView = λ k. store_view (g.K.Keeper.contents k) (g.K.Keeper.parts k) (g.K.Keeper.failing k) (g.K.Keeper.faults k) in
-    record { ok = quiet_stays tells c.args.command.now c.args.self.now (quiet_of c.args.command.now c.in-Repo.is) }
+    record {
+      ok = quiet_stays tells c.args.command.now c.args.self.now (quiet_of c.args.command.now c.in-Repo.is);
+      room = room_quiet tells c.args.command.now c.args.self.now (quiet_of c.args.command.now c.in-Repo.is);
+      full = λ r e. absurd (ok_or_err _ _ e);
+    }
 
 pub returns-in-Repo-5 : goal.returns-in-Repo-5
 returns-in-Repo-5 g c =
     let tells : g.row.K.Denot → StoreView = λ k. store_view (g.K.Keeper.contents k) (g.K.Keeper.parts k) (g.K.Keeper.failing k) (g.K.Keeper.faults k) in
-    record { ok = quiet_stays tells c.args.command.now c.args.self.now (quiet_of c.args.command.now c.in-Repo.is) }
+    record {
+      ok = quiet_stays tells c.args.command.now c.args.self.now (quiet_of c.args.command.now c.in-Repo.is);
+      room = room_quiet tells c.args.command.now c.args.self.now (quiet_of c.args.command.now c.in-Repo.is);
+      full = λ r e. absurd (ok_or_err _ _ e);
+    }
 
 pub returns-in-Repo-6 : goal.returns-in-Repo-6
 returns-in-Repo-6 g c =
     let tells : g.row.K.Denot → StoreView = λ k. store_view (g.K.Keeper.contents k) (g.K.Keeper.parts k) (g.K.Keeper.failing k) (g.K.Keeper.faults k) in
-    record { ok = quiet_stays tells c.args.command.now c.args.self.now (quiet_of c.args.command.now c.in-Repo.is) }
+    record {
+      ok = quiet_stays tells c.args.command.now c.args.self.now (quiet_of c.args.command.now c.in-Repo.is);
+      room = room_quiet tells c.args.command.now c.args.self.now (quiet_of c.args.command.now c.in-Repo.is);
+      full = λ r e. absurd (ok_or_err _ _ e);
+    }
 
 pub returns-in-Repo-7 : goal.returns-in-Repo-7
 returns-in-Repo-7 g c =
     let tells : g.row.K.Denot → StoreView = λ k. store_view (g.K.Keeper.contents k) (g.K.Keeper.parts k) (g.K.Keeper.failing k) (g.K.Keeper.faults k) in
-    record { ok = quiet_stays tells c.args.command.now c.args.self.now (quiet_of c.args.command.now c.in-Repo.is) }
+    record {
+      ok = quiet_stays tells c.args.command.now c.args.self.now (quiet_of c.args.command.now c.in-Repo.is);
+      room = room_quiet tells c.args.command.now c.args.self.now (quiet_of c.args.command.now c.in-Repo.is);
+      full = λ r e. absurd (ok_or_err _ _ e);
+    }
 
 pub returns-in-Repo-8 : goal.returns-in-Repo-8
 returns-in-Repo-8 g c =
     let tells : g.row.K.Denot → StoreView = λ k. store_view (g.K.Keeper.contents k) (g.K.Keeper.parts k) (g.K.Keeper.failing k) (g.K.Keeper.faults k) in
-    record { ok = quiet_stays tells c.args.command.now c.args.self.now (quiet_of c.args.command.now c.in-Repo.is) }
+    record {
+      ok = quiet_stays tells c.args.command.now c.args.self.now (quiet_of c.args.command.now c.in-Repo.is);
+      room = room_quiet tells c.args.command.now c.args.self.now (quiet_of c.args.command.now c.in-Repo.is);
+      full = λ r e. absurd (ok_or_err _ _ e);
+    }
 
 pub returns-in-Repo-9 : goal.returns-in-Repo-9
 returns-in-Repo-9 g c =
     let tells : g.row.K.Denot → StoreView = λ k. store_view (g.K.Keeper.contents k) (g.K.Keeper.parts k) (g.K.Keeper.failing k) (g.K.Keeper.faults k) in
-    record { ok = quiet_stays tells c.args.command.now c.args.self.now (quiet_of c.args.command.now c.in-Repo.is) }
+    record {
+      ok = quiet_stays tells c.args.command.now c.args.self.now (quiet_of c.args.command.now c.in-Repo.is);
+      room = room_quiet tells c.args.command.now c.args.self.now (quiet_of c.args.command.now c.in-Repo.is);
+      full = λ r e. absurd (ok_or_err _ _ e);
+    }
 
 pub returns-in-Repo-10 : goal.returns-in-Repo-10
 returns-in-Repo-10 g c =
     let tells : g.row.K.Denot → StoreView = λ k. store_view (g.K.Keeper.contents k) (g.K.Keeper.parts k) (g.K.Keeper.failing k) (g.K.Keeper.faults k) in
-    record { ok = quiet_stays tells c.args.command.now c.args.self.now (quiet_of c.args.command.now c.in-Repo.is) }
+    record {
+      ok = quiet_stays tells c.args.command.now c.args.self.now (quiet_of c.args.command.now c.in-Repo.is);
+      room = room_quiet tells c.args.command.now c.args.self.now (quiet_of c.args.command.now c.in-Repo.is);
+      full = λ r e. absurd (ok_or_err _ _ e);
+    }
 
 pub unreachable-requires : goal.unreachable-requires
 unreachable-requires g c = never_unbuilt c.args.self.now.run.repos c.args.command.now c.requires.may.built c.in-NumcopiesFor.is

@@ -1,6 +1,9 @@
 -- What the proof of `running::Running::fails` needs beside the tactics.
 use Rattle.repo_node.specs.Stored.{StoreView, store_view}
 use Rattle.fleet_run.proofs.Beginning.{fails_go_so}
+use Rattle.fleet_model.specs.Fleets.{FleetView}
+use Rattle.std.proofs.Common.{ap}
+use Rattle.fleet_run.proofs.Full.{ok_or_err, rest_where_same}
 use Rattle.fleet_run.proofs.running.Running.fails.Goals as goal
 
 pub returns : goal.returns
@@ -16,4 +19,6 @@ returns g c =
             failing = c.in_ok-fail_next.ensures.ok n m at_n at_m;
           })
           (λ given d. c.drivers_stay_sound.ensures.will_fail given c.args.repo c.args.call d);
+      full = λ r e. absurd (ok_or_err _ _ e);
+      rest = rest_where_same c.args.self.now (record { nodes = c.fail_next.new.self; run = c.self.inside.run }) (ap (λ (f : FleetView g.row.K.Denot). f.run) c.self.view_is);
     }

@@ -1,5 +1,5 @@
 -- What the proof of `running::Running::has` needs beside the tactics.
-use Rattle.std.proofs.Common.{◌∙◌}
+use Rattle.std.proofs.Common.{◌∙◌, ◌⊎◌}
 use Rattle.repo_node.specs.Calls.{StopsAt, to_place}
 use Rattle.repo_node.specs.Stored.{StoreView, store_view}
 use Rattle.fleet_run.proofs.Called.{called, raised_there, seen_as}
@@ -7,6 +7,7 @@ use Rattle.fleet_run.proofs.Commands.{content_fits}
 use Rattle.fleet_run.proofs.Growing.{had_at_most, place_grows}
 use Rattle.fleet_run.proofs.Placing.{PlacesContent, has_goes_so}
 use Rattle.fleet_run.proofs.Writing.{never_bundle, on_ok}
+use Rattle.fleet_run.proofs.Full.{HadRoom, had_room, IsUnasked, PlaceMeets, has_ends_so, has_room, rest_on, rest_where_same}
 use Rattle.fleet_run.proofs.running.Running.has.Goals as goal
 
 pub tell-requires-clause-had : goal.tell-requires-clause-had
@@ -42,4 +43,31 @@ returns g c =
           })
           c.in_ok-tell.ensures.ok)
           c.requires.small ended (λ given d known. c.drivers_stay_sound.ensures.has given c.args.repo c.args.key.now c.args.content.now d known (c.requires.key, content_fits c.args.key.now c.args.content.now c.requires.right)));
+      full = λ r e. let full = c.after_step.ensures.full r e in
+          has_ends_so tells c.args.repo r c.args.self.now (record { nodes = c.self-2.inside.nodes; run = c.self-2.inside.run }) c.tell.new.self c.args.key.now c.args.content.now c.deref.result.now full.0 (c.deref.ensures.value ∙ c.in_ok-bytes.ensures)
+          (c.fleets_stop_at_full_histories.ensures.asked tells) (c.fleets_stop_at_full_histories.ensures.content tells) c.requires.there
+          (called tells c.args.repo c.in_ok-had.had c.args.self.now c.raise.new.self c.self-2.inside.nodes c.place-done.new.self c.self-2.inside.run c.tell.new.self
+          (λ n m. IsUnasked n m ⊎ PlaceMeets tells c.args.key.now c.deref.result.now n m)
+          c.self-2.view_is c.in_ok-had.ensures.ok c.place-done.ensures.others c.place-done.ensures.count
+          (λ n m at_n at_m. c.place-done.ensures.full n m at_n at_m full.1)
+          c.in_ok-tell.ensures.ok)
+          (c.after_step.ensures.few r e) (c.requires.key, content_fits c.args.key.now c.args.content.now c.requires.right) c.requires.small;
+      room = on_ok c.after_step.result _ _ c.after_step.ensures.ok (λ ended.
+          has_room tells c.args.repo c.args.self.now (record { nodes = c.self-2.inside.nodes; run = c.self-2.inside.run }) c.tell.new.self c.requires.there
+          (called tells c.args.repo c.in_ok-had.had c.args.self.now c.raise.new.self c.self-2.inside.nodes c.place-done.new.self c.self-2.inside.run c.tell.new.self
+          HadRoom
+          c.self-2.view_is c.in_ok-had.ensures.ok c.place-done.ensures.others c.place-done.ensures.count
+          (λ n m at_n at_m. had_room tells c.args.key.now c.deref.result.now c.place-done.result n m ended (c.place-done.ensures.room n m at_n at_m) (record {
+            placed = c.place-done.ensures.ok n m at_n at_m;
+            by = c.place-done.ensures.done n m at_n at_m;
+            stops = c.place-done.ensures.stops n m at_n at_m;
+          }))
+          c.in_ok-tell.ensures.ok));
+      rest = rest_on c.args.self.now c.raise.new.self c.self-2.inside.nodes c.place-done.new.self c.self-2.inside.run c.tell.new.self c.self-2.view_is c.raise.ensures.run c.tell.ensures.rest;
     }
+
+pub returns-in_err-had-clause-rest : goal.returns-in_err-had-clause-rest
+returns-in_err-had-clause-rest g c = rest_where_same c.args.self.now c.raise.new.self c.raise.ensures.run
+
+pub returns-in_err-tell-clause-rest : goal.returns-in_err-tell-clause-rest
+returns-in_err-tell-clause-rest g c = rest_on c.args.self.now c.raise.new.self c.self-2.inside.nodes c.place-done.new.self c.self-2.inside.run c.tell.new.self c.self-2.view_is c.raise.ensures.run c.tell.ensures.rest

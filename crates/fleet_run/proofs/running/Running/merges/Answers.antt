@@ -4,6 +4,11 @@ use Rattle.repo_node.specs.Walks.{StopsAfter, merge_files}
 use Rattle.fleet_run.proofs.Called.{called, element, raised_other, raised_there, seen_as}
 use Rattle.fleet_run.proofs.Growing.{had_at_most, merge_grows}
 use Rattle.fleet_run.proofs.Writing.{MergesFrom, merges_go, never_bundle, on_ok}
+use Rattle.fleet_run.proofs.Full.{MergeMeets, ends_for, merges_end, rest_on, rest_where_same}
+use Rattle.driver_model.specs.ScriptSteps.{merges}
+use Rattle.repo_node.specs.Nodes.{NodeView}
+use Rattle.std.proofs.Common.{◌≡◌, Some}
+use Rattle.std.specs.Prelude.{slice_get}
 use Rattle.fleet_run.proofs.running.Running.merges.Goals as goal
 
 pub tell-requires-clause-had : goal.tell-requires-clause-had
@@ -39,4 +44,20 @@ returns g c =
           })
           c.in_ok-tell.ensures.ok)
           ended (λ given d known. c.drivers_stay_sound.ensures.merges given c.args.repo c.args.other d known));
+      full = λ r e. let full = c.after_step.ensures.full r e in
+          ends_for tells c.args.repo r (λ given d. merges c.args.repo c.args.other d) c.args.self.now c.tell.new.self full.0
+          (merges_end tells c.args.repo c.args.other c.args.self.now (record { nodes = c.self.inside.nodes; run = c.self.inside.run }) c.tell.new.self (c.fleets_stop_at_full_histories.ensures.merge tells) c.requires.there c.requires.other
+          (called tells c.args.repo c.in_ok-had.had c.args.self.now c.raise.new.self c.self.inside.nodes c.merge-done.new.self c.self.inside.run c.tell.new.self
+          (λ n m. (o : NodeView g.row.K.Denot) → slice_get c.self.inside.nodes c.args.other ≡ Some o → MergeMeets tells o.branch n m)
+          c.self.view_is c.in_ok-had.ensures.ok c.merge-done.ensures.others c.merge-done.ensures.count
+          (λ n m at_n at_m. λ o at_o. c.merge-done.ensures.full o at_o n m at_n at_m full.1)
+          c.in_ok-tell.ensures.ok)
+          (c.after_step.ensures.few r e));
+      rest = rest_on c.args.self.now c.raise.new.self c.self.inside.nodes c.merge-done.new.self c.self.inside.run c.tell.new.self c.self.view_is c.raise.ensures.run c.tell.ensures.rest;
     }
+
+pub returns-in_err-had-clause-rest : goal.returns-in_err-had-clause-rest
+returns-in_err-had-clause-rest g c = rest_where_same c.args.self.now c.raise.new.self c.raise.ensures.run
+
+pub returns-in_err-tell-clause-rest : goal.returns-in_err-tell-clause-rest
+returns-in_err-tell-clause-rest g c = rest_on c.args.self.now c.raise.new.self c.self.inside.nodes c.merge-done.new.self c.self.inside.run c.tell.new.self c.self.view_is c.raise.ensures.run c.tell.ensures.rest

@@ -11,6 +11,8 @@ use Rattle.repo_node.specs.Stored.{StoreView, store_view}
 use Rattle.fleet_run.proofs.Called.{called, raised_there, seen_as}
 use Rattle.fleet_run.proofs.Growing.{had_at_most, write_grows}
 use Rattle.fleet_run.proofs.Writing.{WritesFiles, never_bundle, on_ok, one_fault, sets_go}
+use Rattle.fleet_run.proofs.Full.{RefusesLines, ends_for, refuses_lines, rest_on, rest_where_same, sets_end}
+use Rattle.driver_model.specs.ScriptSteps.{sets}
 use Rattle.fleet_run.proofs.running.Running.sets.Goals as goal
 
 pub write_log-done-requires-clause-line : goal.write_log-done-requires-clause-line
@@ -47,4 +49,20 @@ returns g c =
           })
           c.in_ok-tell.ensures.ok)
           ended (λ given d known. c.drivers_stay_sound.ensures.sets given c.args.repo c.args.kind c.args.topic c.args.value d known c.requires.kind c.requires.topic c.requires.value));
+      full = λ r e. let full = c.after_step.ensures.full r e in
+          ends_for tells c.args.repo r (λ given d. sets given c.args.repo c.args.kind c.args.topic c.args.value d) c.args.self.now c.tell.new.self full.0
+          (sets_end tells c.args.repo c.args.self.now (record { nodes = c.self.inside.nodes; run = c.self.inside.run }) c.tell.new.self c.args.kind c.args.topic c.args.value (c.fleets_stop_at_full_histories.ensures.setting tells) c.requires.there
+          (called tells c.args.repo c.in_ok-had.had c.args.self.now c.raise.new.self c.self.inside.nodes c.write_log-done.new.self c.self.inside.run c.tell.new.self
+          (λ n m. RefusesLines (Of c.args.kind) (line_text c.args.kind (stamped_by n c.args.kind None (record { topic = c.args.topic; stamp = None; value = c.args.value })) ∷ []) n m)
+          c.self.view_is c.in_ok-had.ensures.ok c.write_log-done.ensures.others c.write_log-done.ensures.count
+          (λ n m at_n at_m. refuses_lines c.write_log-done.result n m (Of c.args.kind) (line_text c.args.kind (stamped_by n c.args.kind None (record { topic = c.args.topic; stamp = None; value = c.args.value })) ∷ []) full.1 (c.write_log-done.ensures.err n m at_n at_m) (c.write_log-done.ensures.full n m at_n at_m))
+          c.in_ok-tell.ensures.ok)
+          (c.after_step.ensures.few r e));
+      rest = rest_on c.args.self.now c.raise.new.self c.self.inside.nodes c.write_log-done.new.self c.self.inside.run c.tell.new.self c.self.view_is c.raise.ensures.run c.tell.ensures.rest;
     }
+
+pub returns-in_err-had-clause-rest : goal.returns-in_err-had-clause-rest
+returns-in_err-had-clause-rest g c = rest_where_same c.args.self.now c.raise.new.self c.raise.ensures.run
+
+pub returns-in_err-tell-clause-rest : goal.returns-in_err-tell-clause-rest
+returns-in_err-tell-clause-rest g c = rest_on c.args.self.now c.raise.new.self c.self.inside.nodes c.write_log-done.new.self c.self.inside.run c.tell.new.self c.self.view_is c.raise.ensures.run c.tell.ensures.rest

@@ -5,9 +5,14 @@ use Rattle.log_lines.specs.declared.entry.Value.TheVariants as values
 use Rattle.repo_node.specs.Stored.{StoreView, store_view}
 use Rattle.fleet_run.proofs.Steps.{sets_at}
 use Rattle.fleet_run.proofs.Writing.{on_ok}
+use Rattle.fleet_run.proofs.Ending.{sets_end_at}
 use Rattle.fleet_run.proofs.running.Running.sets_text.Goals as goal
 
 pub returns : goal.returns
 returns g c =
     let tells : g.row.K.Denot → StoreView = λ k. store_view (g.K.Keeper.contents k) (g.K.Keeper.parts k) (g.K.Keeper.failing k) (g.K.Keeper.faults k) in
-    record { ok = on_ok c.sets.result _ _ c.sets.ensures.ok (sets_at tells c.args.repo c.args.target c.args.self.now c.sets.new.self kinds.Uuid c.id.result (values.Text c.args.text.now) (values.Text c.in_ok-text.text) c.id.ensures (ap values.Text (search rules))) }
+    record {
+      ok = on_ok c.sets.result _ _ c.sets.ensures.ok (sets_at tells c.args.repo c.args.target c.args.self.now c.sets.new.self kinds.Uuid c.id.result (values.Text c.args.text.now) (values.Text c.in_ok-text.text) c.id.ensures (ap values.Text (search rules)));
+      full = λ r e. sets_end_at tells r c.args.repo c.args.target c.args.self.now c.sets.new.self kinds.Uuid c.id.result (values.Text c.args.text.now) (values.Text c.in_ok-text.text) c.id.ensures (ap values.Text (search rules)) (c.sets.ensures.full r e);
+      rest = c.sets.ensures.rest;
+    }

@@ -1,28 +1,47 @@
 -- What the proof of `running::Running::turns` needs beside the tactics.
-use Rattle.std.proofs.Common.{rules, ℕ, ◌≡◌, ◌<◌, subst, sym}
+use Rattle.std.proofs.Common.{rules, subst, sym, ℕ, ◌<◌, ◌≡◌}
 use Rattle.repo_node.specs.Stored.{StoreView, store_view}
 use Rattle.driver_model.specs.Driving.{turns}
 use Rattle.fleet_run.specs.Standing.{GoesOn}
 use Rattle.fleet_run.proofs.Driving.{driven_on, no_turns, one_more_turn, same_count}
+use Rattle.fleet_run.proofs.Ending.{turns_end}
+use Rattle.fleet_run.proofs.Full.{rest_then, ok_or_err, same_err}
 use Rattle.fleet_run.proofs.running.Running.turns.Goals as goal
 
 pub turn-requires-clause-there : goal.turn-requires-clause-there
 turn-requires-clause-there g c =
     let tells : g.row.K.Denot → StoreView = λ k. store_view (g.K.Keeper.contents k) (g.K.Keeper.parts k) (g.K.Keeper.failing k) (g.K.Keeper.faults k) in
-    subst (λ (n : ℕ). c.args.repo < n) (sym (same_count tells (λ given d. turns given c.args.repo c.loop.counter d) c.args.self.now c.loop.self c.requires.driven c.loop.invariant)) c.requires.there
+    subst (λ (n : ℕ). c.args.repo < n) (sym (same_count tells (λ given d. turns given c.args.repo c.loop.counter d) c.args.self.now c.loop.self c.requires.driven c.loop.invariant.goes)) c.requires.there
 
 pub turn-requires-clause-driven : goal.turn-requires-clause-driven
 turn-requires-clause-driven g c =
     let tells : g.row.K.Denot → StoreView = λ k. store_view (g.K.Keeper.contents k) (g.K.Keeper.parts k) (g.K.Keeper.failing k) (g.K.Keeper.faults k) in
-    driven_on tells (λ given d. turns given c.args.repo c.loop.counter d) c.args.self.now c.loop.self c.requires.driven c.loop.invariant
+    driven_on tells (λ given d. turns given c.args.repo c.loop.counter d) c.args.self.now c.loop.self c.requires.driven c.loop.invariant.goes
 
 pub loop-preserved : goal.loop-preserved
 loop-preserved g c =
     let tells : g.row.K.Denot → StoreView = λ k. store_view (g.K.Keeper.contents k) (g.K.Keeper.parts k) (g.K.Keeper.failing k) (g.K.Keeper.faults k) in
-    one_more_turn tells c.args.repo c.loop.counter c.args.self.now c.loop.self c.turn.new.self c.fleets_settle.ensures.turns c.loop.invariant c.in_ok-turn.ensures.ok
+    record {
+      goes = one_more_turn tells c.args.repo c.loop.counter c.args.self.now c.loop.self c.turn.new.self c.fleets_settle.ensures.turns c.loop.invariant.goes c.in_ok-turn.ensures.ok;
+      rest = rest_then c.args.self.now c.loop.self c.turn.new.self c.loop.invariant.rest c.turn.ensures.rest;
+    }
 
 pub returns : goal.returns
 returns g c =
     let tells : g.row.K.Denot → StoreView = λ k. store_view (g.K.Keeper.contents k) (g.K.Keeper.parts k) (g.K.Keeper.failing k) (g.K.Keeper.faults k) in
     let all : c.loop.counter ≡ c.args.number = search rules in
-    record { ok = subst (λ (n : ℕ). GoesOn tells (λ given d. turns given c.args.repo n d) c.args.self.now c.loop.self) all c.loop.invariant }
+    record {
+      ok = subst (λ (n : ℕ). GoesOn tells (λ given d. turns given c.args.repo n d) c.args.self.now c.loop.self) all c.loop.invariant.goes;
+      full = λ r e. absurd (ok_or_err _ _ e);
+      rest = c.loop.invariant.rest;
+    }
+
+pub returns-in_err-turn-clause-full : goal.returns-in_err-turn-clause-full
+returns-in_err-turn-clause-full g c =
+    let tells : g.row.K.Denot → StoreView = λ k. store_view (g.K.Keeper.contents k) (g.K.Keeper.parts k) (g.K.Keeper.failing k) (g.K.Keeper.faults k) in
+    let less : c.loop.counter < c.args.number = search rules in
+    λ r e. turns_end tells r c.args.repo c.loop.counter c.args.number c.args.self.now c.loop.self c.turn.new.self c.runs_are_cut_where_histories_are_full.ensures.later c.drivers_only_add.ensures.turn c.fleets_settle.ensures.turns less
+    c.loop.invariant.goes (c.turn.ensures.full r (same_err c.turn.result c.from_residual.result c.in_err-turn.field-0.0 _ c.in_err-turn.was c.from_residual.ensures.1 e))
+
+pub returns-in_err-turn-clause-rest : goal.returns-in_err-turn-clause-rest
+returns-in_err-turn-clause-rest g c = rest_then c.args.self.now c.loop.self c.turn.new.self c.loop.invariant.rest c.turn.ensures.rest

@@ -3,6 +3,7 @@ use Rattle.std.proofs.Common.{arith}
 use Rattle.std.proofs.lemmas.Bool.Decides.{nat_tests}
 use Rattle.repo_node.specs.Stored.{StoreView, store_view}
 use Rattle.fleet_run.proofs.Beginning.{waits_go_so}
+use Rattle.fleet_run.proofs.Full.{rest_of, ok_or_err}
 use Rattle.fleet_run.proofs.running.Running.waits.Goals as goal
 
 pub returns : goal.returns
@@ -12,4 +13,6 @@ returns g c =
       ok = waits_go_so tells c.args.milliseconds c.args.self.now c.self.inside.nodes c.self.inside.run c.push.new.self c.now.result c.newest_count-count.result c.new.result c.new-2.result
           c.self.view_is (c.fleets_do_lines.ensures.wait tells) c.in_ok-push.ensures.ok c.now.ensures c.newest_count-count.ensures c.new.ensures c.new-2.ensures c.requires.early
           (grind (arith, nat_tests, c.if-count-ge-LAST_COUNT.false)) (λ given d. c.drivers_stay_sound.ensures.waits given c.args.milliseconds d);
+      full = λ r e. absurd (ok_or_err _ _ e);
+      rest = rest_of c.self.inside.nodes c.self.inside.run c.push.new.self c.args.self.now c.self.view_is;
     }

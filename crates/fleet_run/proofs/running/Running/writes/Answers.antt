@@ -9,6 +9,8 @@ use Rattle.repo_node.specs.Stored.{StoreView, store_view}
 use Rattle.fleet_run.proofs.Called.{called, raised_there, seen_as}
 use Rattle.fleet_run.proofs.Growing.{had_at_most, write_grows}
 use Rattle.fleet_run.proofs.Writing.{WritesFiles, never_bundle, on_ok, one_fault, writes_go_so}
+use Rattle.fleet_run.proofs.Full.{RefusesLines, ends_for, refuses_lines, rest_on, rest_where_same, writes_end_so}
+use Rattle.driver_model.specs.ScriptSteps.{writes}
 use Rattle.fleet_run.proofs.running.Running.writes.Goals as goal
 
 pub tell-requires-clause-had : goal.tell-requires-clause-had
@@ -46,4 +48,23 @@ returns g c =
           })
           c.in_ok-tell.ensures.ok)
           ended (λ given d known. c.drivers_stay_sound.ensures.writes given c.args.repo c.args.file.now c.args.line.now d known c.requires.file c.requires.kind c.requires.line));
+      full = λ r e. let full = c.after_step.ensures.full r e in
+          ends_for tells c.args.repo r (λ given d. writes c.args.repo c.args.file.now c.args.line.now d) c.args.self.now c.tell.new.self full.0
+          (writes_end_so tells c.args.repo c.args.self.now (record { nodes = c.self-2.inside.nodes; run = c.self-2.inside.run }) c.tell.new.self
+          c.args.file.now (file_of c.bytes.result.now) c.args.line.now c.bytes-2.result.now
+          (ap file_of (c.bytes.ensures ∙ c.in_ok-path.ensures.value) ∙ c.files_have_their_paths.ensures.file c.args.file.now c.requires.file c.requires.kind) c.bytes-2.ensures
+          (c.fleets_stop_at_full_histories.ensures.line tells) c.requires.there
+          (called tells c.args.repo c.in_ok-had.had c.args.self.now c.raise.new.self c.self-2.inside.nodes c.write_raw-done.new.self c.self-2.inside.run c.tell.new.self
+          (RefusesLines (file_of c.bytes.result.now) (c.bytes-2.result.now ∷ []))
+          c.self-2.view_is c.in_ok-had.ensures.ok c.write_raw-done.ensures.others c.write_raw-done.ensures.count
+          (λ n m at_n at_m. refuses_lines c.write_raw-done.result n m (file_of c.bytes.result.now) (c.bytes-2.result.now ∷ []) full.1 (c.write_raw-done.ensures.err n m at_n at_m) (c.write_raw-done.ensures.full n m at_n at_m))
+          c.in_ok-tell.ensures.ok)
+          (c.after_step.ensures.few r e));
+      rest = rest_on c.args.self.now c.raise.new.self c.self-2.inside.nodes c.write_raw-done.new.self c.self-2.inside.run c.tell.new.self c.self-2.view_is c.raise.ensures.run c.tell.ensures.rest;
     }
+
+pub returns-in_err-had-clause-rest : goal.returns-in_err-had-clause-rest
+returns-in_err-had-clause-rest g c = rest_where_same c.args.self.now c.raise.new.self c.raise.ensures.run
+
+pub returns-in_err-tell-clause-rest : goal.returns-in_err-tell-clause-rest
+returns-in_err-tell-clause-rest g c = rest_on c.args.self.now c.raise.new.self c.self-2.inside.nodes c.write_raw-done.new.self c.self-2.inside.run c.tell.new.self c.self-2.view_is c.raise.ensures.run c.tell.ensures.rest

@@ -38,3 +38,6 @@ returns-clause-calls g c = at_node c.args.self.now c.self.inside.nodes.items c.a
 
 pub returns-clause-alone : goal.returns-clause-alone
 returns-clause-alone g c = at_node c.args.self.now c.self.inside.nodes.items c.args.repo c.index_mut.result.now c.compact.new.self c.self.view_is c.requires.there c.index_mut.ensures.value _ c.compact.ensures.alone
+
+pub returns-clause-full : goal.returns-clause-full
+returns-clause-full g c = at_node c.args.self.now c.self.inside.nodes.items c.args.repo c.index_mut.result.now c.compact.new.self c.self.view_is c.requires.there c.index_mut.ensures.value _ c.compact.ensures.full

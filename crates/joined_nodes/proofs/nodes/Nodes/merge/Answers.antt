@@ -68,3 +68,10 @@ pub returns-in_err-bundle-clause-calls : goal.returns-in_err-bundle-clause-calls
 returns-in_err-bundle-clause-calls g c = λ other at n m at_n at_m.
     let p = err_from_is_err_and c.from_residual.result c.from_residual.ensures.1 in
     rw (p.1, p.2) (ap (λ x. g.K.Keeper.failing x.keeper) (sym (same_Some n m (sym at_n ∙ at_m))))
+
+pub returns-clause-full : goal.returns-clause-full
+returns-clause-full g c = λ other at.
+    let from = c.index.result.now in
+    let same : from ≡ other = same_Some from other (sym (whole_at c.args.self.now c.self.inside.nodes.items c.args.from from c.self.view_is c.requires.other c.index.ensures) ∙ at) in
+    let is : IsBundle c.deref.result.now other.branch = subst (λ o. IsBundle c.deref.result.now o.branch) same (subst (λ t. IsBundle t from.branch) (sym c.deref.ensures.value) c.in_ok-bundle.ensures) in
+    at_node c.args.self.now c.self.inside.nodes.items c.args.repo c.index_mut.result.now c.merge_bundle.new.self c.self.view_is c.requires.there c.index_mut.ensures.value _ (c.merge_bundle.ensures.full other.branch is)

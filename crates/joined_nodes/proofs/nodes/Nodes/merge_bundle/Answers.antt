@@ -52,3 +52,6 @@ returns-clause-left g c = at_node c.args.self.now c.self.inside.nodes.items c.ar
 
 pub returns-clause-alone : goal.returns-clause-alone
 returns-clause-alone g c = at_node c.args.self.now c.self.inside.nodes.items c.args.repo c.index_mut.result.now c.merge_bundle.new.self c.self.view_is c.requires.there c.index_mut.ensures.value _ c.merge_bundle.ensures.alone
+
+pub returns-clause-full : goal.returns-clause-full
+returns-clause-full g c = λ files is. at_node c.args.self.now c.self.inside.nodes.items c.args.repo c.index_mut.result.now c.merge_bundle.new.self c.self.view_is c.requires.there c.index_mut.ensures.value _ (c.merge_bundle.ensures.full files is)

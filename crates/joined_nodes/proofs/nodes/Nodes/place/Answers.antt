@@ -30,3 +30,9 @@ returns-clause-done g c = at_node c.args.self.now c.self.inside.nodes.items c.ar
 
 pub returns-clause-stops : goal.returns-clause-stops
 returns-clause-stops g c = at_node c.args.self.now c.self.inside.nodes.items c.args.repo c.index_mut.result.now c.place.new.self c.self.view_is c.requires.there c.index_mut.ensures.value _ c.place.ensures.stops
+
+pub returns-clause-full : goal.returns-clause-full
+returns-clause-full g c = at_node c.args.self.now c.self.inside.nodes.items c.args.repo c.index_mut.result.now c.place.new.self c.self.view_is c.requires.there c.index_mut.ensures.value _ c.place.ensures.full
+
+pub returns-clause-room : goal.returns-clause-room
+returns-clause-room g c = at_node c.args.self.now c.self.inside.nodes.items c.args.repo c.index_mut.result.now c.place.new.self c.self.view_is c.requires.there c.index_mut.ensures.value _ c.place.ensures.room

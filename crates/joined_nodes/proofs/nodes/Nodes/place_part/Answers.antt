@@ -36,3 +36,6 @@ returns-clause-done g c = at_node c.args.self.now c.self.inside.nodes.items c.ar
 
 pub returns-clause-stops : goal.returns-clause-stops
 returns-clause-stops g c = at_node c.args.self.now c.self.inside.nodes.items c.args.repo c.index_mut.result.now c.place_part.new.self c.self.view_is c.requires.there c.index_mut.ensures.value _ c.place_part.ensures.stops
+
+pub returns-clause-room : goal.returns-clause-room
+returns-clause-room g c = at_node c.args.self.now c.self.inside.nodes.items c.args.repo c.index_mut.result.now c.place_part.new.self c.self.view_is c.requires.there c.index_mut.ensures.value _ c.place_part.ensures.room

@@ -41,3 +41,6 @@ returns-clause-others g c = others_stay c.args.self.now c.self.inside.nodes.item
 
 pub returns-clause-calls : goal.returns-clause-calls
 returns-clause-calls g c = at_node c.args.self.now c.self.inside.nodes.items c.args.repo c.index_mut.result.now c.write_log.new.self c.self.view_is c.requires.there c.index_mut.ensures.value _ c.write_log.ensures.calls
+
+pub returns-clause-full : goal.returns-clause-full
+returns-clause-full g c = at_node c.args.self.now c.self.inside.nodes.items c.args.repo c.index_mut.result.now c.write_log.new.self c.self.view_is c.requires.there c.index_mut.ensures.value _ c.write_log.ensures.full

@@ -6,7 +6,7 @@ use Rattle.union_merge.specs.Branch.{Files, lines_at}
 use Rattle.union_merge.specs.LineSet.{difference}
 use Rattle.repo_node.specs.Calls.{to_log}
 use Rattle.repo_node.proofs.CallLemmas.{makes_short}
-use Rattle.repo_node.proofs.WalkCallLemmas.{none_logged, some_logged}
+use Rattle.repo_node.proofs.WalkCallLemmas.{none_logged, some_lacked, some_logged}
 use Rattle.repo_node.proofs.node.Node.add_lines.Goals as goal
 
 pub returns-in_err-path-clause-calls : goal.returns-in_err-path-clause-calls
@@ -20,3 +20,6 @@ returns-then-is_empty-clause-calls g c = none_logged {X = Unit {0}} tt c.args.se
 
 pub returns-clause-calls : goal.returns-clause-calls
 returns-clause-calls g c = some_logged c.log.result c.args.self.now c.args.file c.bytes.result.now c.args.lines.now c.in_ok-new.new (g.K.Keeper.failing c.args.self.now.keeper) (g.K.Keeper.failing c.log.new.self.keeper) (c.bytes.ensures ∙ c.in_ok-path.ensures.value) (c.in_ok-new.ensures ∙ ap (λ (b : Files). difference c.args.lines.now (lines_at b c.bytes.result.now)) c.branch-self.ensures) (ap (λ (x : List (List ℕ)). length x == 0) (sym c.lines.ensures.value) ∙ (sym c.is_empty.ensures ∙ c.if-is_empty.false)) c.log.ensures.calls
+
+pub returns-clause-full : goal.returns-clause-full
+returns-clause-full g c = λ full. some_lacked c.args.self.now c.args.file c.bytes.result.now c.args.lines.now c.in_ok-new.new (c.bytes.ensures ∙ c.in_ok-path.ensures.value) (c.in_ok-new.ensures ∙ ap (λ (b : Files). difference c.args.lines.now (lines_at b c.bytes.result.now)) c.branch-self.ensures) (ap (λ (x : List (List ℕ)). length x == 0) (sym c.lines.ensures.value) ∙ (sym c.is_empty.ensures ∙ c.if-is_empty.false))

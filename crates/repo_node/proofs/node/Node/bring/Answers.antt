@@ -6,6 +6,7 @@ use Rattle.repo_node.specs.Placing.{LeavesFilled}
 use Rattle.repo_node.proofs.GainLemmas.{fed_left, grows_brought, kept_brought, seen_same, seen_stops, told_same}
 use Rattle.repo_node.proofs.OwedLemmas.{debts_grow, owed_grows, owed_in}
 use Rattle.repo_node.proofs.StateLemmas.{laws_of}
+use Rattle.repo_node.proofs.FullLemmas.{room_seen}
 use Rattle.repo_node.proofs.PlaceCallLemmas.{node_brought}
 use Rattle.repo_node.specs.Calls.{StopsAt, to_place_part}
 use Rattle.repo_node.proofs.WriteLemmas.{node_of}
@@ -60,3 +61,8 @@ returns-clause-stops g c =
     (node_brought w.result i.keeper w.new.keeper i.parts i.branch i.past w.new.past owed owed' (node_of i.keeper i.parts i.branch i.past owed) c.args.key.now c.args.bytes.now c.table.result.now
     (g.K.Keeper.contents i.keeper) (g.K.Keeper.contents w.new.keeper) (g.K.Keeper.parts i.keeper) (g.K.Keeper.parts w.new.keeper) (g.K.Keeper.failing i.keeper) (g.K.Keeper.failing w.new.keeper)
     refl c.table.ensures.rows w.ensures.stops w.ensures.contents (owed_grows i.past w.new.past i.debts.items grows c.self.invariant.4))
+
+pub returns-clause-room : goal.returns-clause-room
+returns-clause-room g c =
+    let i = c.self.inside in
+    room_seen c.bring.result (node_of i.keeper i.parts i.branch i.past (owed_in i.past i.debts.items)) c.args.self.now c.self.view_is c.bring.ensures.room

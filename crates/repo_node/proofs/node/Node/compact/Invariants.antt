@@ -3,15 +3,16 @@ use Rattle.std.proofs.Common.{◌≡◌, ◌≤◌, drop, take}
 use Rattle.std.specs.Map.{keys_of}
 use Rattle.annex_base.specs.Lists.{Each}
 use Rattle.union_merge.specs.LineSet.{IsLine}
+use Rattle.repo_node.specs.Calls.{shrinks_at}
 use Rattle.repo_node.specs.Walks.{compact_files, over}
-use Rattle.repo_node.proofs.WalkCallLemmas.{Wrote, shrinks_file}
+use Rattle.repo_node.proofs.WalkCallLemmas.{Wrote}
 use Rattle.repo_node.proofs.node.Node.compact.Given as goal
 
 -- the files before this one are done
 abbrev pub invariant-loop-path : goal.invariant-loop-path
 invariant-loop-path g l = record {
   is : l.self ≡ over l.self.keeper (compact_files l.fn.self (take l.path-index l.path-items));
-  wrote : Wrote shrinks_file l.fn.self l.self l.path-items (drop l.path-index l.path-items) (g.K.Keeper.failing l.fn.self.keeper) (g.K.Keeper.failing l.self.keeper);
+  wrote : Wrote shrinks_at l.fn.self l.self l.path-items (drop l.path-index l.path-items) (g.K.Keeper.failing l.fn.self.keeper) (g.K.Keeper.failing l.self.keeper);
   all : l.path-items ≡ keys_of l.fn.self.branch;
   lines : Each IsLine l.path-items;
   contents : g.K.Keeper.contents l.self.keeper ≡ g.K.Keeper.contents l.fn.self.keeper;

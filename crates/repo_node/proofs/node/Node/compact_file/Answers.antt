@@ -6,7 +6,7 @@ use Rattle.repo_node.proofs.WalkLemmas.{not_shrunk, ok_compacted}
 use Rattle.annex_base.specs.declared.kinds.Call.TheVariants.{PutFile}
 use Rattle.repo_node.specs.Calls.{shrinks, to_write}
 use Rattle.repo_node.proofs.CallLemmas.{makes_short}
-use Rattle.repo_node.proofs.WalkCallLemmas.{kept_whole, shrunk_so, shrunk_none}
+use Rattle.repo_node.proofs.WalkCallLemmas.{kept_whole, shrinks_so, shrunk_so, shrunk_none}
 use Rattle.repo_node.proofs.node.Node.compact_file.Goals as goal
 
 pub shrink-requires-clause-here : goal.shrink-requires-clause-here
@@ -53,3 +53,10 @@ returns-clause-calls g c =
     shrunk_none c.args.self.now c.args.path.now c.in_ok-file.file c.in-Some.kind c.lines_of-lines.result.now c.in_ok-outdated.outdated (g.K.Keeper.failing c.args.self.now.keeper)
     c.in_ok-file.ensures.value (sym c.kind.ensures ∙ c.in-Some.is) (c.lines_of-lines.ensures.lines ∙ ap (λ (x : Files). lines_at x c.args.path.now) c.branch-branch.ensures ∙ ap (λ (p : List ℕ). lines_at c.args.self.now.branch p) here)
     c.in_ok-outdated.ensures.fewer c.if-outdated.false
+
+pub returns-then-outdated-clause-full : goal.returns-then-outdated-clause-full
+returns-then-outdated-clause-full g c =
+    let here = sym (ap file_path c.in_ok-file.ensures.value ∙ c.files_have_their_paths.ensures.path c.args.path.now) in
+    λ full. sym (shrinks_so c.args.self.now c.args.path.now c.in_ok-file.file c.in-Some.kind c.lines_of-lines.result.now c.in_ok-outdated.outdated
+    c.in_ok-file.ensures.value (sym c.kind.ensures ∙ c.in-Some.is) (c.lines_of-lines.ensures.lines ∙ ap (λ (x : Files). lines_at x c.args.path.now) c.branch-branch.ensures ∙ ap (λ (p : List ℕ). lines_at c.args.self.now.branch p) here)
+    c.in_ok-outdated.ensures.fewer) ∙ c.if-outdated.true

@@ -1,5 +1,5 @@
 -- What the proof of `node::Node::merge` needs beside the tactics.
-use Rattle.std.proofs.Common.{List, ℕ, None, arith, sym, ap, subst, ◌∙◌}
+use Rattle.std.proofs.Common.{List, ℕ, None, Err, arith, sym, ap, subst, ◌∙◌}
 use Rattle.annex_base.specs.Lists.{Each}
 use Rattle.union_merge.specs.Branch.{Files}
 use Rattle.union_merge.specs.FileView.{files_of}
@@ -7,11 +7,12 @@ use Rattle.union_merge.specs.LineSet.{IsLine, IsLineSet}
 use Rattle.repo_node.specs.Walks.{merge_file, over}
 use Rattle.repo_node.proofs.WalkLemmas.{Went, merge_over, went_on, went_stops}
 use Rattle.annex_base.specs.declared.kinds.Call.TheVariants.{PutFile}
-use Rattle.repo_node.specs.declared.refused.NodeRefused.TheVariants.{StoreFault}
-use Rattle.repo_node.specs.Calls.{StopsIn, to_write}
+use Rattle.repo_node.specs.declared.refused.NodeRefused.TheVariants.{Full, StoreFault}
+use Rattle.repo_node.specs.Calls.{StopsIn, lacks_of, to_write}
 use Rattle.content_lock.specs.CallsMade.{MakesCalls}
 use Rattle.repo_node.proofs.CallLemmas.{same_refusal}
-use Rattle.repo_node.proofs.WalkCallLemmas.{Wrote, lacks_blind, lacks_file, not_merged, wrote_alone, wrote_more, wrote_stops}
+use Rattle.repo_node.proofs.FullLemmas.{meets}
+use Rattle.repo_node.proofs.WalkCallLemmas.{Wrote, lacks_blind, not_merged, wrote_alone, wrote_more, wrote_stops}
 use Rattle.repo_node.proofs.node.Node.merge.Goals as goal
 
 pub merge_file-requires : goal.merge_file-requires
@@ -39,9 +40,9 @@ loop-path-preserved g c =
     record {
       went = went_on merge_file merge_over start now next other file rest went
           does;
-      wrote = wrote_more lacks_file start now next other file rest (g.K.Keeper.failing start.keeper) (g.K.Keeper.failing now.keeper) (g.K.Keeper.failing next.keeper) lacks_blind
-          (subst (λ (fs : Files). Wrote lacks_file start now other fs (g.K.Keeper.failing start.keeper) (g.K.Keeper.failing now.keeper)) steps i.wrote)
-          (subst (λ (p : List ℕ). MakesCalls (to_write (lacks_file now (p, c.in-Some.lines.now))) None (g.K.Keeper.failing now.keeper) (g.K.Keeper.failing next.keeper)) c.deref.ensures.value c.in_default.ensures.calls)
+      wrote = wrote_more lacks_of start now next other file rest (g.K.Keeper.failing start.keeper) (g.K.Keeper.failing now.keeper) (g.K.Keeper.failing next.keeper) lacks_blind
+          (subst (λ (fs : Files). Wrote lacks_of start now other fs (g.K.Keeper.failing start.keeper) (g.K.Keeper.failing now.keeper)) steps i.wrote)
+          (subst (λ (p : List ℕ). MakesCalls (to_write (lacks_of now (p, c.in-Some.lines.now))) None (g.K.Keeper.failing now.keeper) (g.K.Keeper.failing next.keeper)) c.deref.ensures.value c.in_default.ensures.calls)
           (λ none. does ∙ ap (λ m. over next.keeper m) (not_merged now file none));
       each = each.1;
       contents = c.merge_file.ensures.contents ∙ i.contents;
@@ -57,9 +58,9 @@ returns-in-Err-clause-calls g c =
     let other = c.args.other.now in
     let rest = files_of c.next.new.self in
     let file : List ℕ × List (List ℕ) = (c.in-Some.path.now.items, c.in-Some.lines.now) in
-    let wrote = subst (λ (fs : Files). Wrote lacks_file start now other fs (g.K.Keeper.failing c.args.self.now.keeper) (g.K.Keeper.failing c.loop-path.self.keeper)) (ap files_of c.in-Some.ensures.steps) c.loop-path.invariant.wrote in
-    let stops = subst (λ (p : List ℕ). StopsIn (to_write (lacks_file now (p, c.in-Some.lines.now))) PutFile c.in-Err.refused (g.K.Keeper.failing c.loop-path.self.keeper) (g.K.Keeper.failing next.keeper)) c.deref.ensures.value c.in-Err.ensures.calls in
-    wrote_stops lacks_file start now other file rest c.in-Err.refused (g.K.Keeper.failing c.args.self.now.keeper) (g.K.Keeper.failing c.loop-path.self.keeper) (g.K.Keeper.failing next.keeper) lacks_blind wrote stops
+    let wrote = subst (λ (fs : Files). Wrote lacks_of start now other fs (g.K.Keeper.failing c.args.self.now.keeper) (g.K.Keeper.failing c.loop-path.self.keeper)) (ap files_of c.in-Some.ensures.steps) c.loop-path.invariant.wrote in
+    let stops = subst (λ (p : List ℕ). StopsIn (to_write (lacks_of now (p, c.in-Some.lines.now))) PutFile c.in-Err.refused (g.K.Keeper.failing c.loop-path.self.keeper) (g.K.Keeper.failing next.keeper)) c.deref.ensures.value c.in-Err.ensures.calls in
+    wrote_stops lacks_of start now other file rest c.in-Err.refused (g.K.Keeper.failing c.args.self.now.keeper) (g.K.Keeper.failing c.loop-path.self.keeper) (g.K.Keeper.failing next.keeper) lacks_blind wrote stops
 
 pub returns-in-Err-clause-alone : goal.returns-in-Err-clause-alone
 returns-in-Err-clause-alone g c =
@@ -69,6 +70,21 @@ returns-in-Err-clause-alone g c =
     let other = c.args.other.now in
     let rest = files_of c.next.new.self in
     let file : List ℕ × List (List ℕ) = (c.in-Some.path.now.items, c.in-Some.lines.now) in
-    let wrote = subst (λ (fs : Files). Wrote lacks_file start now other fs (g.K.Keeper.failing c.args.self.now.keeper) (g.K.Keeper.failing c.loop-path.self.keeper)) (ap files_of c.in-Some.ensures.steps) c.loop-path.invariant.wrote in
-    let stops = subst (λ (p : List ℕ). StopsIn (to_write (lacks_file now (p, c.in-Some.lines.now))) PutFile c.in-Err.refused (g.K.Keeper.failing c.loop-path.self.keeper) (g.K.Keeper.failing next.keeper)) c.deref.ensures.value c.in-Err.ensures.calls in
-    λ is. wrote_alone lacks_file start now next other file rest c.in-Err.refused (g.K.Keeper.failing c.args.self.now.keeper) (g.K.Keeper.failing c.loop-path.self.keeper) (g.K.Keeper.failing next.keeper) lacks_blind wrote stops c.in-Err.ensures.err (same_refusal c.in-Err.refused StoreFault is)
+    let wrote = subst (λ (fs : Files). Wrote lacks_of start now other fs (g.K.Keeper.failing c.args.self.now.keeper) (g.K.Keeper.failing c.loop-path.self.keeper)) (ap files_of c.in-Some.ensures.steps) c.loop-path.invariant.wrote in
+    let stops = subst (λ (p : List ℕ). StopsIn (to_write (lacks_of now (p, c.in-Some.lines.now))) PutFile c.in-Err.refused (g.K.Keeper.failing c.loop-path.self.keeper) (g.K.Keeper.failing next.keeper)) c.deref.ensures.value c.in-Err.ensures.calls in
+    λ is. wrote_alone lacks_of start now next other file rest c.in-Err.refused (g.K.Keeper.failing c.args.self.now.keeper) (g.K.Keeper.failing c.loop-path.self.keeper) (g.K.Keeper.failing next.keeper) lacks_blind wrote stops c.in-Err.ensures.err (same_refusal c.in-Err.refused StoreFault is)
+
+pub returns-in-Err-clause-full : goal.returns-in-Err-clause-full
+returns-in-Err-clause-full g c =
+    let start = c.args.self.now in
+    let now = c.loop-path.self in
+    let next = c.merge_file.new.self in
+    let other = c.args.other.now in
+    let rest = files_of c.next.new.self in
+    let file : List ℕ × List (List ℕ) = (c.in-Some.path.now.items, c.in-Some.lines.now) in
+    let steps = ap files_of c.in-Some.ensures.steps in
+    let went = subst (λ (fs : Files). Went merge_file start now other fs) steps c.loop-path.invariant.went in
+    let wrote = subst (λ (fs : Files). Wrote lacks_of start now other fs (g.K.Keeper.failing start.keeper) (g.K.Keeper.failing now.keeper)) steps c.loop-path.invariant.wrote in
+    let stops = subst (λ (p : List ℕ). StopsIn (to_write (lacks_of now (p, c.in-Some.lines.now))) PutFile c.in-Err.refused (g.K.Keeper.failing now.keeper) (g.K.Keeper.failing next.keeper)) c.deref.ensures.value c.in-Err.ensures.calls in
+    λ full. meets merge_file lacks_of start now next other file rest c.in-Err.refused (g.K.Keeper.failing start.keeper) (g.K.Keeper.failing now.keeper) (g.K.Keeper.failing next.keeper) lacks_blind went wrote stops c.in-Err.ensures.err
+    (λ same. ap (λ (p : List ℕ). lacks_of now (p, c.in-Some.lines.now)) (sym c.deref.ensures.value) ∙ c.in-Err.ensures.full (ap Err same)) (same_refusal c.in-Err.refused Full full)

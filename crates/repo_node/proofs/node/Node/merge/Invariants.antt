@@ -3,8 +3,9 @@ use Rattle.std.proofs.Common.{◌≡◌, ◌≤◌}
 use Rattle.annex_base.specs.Lists.{Each}
 use Rattle.union_merge.specs.FileView.{files_of}
 use Rattle.union_merge.specs.LineSet.{IsLine, IsLineSet}
+use Rattle.repo_node.specs.Calls.{lacks_of}
 use Rattle.repo_node.specs.Walks.{merge_file}
-use Rattle.repo_node.proofs.WalkCallLemmas.{Wrote, lacks_file}
+use Rattle.repo_node.proofs.WalkCallLemmas.{Wrote}
 use Rattle.repo_node.proofs.WalkLemmas.{Went}
 use Rattle.repo_node.proofs.node.Node.merge.Given as goal
 
@@ -12,7 +13,7 @@ use Rattle.repo_node.proofs.node.Node.merge.Given as goal
 abbrev pub invariant-loop-path : goal.invariant-loop-path
 invariant-loop-path g l = record {
   went : Went merge_file l.fn.self l.self l.fn.other (files_of l.path-iterator);
-  wrote : Wrote lacks_file l.fn.self l.self l.fn.other (files_of l.path-iterator) (g.K.Keeper.failing l.fn.self.keeper) (g.K.Keeper.failing l.self.keeper);
+  wrote : Wrote lacks_of l.fn.self l.self l.fn.other (files_of l.path-iterator) (g.K.Keeper.failing l.fn.self.keeper) (g.K.Keeper.failing l.self.keeper);
   each : Each (λ f. IsLine f.0 × IsLineSet f.1) (files_of l.path-iterator);
   contents : g.K.Keeper.contents l.self.keeper ≡ g.K.Keeper.contents l.fn.self.keeper;
   parts : g.K.Keeper.parts l.self.keeper ≡ g.K.Keeper.parts l.fn.self.keeper;

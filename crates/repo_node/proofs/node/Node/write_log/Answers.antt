@@ -12,7 +12,7 @@ use Rattle.repo_node.specs.Logs.{log_of, stamped, stamped_by, with_lines}
 use Rattle.annex_base.specs.declared.kinds.Call.TheVariants.{PutFile}
 use Rattle.repo_node.specs.Calls.{to_log}
 use Rattle.repo_node.proofs.CallLemmas.{makes_short}
-use Rattle.repo_node.proofs.WalkCallLemmas.{logged_as}
+use Rattle.repo_node.proofs.WalkCallLemmas.{lacks_as, logged_as}
 use Rattle.repo_node.proofs.node.Node.write_log.Goals as goal
 
 pub set_of_line-requires : goal.set_of_line-requires
@@ -69,3 +69,17 @@ returns-clause-calls g c =
     ∙ ap (λ (t : ℕ). stamped kind (lines_at n.branch place) t e) (c.stamp-clock.ensures ∙ ap (λ v. stamp_at (v.time + v.setup.offset)) c.self.view_is) in
     logged_as c.add_lines.result n c.in_ok-file.file (log_of kind (option_copied c.args.key)) c.in_ok-lines.lines (line_text kind (stamped_by n kind (option_copied c.args.key) e) ∷ []) (g.K.Keeper.failing c.args.self.now.keeper) (g.K.Keeper.failing c.add_lines.new.self.keeper)
     c.in_ok-file.ensures.value (c.in_ok-lines.ensures ∙ ap (λ (l : List ℕ). l ∷ []) (c.bytes-2.ensures ∙ c.in_ok-line.ensures ∙ ap (line_text kind) is)) c.add_lines.ensures.calls
+
+pub returns-clause-full : goal.returns-clause-full
+returns-clause-full g c =
+    let n = c.args.self.now in
+    let kind = c.args.kind in
+    let e : Entry = c.args.entry.now in
+    let clock = c.stamp-clock.result in
+    let place = file_path (log_of kind (option_copied c.args.key)) in
+    let is =
+    ap (λ (b : Files). stamped kind (lines_at b c.bytes.result.now) clock e) c.branch-branch.ensures
+    ∙ ap (λ (p : List ℕ). stamped kind (lines_at n.branch p) clock e) (c.bytes.ensures ∙ c.in_ok-path.ensures.value ∙ ap file_path c.in_ok-file.ensures.value)
+    ∙ ap (λ (t : ℕ). stamped kind (lines_at n.branch place) t e) (c.stamp-clock.ensures ∙ ap (λ v. stamp_at (v.time + v.setup.offset)) c.self.view_is) in
+    λ full. lacks_as n c.in_ok-file.file (log_of kind (option_copied c.args.key)) c.in_ok-lines.lines (line_text kind (stamped_by n kind (option_copied c.args.key) e) ∷ [])
+    c.in_ok-file.ensures.value (c.in_ok-lines.ensures ∙ ap (λ (l : List ℕ). l ∷ []) (c.bytes-2.ensures ∙ c.in_ok-line.ensures ∙ ap (line_text kind) is)) (c.add_lines.ensures.full full)

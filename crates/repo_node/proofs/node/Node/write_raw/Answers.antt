@@ -5,7 +5,7 @@ use Rattle.repo_node.proofs.LogLemmas.{ok_told}
 use Rattle.annex_base.specs.declared.kinds.Call.TheVariants.{PutFile}
 use Rattle.repo_node.specs.Calls.{to_log}
 use Rattle.repo_node.proofs.CallLemmas.{makes_short}
-use Rattle.repo_node.proofs.WalkCallLemmas.{logged_as}
+use Rattle.repo_node.proofs.WalkCallLemmas.{lacks_as, logged_as}
 use Rattle.repo_node.proofs.node.Node.write_raw.Goals as goal
 
 pub add_lines-requires : goal.add_lines-requires
@@ -23,3 +23,6 @@ returns-in_err-file-clause-calls g c = makes_short (to_log c.args.self.now (file
 
 pub returns-clause-calls : goal.returns-clause-calls
 returns-clause-calls g c = logged_as c.add_lines.result c.args.self.now c.in_ok-file.file (file_of c.args.path.now) c.in_ok-lines.lines (c.args.line.now ∷ []) (g.K.Keeper.failing c.args.self.now.keeper) (g.K.Keeper.failing c.add_lines.new.self.keeper) c.in_ok-file.ensures.value c.in_ok-lines.ensures c.add_lines.ensures.calls
+
+pub returns-clause-full : goal.returns-clause-full
+returns-clause-full g c = λ full. lacks_as c.args.self.now c.in_ok-file.file (file_of c.args.path.now) c.in_ok-lines.lines (c.args.line.now ∷ []) c.in_ok-file.ensures.value c.in_ok-lines.ensures (c.add_lines.ensures.full full)

@@ -4,4 +4,4 @@ use Rattle.run_model.specs.Safety.{past_at}
 use Rattle.report_text.proofs.walk.Walk.branch.Goals as goal
 
 pub returns : goal.returns
-returns c = λ run place stands within. c.branch-self.ensures.known (length run.repos) (past_at run place) stands.knows.branches within
+returns c = λ run place stands. c.branch-self.ensures (length run.repos) (past_at run place) stands.knows.branches

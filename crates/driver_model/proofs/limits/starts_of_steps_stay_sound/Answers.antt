@@ -1,0 +1,27 @@
+-- What the start of a step keeps within bounds, from a driver that is sound.
+use Rattle.driver_model.proofs.Driven.{keeps_placed}
+use Rattle.driver_model.proofs.Logged.{keeps_compacted, keeps_merge_start}
+use Rattle.driver_model.proofs.OwedKeys.{owed_keys}
+use Rattle.driver_model.proofs.Premises.{Laws}
+use Rattle.driver_model.proofs.limits.starts_of_steps_stay_sound.Goals as goal
+
+pub returns : goal.returns
+returns c =
+    let laws : Laws = record {
+      finds = c.steps_find_their_cause.ensures;
+      first = c.runs_grow.ensures.first;
+      others = c.frames_go_to_others.ensures.sent;
+      entry = c.runs_grow.ensures.entry;
+      tree = c.runs_grow.ensures.tree;
+      command = c.runs_grow.ensures.command;
+      unions = c.unions_have_the_lines_of_both.ensures.set;
+      differs = c.differences_make_the_union.ensures.set;
+      lacking = c.differences_make_the_union.ensures.lacking;
+      file_again = c.files_have_their_paths.ensures.file;
+      key_text = c.key_texts_have_no_fault.ensures.sound;
+    } in
+    record {
+      merges = λ g r other done left d known whole sound. keeps_merge_start laws g r known (owed_keys laws) d other done left whole sound;
+      compacts = λ g r done left d known whole sound. keeps_compacted laws g r known done d (λ f. sound);
+      content = λ g r key bytes d known content free sound. keeps_placed laws g r known d key bytes content.1 free (λ f. sound);
+    }

@@ -1,0 +1,109 @@
+-- The run of a script whose repositories make at most 100,000 entries each (own): it ends where a line meets a full history.
+use Rattle.std.specs.Prelude.{◌≡◌, ℕ, ◌<◌, ◌≤◌, Bool, true, false, ◌||◌, if◌then◌else◌, nat_le, nat_lt, List, [], ◌∷◌, ◌++◌, filter, length, reverse, Option, Some, None}
+use Rattle.std.specs.List.{list_any}
+use Rattle.annex_base.specs.Lists.{Each}
+use Rattle.run_data.specs.Histories.{most_entries}
+use Rattle.run_data.specs.declared.entry.Entry.{Entry}
+use Rattle.run_data.specs.declared.run.Run.{Run}
+use Rattle.run_model.specs.Past.{is_of}
+use Rattle.run_model.specs.Run.{IsRun}
+use Rattle.driver_model.specs.Driver.{Driver, Given, at_first}
+use Rattle.driver_model.specs.Driving.{does, run_with, with_mark}
+use Rattle.driver_model.specs.Lines.{Line, Have, SetPart, Add, File, Set, Raw, Merge, Compact, Begin, Turns, Settle, Close, Crash, Wait, Fail, Par, Shows}
+use Rattle.driver_model.specs.Lines
+use Rattle.driver_model.specs.Rounds.{numbers}
+
+-- ---- full histories
+
+-- how many entries a repository has made
+abbrev pub count_of : List Entry → ℕ → ℕ
+count_of past r = length (filter (is_of r) past)
+
+-- some repository has made more than it may
+abbrev pub is_too_long : Given → List Entry → Bool
+is_too_long g past = list_any (λ r. nat_lt most_entries (count_of past r)) (numbers g)
+
+-- the past as far as none has
+abbrev pub within_limit : Given → List Entry → List Entry
+within_limit g [] = []
+within_limit g (e ∷ past) = if is_too_long g (e ∷ past) then within_limit g past else e ∷ past
+
+-- ---- lines that meet one
+
+-- The repository whose store a line asks first: this waits for room in the history, in which it would be told that the store failed.
+abbrev pub asks_first : Line → Option ℕ
+asks_first (Have r key bytes) = Some r
+asks_first (SetPart r key bytes) = Some r
+asks_first (Add r path key bytes) = Some r
+asks_first (File path key) = None
+asks_first (Set r kind topic value) = None
+asks_first (Raw r file line) = None
+asks_first (Merge r other) = None
+asks_first (Compact r) = None
+asks_first (Begin r job) = None
+asks_first (Lines.Run r job) = None
+asks_first (Turns r n) = None
+asks_first Settle = None
+asks_first (Close r other) = None
+asks_first (Crash r clock) = None
+asks_first (Wait milliseconds) = None
+asks_first (Fail r call) = None
+asks_first (Par lines) = None
+asks_first Shows = None
+
+abbrev pub is_full : List Entry → Option ℕ → Bool
+is_full past None = false
+is_full past (Some r) = nat_le most_entries (count_of past r)
+
+-- the line asks the store of a repository whose history is full, or would make an entry too many
+abbrev pub meets_limit : Given → Line → Driver → Bool
+meets_limit g line d = is_full d.past (asks_first line) || is_too_long g (does g line d).past
+
+-- the run then: the line's entries up to there, and the marks of the lines before it
+abbrev pub run_to_limit : Given → Line → Driver → Run
+run_to_limit g line d = record (run_with g (does g line d)) { entries = reverse (within_limit g (does g line d).past) }
+
+-- ---- scripts
+
+-- the run of a script, and whether it ended where a line met a full history
+pub record LimitedRun : Type 0 where
+  pub run : Run
+  pub is_cut : Bool
+
+abbrev pub drives_to_limit : Given → List Line → Driver → LimitedRun
+drives_to_limit g [] d = record { run = run_with g d; is_cut = false }
+drives_to_limit g (line ∷ lines) d =
+    if meets_limit g line d then record { run = run_to_limit g line d; is_cut = true } else drives_to_limit g lines (with_mark (does g line d))
+
+abbrev pub limited_run : Given → List Line → LimitedRun
+limited_run g lines = drives_to_limit g lines at_first
+
+-- ---- steps that meet a full history
+
+-- A step leads from the one driver to the other by entries of r, in front of its past.
+pub record AddsOwn (r : ℕ) (d after : Driver) : Type 0 where
+  pub more : List Entry
+  pub adds : after.past ≡ more ++ d.past
+  pub own : Each (λ e. is_of r e ≡ true) more
+
+-- A step of the driver that ends there comes to an entry of r, whose history is full by then: the run has all entries before that
+-- one. No other repository has made more entries than it may, and those that the run has are one.
+pub record StopsAtFull (g : Given) (r : ℕ) (after : Driver) (run : Run) : Type 0 where
+  pub known : r < length g.repos
+  pub past : List Entry
+  pub entries : run.entries ≡ reverse past
+  pub lawful : IsRun run
+  pub full : count_of past r ≡ most_entries
+  pub few : (q : ℕ) → count_of past q ≤ most_entries
+  pub more : List Entry
+  pub next : Entry
+  pub own : is_of r next ≡ true
+  pub goes_on : after.past ≡ more ++ next ∷ past
+
+-- ---- lines that change the tree
+
+-- the line names a path: no other changes the tree
+abbrev pub names_path : Line → Bool
+names_path (Add r path key bytes) = true
+names_path (File path key) = true
+names_path line = false

@@ -1,0 +1,70 @@
+//! What the answers of the nodes are to a line.
+ghost use Rattle.std.specs.Prelude.{◌≡◌, ◌⊎◌, ℕ, Err, Ok, OnOk};
+ghost use Rattle.fleet_run.specs.Telling.{AreFew};
+
+use crate::running::Running;
+use crate::stop::FleetStop;
+use object_store::FailingKeeper;
+use repo_node::{BeginRefused, NodeRefused, Turn};
+
+impl<K: FailingKeeper> Running<K> {
+    /// The history of this repository is full.
+    fn full(&self, repo: u32) -> FleetStop
+        ensures stop { result ≡ FleetStop.Full repo }
+        ensures few { AreFew self.now.nodes }
+    {
+        // For the proof: no history is longer than it may be.
+        self.nodes.histories_are_few();
+        FleetStop::Full { repo }
+    }
+
+    /// What the answer of a node to a step of the script is to its line: a failed store call ends the step, not the line.
+    pub(crate) fn after_step(
+        &self,
+        repo: u32,
+        done: Result<(), NodeRefused>,
+    ) -> Result<(), FleetStop>
+        requires bundle { (at : ℕ) → done ≡ Err (NodeRefused.BadBundle at) → ⊥ }
+        ensures ok { OnOk result ((done ≡ Ok tt) ⊎ (done ≡ Err NodeRefused.StoreFault)) }
+        ensures full { (r : ℕ) → result ≡ Err (FleetStop.Full r) → (r ≡ repo) × (done ≡ Err NodeRefused.Full) }
+        ensures few { (r : ℕ) → result ≡ Err (FleetStop.Full r) → AreFew self.now.nodes }
+    {
+        match done {
+            Ok(()) | Err(NodeRefused::StoreFault) => Ok(()),
+            Err(NodeRefused::Full) => Err(self.full(repo)),
+            Err(NodeRefused::NoMemory) => Err(FleetStop::NoMemory),
+            // What a node gives as its bundle is one.
+            Err(NodeRefused::BadBundle { .. }) => unreachable!(),
+        }
+    }
+
+    /// What the answer of a node to a job is to its line: where four jobs run, nothing is done.
+    pub(crate) fn after_begin(
+        &self,
+        repo: u32,
+        begun: Result<u32, BeginRefused>,
+    ) -> Result<(), FleetStop>
+        ensures ok { OnOk result (((n : ℕ) × (begun ≡ Ok n)) ⊎ (begun ≡ Err BeginRefused.NoSlot)) }
+        ensures full { (r : ℕ) → result ≡ Err (FleetStop.Full r) → (r ≡ repo) × (begun ≡ Err BeginRefused.Full) }
+        ensures few { (r : ℕ) → result ≡ Err (FleetStop.Full r) → AreFew self.now.nodes }
+    {
+        match begun {
+            Ok(_) | Err(BeginRefused::NoSlot) => Ok(()),
+            Err(BeginRefused::Full) => Err(self.full(repo)),
+            Err(BeginRefused::NoMemory) => Err(FleetStop::NoMemory),
+        }
+    }
+
+    /// What a turn of a node is to its line.
+    pub(crate) fn after_turn(&self, repo: u32, turn: Turn) -> Result<(), FleetStop>
+        ensures ok { OnOk result ((turn ≡ Turn.Moved) ⊎ (turn ≡ Turn.Idle)) }
+        ensures full { (r : ℕ) → result ≡ Err (FleetStop.Full r) → (r ≡ repo) × (turn ≡ Turn.Full) }
+        ensures few { (r : ℕ) → result ≡ Err (FleetStop.Full r) → AreFew self.now.nodes }
+    {
+        match turn {
+            Turn::Moved | Turn::Idle => Ok(()),
+            Turn::Full => Err(self.full(repo)),
+            Turn::NoMemory => Err(FleetStop::NoMemory),
+        }
+    }
+}
