@@ -1,5 +1,7 @@
-//! Tests of what the program is made of that need calls: faults in mid-stream.
+//! Tests of what the program is made of that need calls: faults in mid-stream, and runs of scripts.
 #![tactic(auto)]
 
 #[cfg(test)]
 mod faults;
+#[cfg(test)]
+mod runs;
