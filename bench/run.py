@@ -28,8 +28,12 @@ def key(number):
     return "WORM-s3--key%d" % number
 
 
-def with_keys(repos, keys):
-    """Every repository has every key, and the first shows one of them."""
+def short_key(number):
+    return "WORM--%d" % number
+
+
+def with_keys(repos, keys, key=key):
+    """Every repository has every key."""
     lines = declare(repos)
     for k in range(keys):
         lines += ["have %s %s text:abc" % (name(r), key(k)) for r in range(repos)]
@@ -44,16 +48,10 @@ def drops(repos, keys, count):
     return lines
 
 
-def short_key(number):
-    return "WORM--%d" % number
-
-
 def copies(repos, keys):
-    """Every repository has every key and knows so of the others, in the fewest bytes that say so."""
-    lines = declare(repos)
-    for k in range(keys):
-        lines += ["have %s %s text:a" % (name(r), short_key(k)) for r in range(repos)]
-    return lines + ["merge %s %s" % (name(r), name(other)) for r in range(repos) for other in range(repos) if r != other]
+    """Every repository has every key, and knows so of the others."""
+    merges = ["merge %s %s" % (name(r), name(other)) for r in range(repos) for other in range(repos) if r != other]
+    return with_keys(repos, keys, short_key) + merges
 
 
 def asking_drops(repos, jobs):
